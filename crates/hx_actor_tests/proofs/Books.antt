@@ -2,8 +2,7 @@
 use Rattle.std.proofs.Common.{◌≡◌, ◌≤◌, List, [], ◌∷◌, length, refl, sym, subst, arith}
 use Rattle.std.specs.List.{All}
 use Rattle.std.proofs.lemmas.List.Elements.{All-from_recursion}
-use Rattle.hx_types.specs.declared.calls.Op.{Op}
-use Rattle.hx_types.specs.declared.spaces.Space.{Space}
+use Rattle.hx_model.specs.Types.{Op, Space}
 use Rattle.hx_types.specs.Spaces.{AssignFits, Fits, IsSpace}
 use Rattle.hx_law_lemmas.proofs.Lemmas.{small_books_are}
 use Rattle.hx_actor_tests.specs.Books.{books, puts}

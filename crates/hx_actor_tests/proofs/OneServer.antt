@@ -2,15 +2,8 @@
 use Rattle.std.proofs.Common.{◌≡◌, ℕ, ◌≤◌, true, List, [], ◌∷◌, map, refl, sym, subst, arith, ⊎_elim}
 use Rattle.std.specs.Prelude.{◌≢◌}
 use Rattle.std.proofs.lemmas.List.Elements.{All-from_recursion}
-use Rattle.hx_types.specs.declared.spaces.Attribute.{Attribute}
-use Rattle.hx_types.specs.declared.ids.RegionId.{RegionId}
-use Rattle.hx_types.specs.declared.ids.ServerId.{ServerId}
-use Rattle.hx_types.specs.declared.spaces.Space.{Space}
-use Rattle.hx_types.specs.declared.traces.Input.{Input}
-use Rattle.hx_types.specs.declared.messages.Message.{Message}
+use Rattle.hx_model.specs.Types.{Attribute, Coordinator, Halt, Input, Message, RegionId, Server, ServerId, Space, Tick}
 use Rattle.hx_types.specs.declared.messages.Message.TheVariants as a_message
-use Rattle.hx_types.specs.declared.ids.Actor.TheVariants.{Coordinator, Server}
-use Rattle.hx_types.specs.declared.traces.Input.TheVariants.{Tick, Halt}
 use Rattle.hx_types.specs.Posts.{IsSoundMessage, goes_between}
 use Rattle.hx_types.specs.Configs.{first_config}
 use Rattle.hx_types.specs.Spaces.{AssignFits, TermFits, IsKind, IsName, IsSpace, IsSubspaceOf}

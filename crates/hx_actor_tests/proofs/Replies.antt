@@ -1,11 +1,7 @@
 -- The session of the books keeps its number on its own turn, and the reply that its first call is done is sound.
 use Rattle.std.proofs.Common.{◌≡◌, ◌∙◌, Bool, true, false, refl, sym, subst, arith}
-use Rattle.hx_types.specs.declared.ids.Actor.TheVariants.{Server}
-use Rattle.hx_types.specs.declared.ids.SessionId.{SessionId}
-use Rattle.hx_types.specs.declared.spaces.Space.{Space}
-use Rattle.hx_types.specs.declared.traces.Input.TheVariants.{Tick}
+use Rattle.hx_model.specs.Types.{Message, Server, SessionId, Space, Tick}
 use Rattle.hx_types.specs.declared.calls.Answer.TheVariants as an_answer
-use Rattle.hx_types.specs.declared.messages.Message.{Message}
 use Rattle.hx_types.specs.declared.messages.Message.TheVariants as a_message
 use Rattle.hx_model.specs.SessionSteps.{SessionState, session_tick}
 use Rattle.hx_law_lemmas.proofs.Lemmas.{started, SessionTurn, session_turn}

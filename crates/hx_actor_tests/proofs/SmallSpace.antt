@@ -2,7 +2,7 @@
 use Rattle.std.proofs.Common.{◌≡◌, ℕ, true, ◌&&◌, List, [], ◌∷◌, refl, ap, arith}
 use Rattle.std.specs.Prelude.{◌≢◌}
 use Rattle.std.proofs.lemmas.List.Elements.{All-from_recursion}
-use Rattle.hx_types.specs.declared.spaces.Attribute.{Attribute}
+use Rattle.hx_model.specs.Types.{Attribute}
 use Rattle.hx_types.specs.Spaces.{IsKind, IsName, IsSpace, IsSubspaceOf, is_letter}
 use Rattle.hx_actor_tests.specs.SmallSpace.{small}
 

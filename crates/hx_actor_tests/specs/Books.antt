@@ -1,8 +1,6 @@
 -- What the tests are of: a space of books, and a put.
 use Rattle.std.specs.Prelude.{List, [], ◌∷◌, pos}
-use Rattle.hx_types.specs.declared.calls.Op.{Op}
-use Rattle.hx_types.specs.declared.calls.Op.TheVariants.{Put}
-use Rattle.hx_types.specs.declared.spaces.Space.{Space}
+use Rattle.hx_model.specs.Types.{Op, Put, Space}
 use Rattle.hx_types.specs.declared.spaces.Kind.TheVariants as a_kind
 
 -- books with a genre and a year: regions 0 and 1 by the key, 2 to 5 by the genre, 6 and 7 by the year

@@ -1,5 +1,5 @@
 ghost use Rattle.std.specs.Prelude.{◌≡◌, ◌∷◌, [], IfOk};
-ghost use Rattle.hx_types.specs.declared.calls.Op.TheVariants.{Put};
+ghost use Rattle.hx_model.specs.Types.{Put};
 ghost use Rattle.hx_types.specs.declared.messages.Message.TheVariants as a_message;
 ghost use Rattle.hx_replica.specs.Examples.{ask_of, first, from_coordinator, put_of, small};
 ghost use Rattle.hx_replica.specs.Servers.{CanTake};

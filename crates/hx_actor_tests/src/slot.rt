@@ -2,7 +2,7 @@ ghost use Rattle.std.specs.Prelude.{◌≡◌, [], ◌∷◌, ◌<◌, true};
 ghost use Rattle.std.specs.List.{All};
 ghost use Rattle.hx_model.specs.Neighbours.{place_number};
 ghost use Rattle.hx_slot.specs.States.{HasFewPlaces, IsPlacedIn};
-ghost use Rattle.hx_types.specs.declared.updates.Place.{Place as Placed};
+ghost use Rattle.hx_model.specs.Types.{Place as Placed};
 
 use crate::rows::object;
 use crate::spaces::{shared_list, text};

@@ -9,7 +9,7 @@ use Rattle.std.proofs.lemmas.List.{map-append, take_more}
 use Rattle.std.proofs.lemmas.List.Elements.{All-cons, All-head, All-nil, All-tail, All-weaker}
 use Rattle.std.proofs.lemmas.List.Folds.{find-append}
 use Rattle.std.proofs.lemmas.List.Sorted.{IsNonDecreasingBy-push, IsNonDecreasingBy-short, IsPartitionedBy-leb}
-use Rattle.hx_types.specs.declared.histories.Item.{Item}
+use Rattle.hx_model.specs.Types.{Item}
 use Rattle.hx_types.specs.Words.{IsIn}
 use Rattle.hx_model.specs.Searching.{FinishedSearch, IsShown, ItemWithNewer, changes_object}
 use Rattle.hx_report_lines.specs.declared.blocks.Block.{Block}

@@ -1,7 +1,7 @@
 -- The order of callers: by session, and within one by number.
 use Rattle.std.proofs.Common.{◌≡◌, ◌<◌, ◌⊎◌, inl, inr, true, false, ◌&&◌, eqb, ltb, ap, ◌∙◌, arith}
 use Rattle.std.proofs.lemmas.Bool.{and_from, and_parts, eq-eqb, eqb-true, false_from_ne_true, lt-ltb, ltb-true, or_cases, or_left, or_right}
-use Rattle.hx_types.specs.declared.calls.Caller.{Caller}
+use Rattle.hx_model.specs.Types.{Caller}
 use Rattle.hx_report_lines.specs.Values.{caller_below}
 use Rattle.hx_audit.specs.Told.{same_caller}
 

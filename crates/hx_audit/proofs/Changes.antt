@@ -3,9 +3,7 @@ use Rattle.std.proofs.Common.{◌≡◌, ℕ, ◌⊎◌, inl, inr, Bool, false, 
 use Rattle.std.specs.List.{list_any}
 use Rattle.std.proofs.lemmas.Bool.{not-true}
 use Rattle.std.proofs.lemmas.List.{reverse-append}
-use Rattle.hx_types.specs.declared.calls.Row.{Row}
-use Rattle.hx_types.specs.declared.histories.Item.{Item}
-use Rattle.hx_types.specs.declared.values.Value.{Value}
+use Rattle.hx_model.specs.Types.{Item, Row, Value}
 use Rattle.hx_types.specs.Words.{IsIn}
 use Rattle.hx_model.specs.Searching.{FinishedSearch, IsShown, ItemWithNewer, changes_object, items_with_newer}
 use Rattle.hx_report_lines.specs.declared.blocks.Block.{Block}

@@ -2,14 +2,8 @@
 use Rattle.std.proofs.Common.{◌≡◌, ℕ, inl, true, false, List, [], ◌∷◌, map, codes, None, Some, refl}
 use Rattle.std.proofs.lemmas.Bool.{false≢true}
 use Rattle.hx_types.specs.declared.calls.Answer.TheVariants as an_answer
-use Rattle.hx_types.specs.declared.calls.Caller.{Caller}
-use Rattle.hx_types.specs.declared.calls.Op.TheVariants.{Put, Search}
-use Rattle.hx_types.specs.declared.calls.Row.{Row}
+use Rattle.hx_model.specs.Types.{Caller, Equal, Put, Row, Search, Space, Term, Value}
 use Rattle.hx_types.specs.declared.spaces.Kind.TheVariants as a_kind
-use Rattle.hx_types.specs.declared.spaces.Space.{Space}
-use Rattle.hx_types.specs.declared.values.Term.{Term}
-use Rattle.hx_types.specs.declared.values.Term.TheVariants.{Equal}
-use Rattle.hx_types.specs.declared.values.Value.{Value}
 use Rattle.hx_types.specs.declared.values.Value.TheVariants as a_value
 use Rattle.hx_model.specs.Searching.{FinishedSearch}
 use Rattle.hx_report_lines.specs.declared.blocks.Block.{Block}

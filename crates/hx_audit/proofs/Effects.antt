@@ -3,8 +3,7 @@ use Rattle.std.proofs.Common.{◌≡◌, ℕ, zero, suc, ◌<◌, ◌↔◌, Lis
 use Rattle.std.specs.List.{slice_get}
 use Rattle.std.specs.Option.{IfSome, IsNone, IsSomeAnd}
 use Rattle.std.proofs.lemmas.List.{reverse-append}
-use Rattle.hx_types.specs.declared.histories.Item.{Item}
-use Rattle.hx_types.specs.declared.spaces.Space.{Space}
+use Rattle.hx_model.specs.Types.{Item, Space}
 use Rattle.hx_model.specs.Legal.{IsEffect, IsLegal, object_now}
 use Rattle.hx_legal.specs.Faults.{IsFirstFault}
 use Rattle.hx_audit.specs.Walking.{IsFirstNot}

@@ -4,8 +4,7 @@ use Rattle.std.specs.Prelude.{IsSomeAnd, IsTrue, ◌↔◌}
 use Rattle.std.specs.List.{find, slice_get}
 use Rattle.std.specs.Option.{option_map}
 use Rattle.std.proofs.lemmas.Bool.{cond-false, cond-true, false≢true}
-use Rattle.hx_types.specs.declared.calls.Answer.{Answer}
-use Rattle.hx_types.specs.declared.calls.Caller.{Caller}
+use Rattle.hx_model.specs.Types.{Answer, Caller}
 use Rattle.hx_types.specs.Effects.{key_of}
 use Rattle.hx_types.specs.Fitting.{is_refused}
 use Rattle.hx_types.specs.Words.{IsIn, same_text, when_some}

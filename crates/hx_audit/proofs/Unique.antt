@@ -3,7 +3,7 @@ use Rattle.std.proofs.Common.{◌≡◌, ℕ, inl, inr, Bool, true, false, List,
 use Rattle.std.specs.List.{find}
 use Rattle.std.proofs.lemmas.Bool.{cond-false, cond-true}
 use Rattle.hx_types.specs.Words.{IsIn, same_text, text_below, when_some}
-use Rattle.hx_types.specs.declared.calls.Row.{Row}
+use Rattle.hx_model.specs.Types.{Row}
 use Rattle.hx_model.specs.Matching.{matches}
 use Rattle.hx_model.specs.Searching.{FinishedSearch}
 use Rattle.hx_model.proofs.Lemmas.{same_text_self}

@@ -1,10 +1,7 @@
 -- What each clause asks for at the lines of a report: at an item of a history, at a call, and at a row below it.
 use Rattle.std.specs.Prelude.{◌≡◌, ℕ, zero, suc, Bool, true, false, not, ◌&&◌, List, map, reverse, take, slice_get, IfSome, ⊤, Option, None, Some}
 use Rattle.std.specs.List.{list_any}
-use Rattle.hx_types.specs.declared.calls.Answer.{Answer}
-use Rattle.hx_types.specs.declared.calls.Caller.{Caller}
-use Rattle.hx_types.specs.declared.calls.Op.{Op}
-use Rattle.hx_types.specs.declared.calls.Row.{Row}
+use Rattle.hx_model.specs.Types.{Answer, Caller, Op, Row}
 use Rattle.hx_types.specs.Words.{IsIn, same_text, text_below, when_some}
 use Rattle.hx_types.specs.Effects.{key_of}
 use Rattle.hx_types.specs.Fitting.{is_refused}

@@ -1,7 +1,7 @@
 -- Times of calls, and the last of the begins that stand above an item.
 use Rattle.std.specs.Prelude.{ℕ, Bool, false, if◌then◌else◌, nat_lt, Option, None, Some}
 use Rattle.std.specs.Option.{option_map}
-use Rattle.hx_types.specs.declared.calls.Caller.{Caller}
+use Rattle.hx_model.specs.Types.{Caller}
 use Rattle.hx_types.specs.Words.{when_some}
 use Rattle.hx_model.specs.Histories.{CallEnd}
 use Rattle.hx_report_lines.specs.declared.blocks.Block.{Block}

@@ -2,12 +2,8 @@
 use Rattle.std.specs.Prelude.{◌≡◌, ℕ, suc, ◌+◌, ◌<◌, ◌⊎◌, Bool, true, ◌&&◌, ⊤, List, [], ◌∷◌, map, reverse, if◌then◌else◌, Option, None, Some}
 use Rattle.std.specs.List.{list_any}
 use Rattle.std.specs.Option.{option_map}
-use Rattle.hx_types.specs.declared.calls.Caller.{Caller}
-use Rattle.hx_types.specs.declared.calls.Row.{Row}
-use Rattle.hx_types.specs.declared.ids.Version.{Version}
-use Rattle.hx_types.specs.declared.values.Value.{Value}
+use Rattle.hx_model.specs.Types.{Caller, Item, Row, Value, Version}
 use Rattle.hx_model.specs.Matching.{matches}
-use Rattle.hx_types.specs.declared.histories.Item.{Item}
 use Rattle.hx_types.specs.Words.{IsIn, text_below}
 use Rattle.hx_model.specs.Searching.{FinishedSearch, ItemWithNewer, changes_object, items_with_newer}
 use Rattle.hx_report_lines.specs.declared.blocks.Block.{Block}

@@ -2,8 +2,7 @@
 use Rattle.std.proofs.Common.{◌≡◌, ◌-◌, List, [], ◌∷◌, length, Option, Some, None, refl, ap, ◌∙◌, sub-one}
 use Rattle.std.specs.List.{slice_get}
 use Rattle.std.specs.Option.{option_map}
-use Rattle.hx_types.specs.declared.configs.Member.{Member}
-use Rattle.hx_types.specs.declared.ids.ServerId.{ServerId}
+use Rattle.hx_model.specs.Types.{Member, ServerId}
 use Rattle.hx_model.specs.Neighbours.{last_member}
 
 last_of : (found : Option ServerId) (m : Member) (rest : List Member) → option_map (λ (x : Member). x.server) (slice_get (m ∷ rest) (length rest)) ≡ last_member found (m ∷ rest)

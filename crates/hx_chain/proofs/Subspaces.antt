@@ -3,11 +3,7 @@ use Rattle.std.proofs.Common.{◌≡◌, ℕ, ◌+◌, ◌-◌, ◌≤◌, Optio
 use Rattle.std.specs.List.{flat_map}
 use Rattle.std.specs.Option.{option_map}
 use Rattle.std.proofs.lemmas.Grind.{flat_map-append}
-use Rattle.hx_types.specs.declared.updates.Place.{Place}
-use Rattle.hx_types.specs.declared.ids.RegionId.{RegionId}
-use Rattle.hx_types.specs.declared.snapshots.Touch.{Touch}
-use Rattle.hx_types.specs.declared.spaces.Space.{Space}
-use Rattle.hx_types.specs.declared.values.Value.{Value}
+use Rattle.hx_model.specs.Types.{Place, RegionId, Space, Touch, Value}
 use Rattle.hx_types.specs.Words.{below}
 use Rattle.hx_types.proofs.Lemmas.{map_below_next}
 use Rattle.hx_model.specs.Regions.{place_of}

@@ -1,11 +1,7 @@
 -- The places of an update in one subspace, and those told by the region that its object leaves and the one that it comes to.
 use Rattle.std.specs.Prelude.{ℕ, ◌<◌, false, not, List, [], ◌∷◌, map, Option, None, Some}
 use Rattle.std.specs.List.{All}
-use Rattle.hx_types.specs.declared.updates.Place.{Place}
-use Rattle.hx_types.specs.declared.ids.RegionId.{RegionId}
-use Rattle.hx_types.specs.declared.spaces.Space.{Space}
-use Rattle.hx_types.specs.declared.snapshots.Touch.{Touch}
-use Rattle.hx_types.specs.declared.values.Value.{Value}
+use Rattle.hx_model.specs.Types.{Place, RegionId, Space, Touch, Value}
 use Rattle.hx_types.specs.Words.{provided, same_region, when_some}
 use Rattle.hx_model.specs.Places.{placed_after, regions_between, touched_in}
 

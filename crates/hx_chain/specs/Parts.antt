@@ -1,16 +1,8 @@
 -- Parts of a decision, and what the answer of `stuck` says.
 use Rattle.std.specs.Prelude.{if◌then◌else◌, nat_le, List, Option, None, Some}
 use Rattle.std.specs.Option.{option_map}
-use Rattle.hx_types.specs.declared.calls.Answer.{Answer}
-use Rattle.hx_types.specs.declared.calls.Caller.{Caller}
-use Rattle.hx_types.specs.declared.configs.Config.{Config}
-use Rattle.hx_types.specs.declared.ids.RegionId.{RegionId}
-use Rattle.hx_types.specs.declared.ids.Version.{Version}
-use Rattle.hx_types.specs.declared.outcomes.Decision.{Decision}
+use Rattle.hx_model.specs.Types.{Answer, Caller, Config, Decision, RegionId, Space, Update, Value, Version}
 use Rattle.hx_types.specs.declared.outcomes.Decision.TheVariants as a_decision
-use Rattle.hx_types.specs.declared.spaces.Space.{Space}
-use Rattle.hx_types.specs.declared.updates.Update.{Update}
-use Rattle.hx_types.specs.declared.values.Value.{Value}
 use Rattle.hx_model.specs.Leading.{StuckAt, granted, refusal}
 use Rattle.hx_model.specs.Slots.{KeyState}
 

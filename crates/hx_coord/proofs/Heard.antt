@@ -1,13 +1,8 @@
 -- What a message makes is its step.
 use Rattle.std.proofs.Common.{◌≡◌, ℕ, ◌<◌, ◌≤◌, nat_lt, Bool, true, false, cond, not, ◌&&◌, List, [], ◌∷◌, refl, ap, ◌∙◌, arith}
 use Rattle.std.proofs.lemmas.Bool.{cond-true, cond-false}
-use Rattle.hx_types.specs.declared.configs.Config.{Config}
-use Rattle.hx_types.specs.declared.ids.Actor.{Actor}
-use Rattle.hx_types.specs.declared.ids.Epoch.{Epoch}
-use Rattle.hx_types.specs.declared.ids.RegionId.{RegionId}
-use Rattle.hx_types.specs.declared.ids.ServerId.{ServerId}
+use Rattle.hx_model.specs.Types.{Actor, Config, Coordinator, Epoch, RegionId, Server, ServerId}
 use Rattle.hx_types.specs.declared.messages.Message.TheVariants as a_message
-use Rattle.hx_types.specs.declared.ids.Actor.TheVariants.{Coordinator, Server}
 use Rattle.hx_types.specs.Configs.{is_lost, lists_joining}
 use Rattle.hx_types.specs.Words.{post, server_in}
 use Rattle.hx_model.specs.CoordinatorSteps.{Answered, CoordinatorStep, Task, config_ready, config_without, gone_step, poll_step, ready_step, stops_answered, stops_left}

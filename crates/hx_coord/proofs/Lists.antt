@@ -3,7 +3,7 @@ use Rattle.std.proofs.Common.{◌≡◌, ℕ, suc, zero, ◌+◌, ◌<◌, ◌==
 use Rattle.std.specs.List.{list_any, slice_get}
 use Rattle.std.specs.Prelude.{slice_set, IsSomeAnd}
 use Rattle.std.proofs.lemmas.Bool.{cond-true, cond-false}
-use Rattle.hx_types.specs.declared.ids.SessionId.{SessionId}
+use Rattle.hx_model.specs.Types.{SessionId}
 use Rattle.hx_types.specs.Words.{same_session}
 use Rattle.hx_model.specs.CoordinatorSteps.{Answered, Newest, newest_answered, newest_of, with_answer, with_newest}
 use Rattle.hx_coord.specs.Numbers.{IsPlaceOf, is_of_session}

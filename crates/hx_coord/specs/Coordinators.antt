@@ -1,14 +1,7 @@
 -- Which inputs the coordinator can take, and its entry for an input.
 use Rattle.std.specs.Prelude.{ℕ, ◌+◌, ◌≤◌, ◌^◌, List, ◌∷◌, ◌++◌, map, Option, None, Some, ⊤}
 use Rattle.std.specs.List.{All, flat_map}
-use Rattle.hx_types.specs.declared.calls.Answer.{Answer}
-use Rattle.hx_types.specs.declared.ids.Actor.{Actor}
-use Rattle.hx_types.specs.declared.messages.Message.{Message}
-use Rattle.hx_types.specs.declared.spaces.Space.{Space}
-use Rattle.hx_types.specs.declared.traces.Entry.{Entry}
-use Rattle.hx_types.specs.declared.traces.Input.{Input}
-use Rattle.hx_types.specs.declared.ids.Actor.TheVariants.{Coordinator, Session}
-use Rattle.hx_types.specs.declared.traces.Input.TheVariants.{Tick, Halt, Deliver}
+use Rattle.hx_model.specs.Types.{Actor, Answer, Coordinator, Deliver, Entry, Halt, Input, Message, Session, Space, Tick}
 use Rattle.hx_types.specs.Posts.{AnswerUpTo, IsSessionOf, IsSoundPost}
 use Rattle.hx_types.specs.Spaces.{Fits, IsAnswerOf, IsConfigOf}
 use Rattle.hx_types.specs.Words.{below, post}

@@ -1,8 +1,7 @@
 -- Where the newest number of a session stands, and how a call stands to it.
 use Rattle.std.specs.Prelude.{◌≡◌, ℕ, ◌<◌, Bool, false, List, length, take, IsSomeAnd, slice_get}
 use Rattle.std.specs.List.{list_any}
-use Rattle.hx_types.specs.declared.calls.Caller.{Caller}
-use Rattle.hx_types.specs.declared.ids.SessionId.{SessionId}
+use Rattle.hx_model.specs.Types.{Caller, SessionId}
 use Rattle.hx_types.specs.Words.{same_session}
 use Rattle.hx_model.specs.CoordinatorSteps.{CoordinatorState, CoordinatorStep, Newest, again, by_number, newest_of, resting}
 use Rattle.hx_coord.specs.declared.calls.Coming.{Coming}

@@ -1,6 +1,6 @@
 -- Calls that are answered by the issue of a configuration.
 use Rattle.std.specs.Prelude.{List, map}
-use Rattle.hx_types.specs.declared.messages.Post.{Post}
+use Rattle.hx_model.specs.Types.{Post}
 use Rattle.hx_model.specs.CoordinatorSteps.{Answered, outcome}
 
 -- each caller hears its answer

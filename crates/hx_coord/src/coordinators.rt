@@ -1,5 +1,5 @@
 ghost use Rattle.std.specs.Prelude.{◌≡◌, ℕ, ◌+◌, IfOk};
-ghost use Rattle.hx_types.specs.declared.spaces.Space.{Space as SpaceSeen};
+ghost use Rattle.hx_model.specs.Types.{Space as SpaceSeen};
 ghost use Rattle.hx_types.specs.Spaces.{IsSpace};
 ghost use Rattle.hx_model.specs.CoordinatorSteps.{coordinator_at_start, coordinator_step};
 ghost use Rattle.hx_coord.specs.Changes.{IsOutputOf, IsPlanOn};

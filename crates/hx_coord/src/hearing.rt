@@ -1,6 +1,6 @@
 ghost use Rattle.std.specs.Prelude.{◌≡◌, ◌≤◌, ◌^◌, ◌∷◌, [], IfOk};
 ghost use Rattle.hx_types.specs.declared.messages.Message.TheVariants as a_message;
-ghost use Rattle.hx_types.specs.declared.ids.Actor.TheVariants.{Coordinator, Server};
+ghost use Rattle.hx_model.specs.Types.{Coordinator, Server};
 ghost use Rattle.hx_types.specs.Words.{post};
 ghost use Rattle.hx_model.specs.CoordinatorSteps.{coordinator_message, gone_step, poll_step, ready_step};
 ghost use Rattle.hx_coord.specs.Changes.{IsOutputOf, standing, told};

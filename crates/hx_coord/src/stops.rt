@@ -1,5 +1,5 @@
 ghost use Rattle.std.specs.Prelude.{◌≡◌, IfOk};
-ghost use Rattle.hx_types.specs.declared.configs.Config.{Config as ConfigSeen};
+ghost use Rattle.hx_model.specs.Types.{Config as ConfigSeen};
 ghost use Rattle.hx_model.specs.CoordinatorSteps.{stops_answered, stops_left};
 
 use crate::issuing::{Answered, AnsweredList};

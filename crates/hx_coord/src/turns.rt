@@ -1,6 +1,6 @@
 ghost use Rattle.std.specs.Prelude.{◌≡◌, ◌++◌, true, map, IfOk, OnOk};
 ghost use Rattle.std.specs.List.{flat_map};
-ghost use Rattle.hx_types.specs.declared.configs.Member.{Member as Listed};
+ghost use Rattle.hx_model.specs.Types.{Member as Listed};
 ghost use Rattle.hx_types.specs.Configs.{any_ready};
 ghost use Rattle.hx_model.specs.CoordinatorSteps.{Task, coordinator_tick, die_for, join_posts, last_ready_pair};
 ghost use Rattle.hx_coord.specs.Changes.{IsOutputOf, standing};

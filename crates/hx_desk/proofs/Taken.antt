@@ -19,7 +19,7 @@ use Rattle.hx_clock.specs.Parts.{Posted}
 use Rattle.hx_clock.specs.Seats.{Seated}
 use Rattle.hx_clock.specs.Views.{numbered, Has, Knows, Owns}
 use Rattle.hx_clock.proofs.Lemmas.{lt_tells}
-use Rattle.hx_law_threads.specs.Feeding.{latest, IsFedBy}
+use Rattle.hx_law_threads.specs.Feeding.{latest, IsFedBy, IsFed}
 use Rattle.hx_law_threads.proofs.Lemmas.{of_reverse}
 use Rattle.hx_machine.specs.Machines.{CanTake, IsMachine}
 use Rattle.hx_mail.specs.declared.views.Mailed.{Mailed}
@@ -31,7 +31,6 @@ use Rattle.hx_desk.specs.declared.desks.Desk.{Desk}
 use Rattle.hx_desk.specs.Desks.{entries_before, past_of, told, IsDesk, IsSame}
 use Rattle.hx_desk.specs.Givings.{CanBeGiven}
 use Rattle.hx_desk.specs.Inboxes.{ins_of, HasInPort, IsHeardFrom}
-use Rattle.hx_law_threads.specs.Feeding.{IsFed}
 use Rattle.hx_law_threads.specs.Own.{IsOwn}
 use Rattle.std.specs.Prelude.{◌++◌, length, map}
 

@@ -1,8 +1,7 @@
 -- What the merge of all parts is.
 use Rattle.std.proofs.Common.{◌≡◌, List, [], ◌∷◌, map, refl, ap, sym, subst}
 use Rattle.std.specs.Prelude.{reverse}
-use Rattle.hx_types.specs.declared.traces.Entry.{Entry}
-use Rattle.hx_types.specs.declared.traces.Script.{Script}
+use Rattle.hx_model.specs.Types.{Entry, Script}
 use Rattle.hx_model.specs.Runs.{IsRun}
 use Rattle.hx_clock.specs.declared.parts.Stamped.{Stamped}
 use Rattle.hx_law_threads.specs.Merged.{parts_in, AreOwnParts, AreWholeParts, HasOwnParts, HasStampsAsPlaces, IsMerged}

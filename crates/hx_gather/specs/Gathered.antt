@@ -1,7 +1,7 @@
 -- What is gathered: each actor's part with the seat that carries it.
 use Rattle.std.specs.Prelude.{◌≡◌, ℕ, ◌<◌, List, map, Some}
 use Rattle.atomic_table.specs.Seated.{TableId}
-use Rattle.hx_types.specs.declared.traces.Entry.{Entry}
+use Rattle.hx_model.specs.Types.{Entry}
 use Rattle.hx_types.specs.Words.{IsIn}
 use Rattle.hx_clock.specs.declared.parts.Stamped.{Stamped}
 use Rattle.hx_clock.specs.declared.view.View.{View}

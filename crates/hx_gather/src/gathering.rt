@@ -1,6 +1,6 @@
 ghost use Rattle.std.specs.Prelude.{◌≡◌, [], List, map, reverse, IfOk};
 ghost use Rattle.std.specs.List.{AllByRecursion};
-ghost use Rattle.hx_types.specs.declared.traces.Script.{Script};
+ghost use Rattle.hx_model.specs.Types.{Script};
 ghost use Rattle.hx_model.specs.Runs.{IsRun};
 ghost use Rattle.hx_clock.specs.declared.parts.Stamped.{Stamped};
 ghost use Rattle.hx_clock.specs.Views as a_view;

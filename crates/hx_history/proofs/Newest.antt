@@ -6,7 +6,7 @@ use Rattle.hx_model.specs.Histories.{not_refused}
 use Rattle.hx_history.proofs.Lists.{map_filter, filter_reverse}
 use Rattle.std.proofs.lemmas.List.{map-append, reverse-append}
 use Rattle.std.specs.Borrow.{Bor}
-use Rattle.hx_types.specs.declared.updates.Update.{Update}
+use Rattle.hx_model.specs.Types.{Update}
 use Rattle.hx_history.specs.Events.{updates_at}
 
 pub newest_push : (xs : List (Bor Update)) (x : Bor Update) → reverse (updates_at (xs ++ x ∷ [])) ≡ x.now ∷ reverse (updates_at xs)

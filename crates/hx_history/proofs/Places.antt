@@ -10,11 +10,10 @@ use Rattle.std.specs.Borrow.{Bor}
 use Rattle.std.specs.List.{AllWithin, filter}
 use Rattle.std.specs.Option.{option_map}
 use Rattle.std.specs.Prelude.{◌==◌, nat_le, nat_lt, slice_get, unwrap_or}
-use Rattle.hx_types.specs.declared.updates.Update.{Update}
+use Rattle.hx_model.specs.Types.{Update, Value}
 use Rattle.hx_model.specs.Histories.{in_place}
 use Rattle.hx_types.specs.declared.calls.Answer.TheVariants.{NotFound}
 use Rattle.hx_history.specs.declared.events.Read.{Read}
-use Rattle.hx_types.specs.declared.values.Value.{Value}
 use Rattle.hx_history.specs.Events.{ReadEnd, is_in_place, item_on, low_at, placed, read_view, version_at, version_in}
 use Rattle.hx_history.proofs.Lists.{map_filter}
 use Rattle.hx_history.proofs.Rows.{slice_get-set_other, slice_get-set_same}

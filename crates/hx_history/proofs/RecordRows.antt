@@ -2,10 +2,7 @@
 use Rattle.std.proofs.Common.{◌≡◌, ℕ, List, Option, Some, None, refl}
 use Rattle.std.specs.List.{flat_map}
 use Rattle.std.specs.Option.{option_map}
-use Rattle.hx_types.specs.declared.calls.Caller.{Caller}
-use Rattle.hx_types.specs.declared.calls.Op.{Op}
-use Rattle.hx_types.specs.declared.traces.Entry.{Entry}
-use Rattle.hx_types.specs.declared.traces.Script.{Script}
+use Rattle.hx_model.specs.Types.{Caller, Entry, Op, Script}
 use Rattle.hx_types.specs.Words.{list_of}
 use Rattle.hx_types.specs.Fitting.{call_of}
 use Rattle.hx_model.specs.Histories.{begin_of, note_of_end, record_at, record_of, records_of}

@@ -4,8 +4,7 @@ use Rattle.std.proofs.lemmas.List.{take_more}
 use Rattle.std.proofs.lemmas.Option.{slice_get-get_or}
 use Rattle.std.specs.Option.{option_map}
 use Rattle.std.specs.Borrow.{Bor}
-use Rattle.hx_types.specs.declared.traces.Script.{Script}
-use Rattle.hx_types.specs.declared.updates.Update.{Update}
+use Rattle.hx_model.specs.Types.{Script, Update}
 use Rattle.hx_model.specs.Histories.{write_item}
 use Rattle.hx_history.specs.Events.{ReadEnd, placed, told, updates_at, version_in}
 use Rattle.hx_history.proofs.Newest.{newest_push}

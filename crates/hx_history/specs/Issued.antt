@@ -1,9 +1,7 @@
 -- The configurations that a trace says were issued.
 use Rattle.std.specs.Prelude.{List, [], ◌∷◌}
 use Rattle.std.specs.List.{flat_map}
-use Rattle.hx_types.specs.declared.configs.Config.{Config}
-use Rattle.hx_types.specs.declared.traces.Entry.{Entry}
-use Rattle.hx_types.specs.declared.traces.Note.{Note}
+use Rattle.hx_model.specs.Types.{Config, Entry, Note}
 use Rattle.hx_types.specs.declared.traces.Note.TheVariants as a_note
 
 -- the configuration that a note says was issued

@@ -1,9 +1,7 @@
 -- The histories of all keys of a trace that have items; traces and the histories of the model stand newest first.
 use Rattle.std.specs.Prelude.{◌≡◌, ◌≢◌, ℕ, true, List, [], ◌∷◌, map, reverse}
 use Rattle.std.specs.List.{All}
-use Rattle.hx_types.specs.declared.traces.Entry.{Entry}
-use Rattle.hx_types.specs.declared.histories.Item.{Item}
-use Rattle.hx_types.specs.declared.traces.Script.{Script}
+use Rattle.hx_model.specs.Types.{Entry, Item, Script}
 use Rattle.hx_types.specs.Words.{IsIn}
 use Rattle.hx_types.specs.Posts.{keys_ascend}
 use Rattle.hx_model.specs.Histories.{history_of}

@@ -2,12 +2,7 @@
 use Rattle.std.specs.Prelude.{List, Option, None, Some}
 use Rattle.std.specs.List.{flat_map}
 use Rattle.std.specs.Option.{option_map}
-use Rattle.hx_types.specs.declared.calls.Caller.{Caller}
-use Rattle.hx_types.specs.declared.calls.Row.{Row}
-use Rattle.hx_types.specs.declared.histories.Searched.{Searched}
-use Rattle.hx_types.specs.declared.traces.Entry.{Entry}
-use Rattle.hx_types.specs.declared.traces.Script.{Script}
-use Rattle.hx_types.specs.declared.values.Term.{Term}
+use Rattle.hx_model.specs.Types.{Caller, Entry, Row, Script, Searched, Term}
 use Rattle.hx_types.specs.Fitting.{call_of}
 use Rattle.hx_types.specs.Words.{list_of, when_some}
 use Rattle.hx_model.specs.Histories.{CallEnd, callers_of}

@@ -5,7 +5,7 @@ ghost use Rattle.std.specs.Ordering.{nat_cmp};
 ghost use Rattle.std.specs.Option.{option_map_or};
 ghost use Rattle.std.specs.Str.{bytes_eq};
 ghost use Rattle.hx_model.specs.Histories.{history_of};
-ghost use Rattle.hx_types.specs.declared.traces.Entry.{Entry};
+ghost use Rattle.hx_model.specs.Types.{Entry};
 ghost use Rattle.hx_history.specs.Events.{event_view, events_of, history_by, is_at, key_of};
 ghost use Rattle.hx_history.specs.Listed.{AreHistories, history_view, listed_of};
 

@@ -1,7 +1,7 @@
 ghost use Rattle.std.specs.Prelude.{◌≡◌, [], false, map, reverse, IfOk};
 ghost use Rattle.std.specs.List.{flat_map};
 ghost use Rattle.std.specs.Option.{option_map};
-ghost use Rattle.hx_types.specs.declared.calls.Caller.{Caller};
+ghost use Rattle.hx_model.specs.Types.{Caller};
 ghost use Rattle.hx_types.specs.Fitting.{call_of};
 ghost use Rattle.hx_model.specs.Histories.{records_of};
 ghost use Rattle.hx_history.specs.Calls.{notes_of, shape, span_in};

@@ -2,8 +2,7 @@
 use Rattle.std.proofs.Common.{◌≡◌, ℕ, zero, suc, ◌+◌, ◌-◌, ◌<◌, Bool, true, false, cond, List, [], ◌∷◌, length, take, drop, slice_range, get_or, min, Option, refl, ap, sym, ◌∙◌, arith, ltb}
 use Rattle.std.specs.List.{filter}
 use Rattle.std.proofs.lemmas.Bool.{and_parts, cond_both, cond-false, cond-true, ltb-true, false≢true, lt-ltb}
-use Rattle.hx_types.specs.declared.calls.Row.{Row}
-use Rattle.hx_types.specs.declared.values.Term.{Term}
+use Rattle.hx_model.specs.Types.{Row, Term}
 use Rattle.hx_types.specs.Spaces.{attribute_of}
 use Rattle.hx_index.specs.declared.searching.Span.{Span}
 use Rattle.hx_index.specs.Invariant.{IsSpan}

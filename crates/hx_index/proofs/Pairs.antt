@@ -2,7 +2,7 @@
 use Rattle.std.proofs.Common.{◌≡◌, ℕ, zero, suc, ◌<◌, List, [], ◌∷◌, length, slice_get, Option, None, refl, sym, subst, arith}
 use Rattle.std.proofs.lemmas.Bool.{ne_eqb}
 use Rattle.std.proofs.lemmas.List.{length-map}
-use Rattle.hx_types.specs.declared.calls.Row.{Row}
+use Rattle.hx_model.specs.Types.{Row}
 use Rattle.hx_types.specs.Words.{when_some}
 use Rattle.hx_index.specs.Orders.{IndexState, IsIndexOf, IsOrder, IsWithout, no_rows, rows_at, rows_with, rows_without, without}
 use Rattle.hx_index.proofs.Standing.{with-other}

@@ -8,7 +8,7 @@ use Rattle.std.specs.declared.cmp.Ordering.{Ordering}
 use Rattle.std.specs.declared.cmp.Ordering.TheVariants.{Less}
 use Rattle.std.proofs.lemmas.Bool.{cond_both, cond-false, cond-true, eq-eqb, eqb-true, false_from_ne_true, false≢true, or_left, or_right}
 use Rattle.std.proofs.lemmas.List.Kept.{IsStrictlySortedBy-filter}
-use Rattle.hx_types.specs.declared.calls.Row.{Row}
+use Rattle.hx_model.specs.Types.{Row}
 use Rattle.hx_index.specs.Invariant.{IsSplit, stands_before}
 use Rattle.hx_index.specs.Orders.{IsOrder, compare_at, compare_rows, rows_without, stands_in, without}
 use Rattle.hx_index.proofs.Inserting.{found-at, insert-sorted, insert-without, remove-without, split-within, stands-insert, stands-without}

@@ -4,7 +4,7 @@ use Rattle.std.specs.List.{repeat}
 use Rattle.std.specs.List.Sorted.{IsStrictlySortedBy}
 use Rattle.std.proofs.lemmas.Option.{same_Some, slice_get_within}
 use Rattle.hx_types.specs.Words.{when_some}
-use Rattle.hx_types.specs.declared.calls.Row.{Row}
+use Rattle.hx_model.specs.Types.{Row}
 use Rattle.hx_index.specs.Invariant.{AreOrders, EachMoves, HasOrders, HaveRoom, IsAdded, IsRemoved, IsReplaced, IsWidened, items_of}
 use Rattle.hx_index.specs.Orders.{IndexState, IsIndexOf, IsOrder, no_rows, order_of, rows_without, without}
 

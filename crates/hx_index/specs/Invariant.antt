@@ -3,8 +3,7 @@ use Rattle.std.specs.Prelude.{◌≡◌, ℕ, zero, suc, ◌<◌, ◌≤◌, ◌
 use Rattle.std.specs.List.{filter}
 use Rattle.std.specs.Ordering.{is_lt}
 use Rattle.hx_types.specs.Words.{when_some}
-use Rattle.hx_types.specs.declared.calls.Row.{Row}
-use Rattle.hx_types.specs.declared.values.Term.{Term}
+use Rattle.hx_model.specs.Types.{Row, Term}
 use Rattle.hx_index.specs.declared.looking.Side.{Side}
 use Rattle.hx_index.specs.declared.looking.Side.TheVariants.{Below, Meets, Above}
 use Rattle.hx_index.specs.Sides.{matches_at}

@@ -1,6 +1,6 @@
 -- How looks at rows are counted.
 use Rattle.std.specs.Prelude.{ℕ, zero, suc, ◌+◌, ◌/◌, ◌<◌, ◌≤◌, ◌==◌, List, if◌then◌else◌, Option}
-use Rattle.hx_types.specs.declared.calls.Row.{Row}
+use Rattle.hx_model.specs.Types.{Row}
 
 -- one look more; the count stays at the greatest `u64`
 abbrev pub raised : ℕ → ℕ

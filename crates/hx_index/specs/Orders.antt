@@ -7,8 +7,7 @@ use Rattle.std.specs.Option.{option_cmp}
 use Rattle.std.specs.Ordering.{int_cmp, nat_cmp, then_cmp, on}
 use Rattle.std.specs.declared.cmp.Ordering.{Ordering}
 use Rattle.std.specs.declared.cmp.Ordering.TheVariants.{Less, Greater}
-use Rattle.hx_types.specs.declared.calls.Row.{Row}
-use Rattle.hx_types.specs.declared.values.Value.{Value}
+use Rattle.hx_model.specs.Types.{Row, Value}
 use Rattle.hx_types.specs.declared.values.Value.TheVariants as a_value
 use Rattle.hx_types.specs.Effects.{value_at}
 use Rattle.hx_types.specs.Words.{when_some}

@@ -1,7 +1,6 @@
 -- The run of a term: the part of the order of its attribute whose rows meet it.
 use Rattle.std.specs.Prelude.{◌≡◌, ℕ, ◌<◌, ◌≤◌, ◌&&◌, List, length, nat_lt, nat_le, slice_index_or, Option}
-use Rattle.hx_types.specs.declared.calls.Row.{Row}
-use Rattle.hx_types.specs.declared.values.Term.{Term}
+use Rattle.hx_model.specs.Types.{Row, Term}
 use Rattle.hx_index.specs.Sides.{meets_at}
 
 -- the rows from the first place to the end meet the term, and no others

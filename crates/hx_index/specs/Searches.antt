@@ -1,8 +1,7 @@
 -- What a search finds by an index, and how many looks it takes at most.
 use Rattle.std.specs.Prelude.{ℕ, ◌+◌, ◌*◌, Bool, ◌&&◌, List, [], ◌∷◌, length, nat_lt, if◌then◌else◌, min, Option}
 use Rattle.std.specs.List.{filter}
-use Rattle.hx_types.specs.declared.calls.Row.{Row}
-use Rattle.hx_types.specs.declared.values.Term.{Term}
+use Rattle.hx_model.specs.Types.{Row, Term}
 use Rattle.hx_types.specs.Spaces.{attribute_of}
 use Rattle.hx_index.specs.Looks.{digits_of}
 use Rattle.hx_index.specs.Orders.{IndexState, count_of, order_of}

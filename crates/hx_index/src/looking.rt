@@ -1,6 +1,6 @@
 ghost use Rattle.std.specs.Prelude.{◌≡◌, ◌<◌, ℕ, IsSome, Option};
 ghost use Rattle.hx_types.specs.Spaces.{attribute_of};
-ghost use Rattle.hx_types.specs.declared.calls.Row.{Row};
+ghost use Rattle.hx_model.specs.Types.{Row};
 ghost use Rattle.hx_index.specs.Looks.{raised};
 ghost use Rattle.hx_index.specs.Sides.{matches_at, side_at};
 

@@ -1,7 +1,7 @@
 ghost use Rattle.std.specs.Prelude.{◌≡◌, ◌<◌, ◌≤◌, ◌+◌, ◌^◌, [], ◌∷◌, IfOk, IsSome, IsSomeAnd, IsTrue, OnOk, Some, insert, vec_capacity, vec_len};
 ghost use Rattle.std.specs.List.{repeat};
 ghost use Rattle.std.specs.List.Sorted.{IsStrictlySortedBy};
-ghost use Rattle.hx_types.specs.declared.calls.Row.{Row};
+ghost use Rattle.hx_model.specs.Types.{Row};
 ghost use Rattle.hx_index.specs.Invariant.{AreOrders, EachMoves, HaveRoom, HaveRoomFor, IsAdded, IsRemoved, IsReplaced, IsSplit, IsWidened, items_of, stands_before};
 ghost use Rattle.hx_index.specs.Orders.{IsOrder, compare_at, key_of, rows_at, rows_with, rows_without, without};
 

@@ -1,7 +1,7 @@
 ghost use Rattle.std.specs.Prelude.{◌≡◌, IsSomeAnd, IsTrue, Some};
 ghost use Rattle.std.specs.Option.{option_cmp};
 ghost use Rattle.std.specs.declared.cmp.Ordering.TheVariants.{Equal};
-ghost use Rattle.hx_types.specs.declared.calls.Row.{Row};
+ghost use Rattle.hx_model.specs.Types.{Row};
 ghost use Rattle.hx_index.specs.Orders.{compare_rows, key_of, rows_at};
 
 use crate::comparing::{compare_found, row_at};

@@ -1,9 +1,6 @@
 -- Of a run, the definitions by an account say what the model's do.
 use Rattle.std.proofs.Common.{◌≡◌, ℕ, ◌&&◌, ◌↔◌, List, [], ◌∷◌, cond, Option, None, Some, refl, sym, ap, subst}
-use Rattle.hx_types.specs.declared.calls.Row.{Row}
-use Rattle.hx_types.specs.declared.histories.Item.{Item}
-use Rattle.hx_types.specs.declared.traces.Entry.{Entry}
-use Rattle.hx_types.specs.declared.traces.Script.{Script}
+use Rattle.hx_model.specs.Types.{Entry, Item, Row, Script}
 use Rattle.hx_model.specs.Histories.{history_of}
 use Rattle.hx_model.specs.Linear.{IsLinear, began_before}
 use Rattle.hx_model.specs.Searching.{FinishedSearch, IsChangeShown, IsSearchTrue, IsSearchWhole, IsTrueRow, ItemWithNewer, changes_object, last_change}

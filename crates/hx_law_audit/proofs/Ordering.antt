@@ -3,9 +3,7 @@ use Rattle.std.proofs.Common.{◌≡◌, ℕ, ◌<◌, ◌≤◌, true, false, L
 use Rattle.std.specs.List.{find}
 use Rattle.std.specs.Option.{option_map}
 use Rattle.std.proofs.lemmas.Bool.{lt-ltb}
-use Rattle.hx_types.specs.declared.calls.Answer.{Answer}
-use Rattle.hx_types.specs.declared.calls.Caller.{Caller}
-use Rattle.hx_types.specs.declared.histories.Item.{Item}
+use Rattle.hx_model.specs.Types.{Answer, Caller, Item}
 use Rattle.hx_types.specs.Words.{IsIn, same_text, when_some}
 use Rattle.hx_model.specs.Histories.{CallEnd}
 use Rattle.hx_model.specs.Linear.{EachOnce}

@@ -5,12 +5,7 @@ use Rattle.std.specs.List.{find}
 use Rattle.std.specs.Option.{option_map}
 use Rattle.std.proofs.lemmas.Bool.{false≢true}
 use Rattle.std.proofs.lemmas.List.{reverse-reverse}
-use Rattle.hx_types.specs.declared.calls.Caller.{Caller}
-use Rattle.hx_types.specs.declared.calls.Op.{Op}
-use Rattle.hx_types.specs.declared.calls.Op.TheVariants.{Search}
-use Rattle.hx_types.specs.declared.histories.Item.{Item}
-use Rattle.hx_types.specs.declared.traces.Entry.{Entry}
-use Rattle.hx_types.specs.declared.traces.Script.{Script}
+use Rattle.hx_model.specs.Types.{Caller, Entry, Item, Op, Script, Search}
 use Rattle.hx_types.specs.Fitting.{TraceFits, call_of}
 use Rattle.hx_types.specs.Words.{IsIn, same_text, when_some}
 use Rattle.hx_model.specs.Histories.{CallEnd, begin_of, end_of, history_of, note_of_end, record_at}

@@ -6,13 +6,7 @@ use Rattle.std.specs.Option.{option_map}
 use Rattle.std.proofs.lemmas.Bool.{and_from, eq-eqb, lt-ltb, or_left, or_right}
 use Rattle.std.proofs.lemmas.List.{append-nil, append_assoc}
 use Rattle.std.proofs.lemmas.List.Sums.{sum_by-cons}
-use Rattle.hx_types.specs.declared.calls.Answer.{Answer}
-use Rattle.hx_types.specs.declared.calls.Caller.{Caller}
-use Rattle.hx_types.specs.declared.calls.Op.{Op}
-use Rattle.hx_types.specs.declared.calls.Op.TheVariants.{Search}
-use Rattle.hx_types.specs.declared.ids.Version.{Version}
-use Rattle.hx_types.specs.declared.traces.Entry.{Entry}
-use Rattle.hx_types.specs.declared.traces.Script.{Script}
+use Rattle.hx_model.specs.Types.{Answer, Caller, Entry, Op, Script, Search, Version}
 use Rattle.hx_types.specs.Fitting.{IsScript, calls_of, is_doubt, numbered}
 use Rattle.hx_types.specs.Spaces.{Fits}
 use Rattle.hx_types.specs.Words.{IsIn, below, list_of, when_some}

@@ -1,13 +1,6 @@
 -- The report of a run is consistent.
 use Rattle.std.proofs.Common.{◌≡◌, ℕ, List, [], map, Option, None, Some, sym, ap, ◌∙◌, subst}
-use Rattle.hx_types.specs.declared.calls.Caller.{Caller}
-use Rattle.hx_types.specs.declared.calls.Op.{Op}
-use Rattle.hx_types.specs.declared.calls.Op.TheVariants.{Search}
-use Rattle.hx_types.specs.declared.histories.Item.{Item}
-use Rattle.hx_types.specs.declared.spaces.Space.{Space}
-use Rattle.hx_types.specs.declared.traces.Entry.{Entry}
-use Rattle.hx_types.specs.declared.traces.Script.{Script}
-use Rattle.hx_types.specs.declared.values.Term.{Term}
+use Rattle.hx_model.specs.Types.{Caller, Entry, Item, Op, Script, Search, Space, Term}
 use Rattle.hx_types.specs.Fitting.{IsScript, TraceFits}
 use Rattle.hx_types.specs.Words.{IsIn, when_some}
 use Rattle.hx_model.specs.Histories.{CallEnd, begin_of, end_of, history_of, record_at}

@@ -5,20 +5,9 @@ use Rattle.std.specs.Int.{w64}
 use Rattle.std.specs.List.{All, list_all, slice_get, slice_set}
 use Rattle.std.proofs.lemmas.Bool.{and_from, and_parts, cond_both, ltb-true}
 use Rattle.std.proofs.lemmas.Str.{IsUtf8-append, IsUtf8-nil}
-use Rattle.hx_types.specs.declared.calls.Answer.{Answer}
-use Rattle.hx_types.specs.declared.calls.Op.{Op}
-use Rattle.hx_types.specs.declared.histories.Item.{Item}
+use Rattle.hx_model.specs.Types.{Answer, Assign, Atomic, Attribute, Cput, Del, Edit, EditKind, Effect, Get, Item, Kind, Op, Put, Space, Value}
 use Rattle.hx_types.specs.declared.limits.TheConstants.{LONGEST_TEXT}
-use Rattle.hx_types.specs.declared.outcomes.Effect.{Effect}
-use Rattle.hx_types.specs.declared.spaces.Attribute.{Attribute}
-use Rattle.hx_types.specs.declared.spaces.Kind.{Kind}
-use Rattle.hx_types.specs.declared.spaces.Space.{Space}
-use Rattle.hx_types.specs.declared.values.Assign.{Assign}
-use Rattle.hx_types.specs.declared.values.Edit.{Edit}
-use Rattle.hx_types.specs.declared.values.EditKind.{EditKind}
-use Rattle.hx_types.specs.declared.values.Value.{Value}
 use Rattle.hx_types.specs.declared.calls.Answer.TheVariants as an_answer
-use Rattle.hx_types.specs.declared.calls.Op.TheVariants.{Put, Get, Del, Cput, Atomic}
 use Rattle.hx_types.specs.declared.spaces.Kind.TheVariants as a_kind
 use Rattle.hx_types.specs.declared.values.EditKind.TheVariants as an_edit
 use Rattle.hx_types.specs.declared.values.Value.TheVariants as a_value

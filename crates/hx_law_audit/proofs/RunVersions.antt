@@ -1,18 +1,7 @@
 -- Versions in the histories of a run are at most the number of entries plus 1.
 use Rattle.std.proofs.Common.{◌≡◌, ℕ, ◌+◌, ◌-◌, ◌≤◌, ◌⊎◌, inl, inr, Bool, true, false, not, ◌&&◌, List, [], ◌∷◌, ◌++◌, reverse, length, Option, Some, None, refl, sym, ap, ◌∙◌, subst, arith}
 use Rattle.std.proofs.lemmas.Bool.{cond_both}
-use Rattle.hx_types.specs.declared.calls.Answer.{Answer}
-use Rattle.hx_types.specs.declared.calls.Caller.{Caller}
-use Rattle.hx_types.specs.declared.calls.Op.{Op}
-use Rattle.hx_types.specs.declared.histories.Item.{Item}
-use Rattle.hx_types.specs.declared.ids.Actor.{Actor}
-use Rattle.hx_types.specs.declared.ids.Version.{Version}
-use Rattle.hx_types.specs.declared.traces.Entry.{Entry}
-use Rattle.hx_types.specs.declared.traces.Note.{Note}
-use Rattle.hx_types.specs.declared.traces.Script.{Script}
-use Rattle.hx_types.specs.declared.updates.Update.{Update}
-use Rattle.hx_types.specs.declared.values.Value.{Value}
-use Rattle.hx_types.specs.declared.ids.Actor.TheVariants.{Coordinator, Server, Session}
+use Rattle.hx_model.specs.Types.{Actor, Answer, Caller, Coordinator, Entry, Item, Note, Op, Script, Server, Session, Update, Value, Version}
 use Rattle.hx_types.specs.declared.traces.Note.TheVariants as a_note
 use Rattle.hx_types.specs.Fitting.{IsScript, call_of, is_refused}
 use Rattle.hx_types.specs.Words.{IsIn, provided, same_text}

@@ -1,9 +1,7 @@
 -- What a verdict says of a report.
 use Rattle.std.specs.Prelude.{◌≡◌, ℕ, ◌≤◌, ◌↔◌, List, Some}
 use Rattle.std.specs.Option.{option_map}
-use Rattle.hx_types.specs.declared.histories.Item.{Item}
-use Rattle.hx_types.specs.declared.traces.Entry.{Entry}
-use Rattle.hx_types.specs.declared.traces.Script.{Script}
+use Rattle.hx_model.specs.Types.{Entry, Item, Script}
 use Rattle.hx_types.specs.Fitting.{call_of}
 use Rattle.hx_types.specs.Words.{IsIn}
 use Rattle.hx_model.specs.Histories.{CallEnd, begin_of, end_of, history_of}

@@ -1,19 +1,8 @@
 -- What a history and a search of a run say of a call that ended in it: the call stands in its key's history with its answer, and its rows are those of the finished search.
 use Rattle.std.proofs.Common.{◌≡◌, ℕ, ◌+◌, inl, inr, false, if◌then◌else◌, eqb, List, [], ◌∷◌, ◌++◌, length, Option, Some, None, refl, sym, ap, ◌∙◌, subst, arith}
 use Rattle.std.proofs.lemmas.Bool.{cond_both, cond-false, cond-true, eq-eqb, false≢true}
-use Rattle.hx_types.specs.declared.calls.Answer.{Answer}
-use Rattle.hx_types.specs.declared.calls.Caller.{Caller}
-use Rattle.hx_types.specs.declared.calls.Op.{Op}
-use Rattle.hx_types.specs.declared.calls.Row.{Row}
-use Rattle.hx_types.specs.declared.histories.Item.{Item}
-use Rattle.hx_types.specs.declared.ids.Version.{Version}
-use Rattle.hx_types.specs.declared.traces.Entry.{Entry}
-use Rattle.hx_types.specs.declared.traces.Note.{Note}
-use Rattle.hx_types.specs.declared.traces.Script.{Script}
-use Rattle.hx_types.specs.declared.values.Term.{Term}
+use Rattle.hx_model.specs.Types.{Answer, Caller, Entry, Item, Note, Op, Row, Script, Search, Session, Term, Version}
 use Rattle.hx_types.specs.declared.calls.Answer.TheVariants as an_answer
-use Rattle.hx_types.specs.declared.calls.Op.TheVariants.{Search}
-use Rattle.hx_types.specs.declared.ids.Actor.TheVariants.{Session}
 use Rattle.hx_types.specs.declared.traces.Note.TheVariants as a_note
 use Rattle.hx_types.specs.Words.{IsIn, first_some, when_some}
 use Rattle.hx_types.specs.Effects.{effect_of, key_of}

@@ -3,25 +3,10 @@ use Rattle.hx_model.specs.Lines.{upto}
 use Rattle.std.proofs.Common.{◌≡◌, ℕ, ◌+◌, ◌-◌, ◌≢◌, ◌⊎◌, inl, inr, true, false, List, ◌∷◌, ◌++◌, length, Option, Some, None, refl, sym, ap, ◌∙◌, subst, arith}
 use Rattle.std.specs.Prelude.{⊤}
 use Rattle.std.proofs.lemmas.Bool.{cases_Bool, cond_both, false≢true}
-use Rattle.hx_types.specs.declared.calls.Answer.{Answer}
-use Rattle.hx_types.specs.declared.calls.Caller.{Caller}
-use Rattle.hx_types.specs.declared.calls.Op.{Op}
-use Rattle.hx_types.specs.declared.configs.Config.{Config}
-use Rattle.hx_types.specs.declared.ids.Actor.{Actor}
-use Rattle.hx_types.specs.declared.ids.Epoch.{Epoch}
-use Rattle.hx_types.specs.declared.ids.RegionId.{RegionId}
-use Rattle.hx_types.specs.declared.ids.Version.{Version}
-use Rattle.hx_types.specs.declared.outcomes.Effect.{Effect}
-use Rattle.hx_types.specs.declared.spaces.Space.{Space}
-use Rattle.hx_types.specs.declared.traces.Entry.{Entry}
-use Rattle.hx_types.specs.declared.traces.Note.{Note}
-use Rattle.hx_types.specs.declared.traces.Script.{Script}
-use Rattle.hx_types.specs.declared.updates.Update.{Update}
-use Rattle.hx_types.specs.declared.values.Value.{Value}
+use Rattle.hx_model.specs.Types.{Actor, Answer, Atomic, Caller, Config, Cput, Del, Effect, Entry, Epoch, Get, Note, Op, Put, RegionId, Script, Search, Session}
+use Rattle.hx_model.specs.Types.{Space, Update, Value, Version}
 use Rattle.hx_types.specs.declared.calls.Answer.TheVariants as an_answer
-use Rattle.hx_types.specs.declared.calls.Op.TheVariants.{Put, Get, Del, Cput, Search, Atomic}
 use Rattle.hx_types.specs.declared.messages.Message.TheVariants as a_message
-use Rattle.hx_types.specs.declared.ids.Actor.TheVariants.{Session}
 use Rattle.hx_types.specs.declared.traces.Note.TheVariants as a_note
 use Rattle.hx_types.specs.Words.{IsIn, post}
 use Rattle.hx_types.specs.Configs.{is_lost}

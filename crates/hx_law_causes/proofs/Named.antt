@@ -1,26 +1,13 @@
 -- In every run the region for which a call is refused or in doubt is one of the space: the key's, that of a place of the write, one that the search's plan names, or one that a sound reply carries.
 use Rattle.std.proofs.Common.{◌≡◌, ℕ, ◌+◌, ◌-◌, inl, inr, List, [], ◌∷◌, ◌++◌, length, map, Bool, Option, Some, sym, subst, arith}
 use Rattle.std.specs.Prelude.{⊤}
-use Rattle.hx_types.specs.declared.calls.Caller.{Caller}
-use Rattle.hx_types.specs.declared.calls.Op.{Op}
-use Rattle.hx_types.specs.declared.configs.Config.{Config}
-use Rattle.hx_types.specs.declared.ids.Epoch.{Epoch}
-use Rattle.hx_types.specs.declared.ids.RegionId.{RegionId}
-use Rattle.hx_types.specs.declared.ids.Version.{Version}
-use Rattle.hx_types.specs.declared.messages.Post.{Post}
-use Rattle.hx_types.specs.declared.snapshots.Touch.{Touch}
-use Rattle.hx_types.specs.declared.traces.Entry.{Entry}
-use Rattle.hx_types.specs.declared.traces.Script.{Script}
-use Rattle.hx_types.specs.declared.updates.Place.{Place}
-use Rattle.hx_types.specs.declared.updates.Update.{Update}
-use Rattle.hx_types.specs.declared.values.Value.{Value}
-use Rattle.hx_types.specs.declared.calls.Op.TheVariants.{Put, Get, Del, Cput, Search, Atomic}
+use Rattle.hx_model.specs.Types.{Atomic, Caller, Config, Cput, Del, Entry, Epoch, Get, Op, Place, Post, Put, RegionId, Script, Search, Space, Touch, Update}
+use Rattle.hx_model.specs.Types.{Value, Version}
 use Rattle.hx_types.specs.Words.{IsIn, below}
 use Rattle.hx_types.specs.Effects.{effect_of}
 use Rattle.hx_types.specs.Fitting.{IsScript}
 use Rattle.hx_types.specs.Posts.{IsSoundPost}
 use Rattle.hx_types.specs.Spaces.{IsRegionOf, IsSpace}
-use Rattle.hx_types.specs.declared.spaces.Space.{Space}
 use Rattle.hx_model.specs.Causes.{AnsweredCall, IsDoubted, IsRefusedFor, IsRefusedWrite, refused_place}
 use Rattle.hx_model.specs.Histories.{line_of}
 use Rattle.hx_model.specs.Lines.{line_object, upto}

@@ -1,27 +1,15 @@
 -- Where no configuration of a run has lost a region of the space, no call is refused or in doubt.
 use Rattle.std.proofs.Common.{◌≡◌, ℕ, ◌+◌, inl, inr, false, List, [], ◌∷◌, ◌++◌, length, IsSome, Option, Some, None, refl, sym, ap, ◌∙◌, subst}
 use Rattle.std.proofs.lemmas.Bool.{false≢true}
-use Rattle.hx_types.specs.declared.calls.Answer.{Answer}
-use Rattle.hx_types.specs.declared.calls.Caller.{Caller}
-use Rattle.hx_types.specs.declared.calls.Op.{Op}
-use Rattle.hx_types.specs.declared.configs.Config.{Config}
-use Rattle.hx_types.specs.declared.ids.Epoch.{Epoch}
-use Rattle.hx_types.specs.declared.ids.RegionId.{RegionId}
-use Rattle.hx_types.specs.declared.ids.Version.{Version}
-use Rattle.hx_types.specs.declared.traces.Entry.{Entry}
-use Rattle.hx_types.specs.declared.traces.Note.{Note}
-use Rattle.hx_types.specs.declared.traces.Script.{Script}
+use Rattle.hx_model.specs.Types.{Answer, Caller, Config, Entry, Epoch, Note, Op, RegionId, Script, Search, Session, Version}
 use Rattle.hx_types.specs.declared.calls.Answer.TheVariants as an_answer
-use Rattle.hx_types.specs.declared.calls.Op.TheVariants.{Search}
-use Rattle.hx_types.specs.declared.ids.Actor.TheVariants.{Session}
 use Rattle.hx_types.specs.declared.traces.Note.TheVariants as a_note
 use Rattle.hx_types.specs.Spaces.{IsRegionOf}
 use Rattle.hx_types.specs.Words.{IsIn}
 use Rattle.hx_types.specs.Fitting.{IsScript, call_of, is_doubt, is_refused, numbered}
 use Rattle.hx_model.specs.Causes.{AnsweredCall, HasCause, HasCauses, IsLostIn, config_of}
 use Rattle.hx_model.specs.Histories.{begin_of}
-use Rattle.hx_model.specs.Runs.{IsRun}
-use Rattle.hx_model.specs.Runs.{session_of}
+use Rattle.hx_model.specs.Runs.{IsRun, session_of}
 use Rattle.hx_law_lemmas.proofs.Lemmas.{BeganAt, begin_is, ends_now, may_start}
 use Rattle.hx_law_chains.proofs.Lemmas.{named}
 use Rattle.hx_law_epochs.proofs.Lemmas.{IsKnown, epochs-run, known-still}

@@ -3,16 +3,8 @@ use Rattle.std.proofs.Common.{◌≡◌, ℕ, zero, suc, ◌==◌, ◌<◌, Bool
 use Rattle.std.specs.List.{All, list_all, slice_get}
 use Rattle.std.proofs.lemmas.Bool.{and_parts}
 use Rattle.std.proofs.lemmas.List.Elements.{All-from_recursion}
-use Rattle.hx_types.specs.declared.calls.Op.{Op}
-use Rattle.hx_types.specs.declared.configs.Config.{Config}
-use Rattle.hx_types.specs.declared.configs.Member.{Member}
-use Rattle.hx_types.specs.declared.histories.Record.{Record}
-use Rattle.hx_types.specs.declared.ids.Epoch.{Epoch}
-use Rattle.hx_types.specs.declared.traces.Entry.{Entry}
-use Rattle.hx_types.specs.declared.traces.Script.{Script}
+use Rattle.hx_model.specs.Types.{Config, Entry, Epoch, Get, Member, Op, Put, Record, Script, Server, Session}
 use Rattle.hx_types.specs.declared.calls.Answer.TheVariants as an_answer
-use Rattle.hx_types.specs.declared.calls.Op.TheVariants.{Put, Get}
-use Rattle.hx_types.specs.declared.ids.Actor.TheVariants.{Server, Session}
 use Rattle.hx_types.specs.declared.traces.Step.TheVariants as a_step
 use Rattle.hx_types.specs.declared.values.Value.TheVariants as a_value
 use Rattle.hx_types.specs.Configs.{any_ready, first_config, is_lost}

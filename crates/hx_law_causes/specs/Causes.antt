@@ -1,16 +1,7 @@
 -- The laws on causes, for every run of every valid script.
-use Rattle.std.specs.Prelude.{◌≡◌, false, List}
-use Rattle.hx_types.specs.declared.calls.Caller.{Caller}
-use Rattle.hx_types.specs.declared.calls.Answer.{Answer}
-use Rattle.hx_types.specs.declared.configs.Config.{Config}
-use Rattle.hx_types.specs.declared.ids.Actor.TheVariants.{Session}
-use Rattle.hx_types.specs.declared.ids.Epoch.{Epoch}
-use Rattle.hx_types.specs.declared.ids.RegionId.{RegionId}
-use Rattle.hx_types.specs.declared.ids.Version.{Version}
-use Rattle.hx_types.specs.declared.traces.Entry.{Entry}
+use Rattle.std.specs.Prelude.{◌≡◌, false, List, Some}
+use Rattle.hx_model.specs.Types.{Answer, Caller, Config, Entry, Epoch, RegionId, Script, Session, Version}
 use Rattle.hx_types.specs.declared.traces.Note.TheVariants as a_note
-use Rattle.hx_types.specs.declared.traces.Script.{Script}
-use Rattle.std.specs.Prelude.{Some}
 use Rattle.hx_types.specs.Configs.{is_lost}
 use Rattle.hx_types.specs.Fitting.{IsScript, is_doubt, is_refused}
 use Rattle.hx_types.specs.Spaces.{IsRegionOf}

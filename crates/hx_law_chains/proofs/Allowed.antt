@@ -1,10 +1,6 @@
 -- The rows Update and Ack at an installed replica: what it makes of an update from its predecessor, and of an acknowledgement from its successor, by its server's own configuration, is allowed.
 use Rattle.std.proofs.Common.{◌≡◌, ℕ, inl, inr, true, List, sym, ap, ◌∙◌, subst, arith}
-use Rattle.hx_types.specs.declared.ids.RegionId.{RegionId}
-use Rattle.hx_types.specs.declared.ids.ServerId.{ServerId}
-use Rattle.hx_types.specs.declared.outcomes.Hop.TheVariants.{At}
-use Rattle.hx_types.specs.declared.traces.Script.{Script}
-use Rattle.hx_types.specs.declared.updates.Update.{Update}
+use Rattle.hx_model.specs.Types.{At, RegionId, Script, ServerId, Update}
 use Rattle.hx_types.specs.Words.{IsBefore, IsIn}
 use Rattle.hx_types.specs.Configs.{members_of}
 use Rattle.hx_types.specs.Spaces.{IsSpace}

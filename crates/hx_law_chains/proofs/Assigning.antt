@@ -1,9 +1,7 @@
 -- A leader assigns the next update: the line is cut after its top, nothing that is held, may be heard or was acknowledged is above that, and what its slot makes of the update is allowed.
 use Rattle.hx_model.specs.Lines.{upto}
 use Rattle.std.proofs.Common.{◌≡◌, ℕ, ◌+◌, inl, inr, true, List, ◌∷◌, Some, refl, ap, arith}
-use Rattle.hx_types.specs.declared.ids.ServerId.{ServerId}
-use Rattle.hx_types.specs.declared.traces.Script.{Script}
-use Rattle.hx_types.specs.declared.updates.Update.{Update}
+use Rattle.hx_model.specs.Types.{Script, ServerId, Update}
 use Rattle.hx_types.specs.Configs.{head_of}
 use Rattle.hx_types.specs.Spaces.{IsSpace}
 use Rattle.hx_model.specs.Regions.{key_region}

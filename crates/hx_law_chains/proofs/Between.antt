@@ -1,10 +1,7 @@
 -- Who can stand between two positions that are neighbours in some configuration of the run, by the order of the newest: whoever was listed after the first one was the last of its region; nobody else.
 use Rattle.std.proofs.Common.{◌≡◌, ◌<◌, ◌⊎◌, inl, inr, List, None, refl, sym, ◌∙◌, subst, arith}
 use Rattle.std.proofs.lemmas.Bool.{cases_order}
-use Rattle.hx_types.specs.declared.configs.Config.{Config}
-use Rattle.hx_types.specs.declared.ids.RegionId.{RegionId}
-use Rattle.hx_types.specs.declared.ids.ServerId.{ServerId}
-use Rattle.hx_types.specs.declared.updates.Place.{Place}
+use Rattle.hx_model.specs.Types.{Config, Place, RegionId, ServerId}
 use Rattle.hx_types.specs.Words.{IsBefore, IsIn}
 use Rattle.hx_types.specs.Configs.{members_of}
 use Rattle.hx_model.specs.Neighbours.{member_after, place_number}

@@ -3,26 +3,9 @@ use Rattle.std.proofs.Common.{◌≡◌, ℕ, ◌⊎◌, inl, inr, true, false, 
 use Rattle.std.proofs.Common.{eqb, ltb}
 use Rattle.std.specs.List.{find, flat_map}
 use Rattle.std.proofs.lemmas.Bool.{and_parts, cond-false, cond_both, eqb-true, false≢true, ltb-true}
-use Rattle.hx_types.specs.declared.calls.Caller.{Caller}
-use Rattle.hx_types.specs.declared.calls.Op.{Op}
-use Rattle.hx_types.specs.declared.configs.Config.{Config}
-use Rattle.hx_types.specs.declared.ids.Actor.{Actor}
-use Rattle.hx_types.specs.declared.ids.Actor.TheVariants.{Coordinator, Server, Session}
-use Rattle.hx_types.specs.declared.ids.Epoch.{Epoch}
-use Rattle.hx_types.specs.declared.ids.RegionId.{RegionId}
-use Rattle.hx_types.specs.declared.ids.ServerId.{ServerId}
-use Rattle.hx_types.specs.declared.ids.SessionId.{SessionId}
-use Rattle.hx_types.specs.declared.ids.Version.{Version}
-use Rattle.hx_types.specs.declared.messages.Message.{Message}
+use Rattle.hx_model.specs.Types.{Actor, At, Caller, Config, Coordinator, Deliver, Epoch, Halt, Input, Kept, Message, Op, Post, PostId, RegionId, Server}
+use Rattle.hx_model.specs.Types.{ServerId, Session, SessionId, Term, Tick, Update, Version}
 use Rattle.hx_types.specs.declared.messages.Message.TheVariants as a_message
-use Rattle.hx_types.specs.declared.messages.Post.{Post}
-use Rattle.hx_types.specs.declared.messages.PostId.{PostId}
-use Rattle.hx_types.specs.declared.outcomes.Hop.TheVariants.{At}
-use Rattle.hx_types.specs.declared.snapshots.Kept.{Kept}
-use Rattle.hx_types.specs.declared.traces.Input.{Input}
-use Rattle.hx_types.specs.declared.traces.Input.TheVariants.{Tick, Halt, Deliver}
-use Rattle.hx_types.specs.declared.updates.Update.{Update}
-use Rattle.hx_types.specs.declared.values.Term.{Term}
 use Rattle.hx_types.specs.Words.{IsIn, post, provided}
 use Rattle.hx_types.specs.Configs.{head_of, is_lost, is_server, leads, lists, lists_ready}
 use Rattle.hx_types.specs.Effects.{key_of}
@@ -33,10 +16,9 @@ use Rattle.hx_model.specs.Hearing.{hears_ack, hears_snap, hears_update}
 use Rattle.hx_model.specs.Neighbours.{next_of, place_number, prev_of, region_at}
 use Rattle.hx_model.specs.Regions.{key_region}
 use Rattle.hx_model.specs.ServerSteps.{Replica, ServerState, ServerStep, ack_step, acked, acked_of, adopted, asked, asking_last, at_slot, call_at, call_step}
-use Rattle.hx_model.specs.ServerSteps.{called, called_by, context_of, halting, if_installed, input_step, install_at}
-use Rattle.hx_model.specs.ServerSteps.{installed_slots, meeting, message_step, pending_with, poll_post, ready_post, replica_for, replica_of, replica_tick}
-use Rattle.hx_model.specs.ServerSteps.{saying, server_step, snapped, state_in, tick_step, unmoved, update_step, updated}
-use Rattle.hx_model.specs.ServerSteps.{with_config, with_slots}
+use Rattle.hx_model.specs.ServerSteps.{called, called_by, context_of, halting, if_installed, input_step, install_at, installed_slots, meeting, message_step}
+use Rattle.hx_model.specs.ServerSteps.{pending_with, poll_post, ready_post, replica_for, replica_of, replica_tick, saying, server_step, snapped, state_in}
+use Rattle.hx_model.specs.ServerSteps.{tick_step, unmoved, update_step, updated, with_config, with_slots}
 use Rattle.hx_model.specs.Slots.{found_in, pending_of}
 use Rattle.hx_law_lemmas.proofs.Lemmas.{in-find, in-provided, pending-in, replica-found, same_version, server-same, when_some_both}
 use Rattle.hx_law_lemmas.specs.Words.{standing}

@@ -1,13 +1,7 @@
 -- Whom a server hears, by its own configuration: an update from the replica before, an acknowledgement from the replica after.
 use Rattle.std.proofs.Common.{◌≡◌, ℕ, true, List, refl, ap}
 use Rattle.std.proofs.lemmas.Bool.{and_parts, eqb-true, false≢true}
-use Rattle.hx_types.specs.declared.ids.Actor.{Actor}
-use Rattle.hx_types.specs.declared.ids.Actor.TheVariants.{Coordinator, Server, Session}
-use Rattle.hx_types.specs.declared.ids.RegionId.{RegionId}
-use Rattle.hx_types.specs.declared.ids.ServerId.{ServerId}
-use Rattle.hx_types.specs.declared.outcomes.Hop.{Hop}
-use Rattle.hx_types.specs.declared.outcomes.Hop.TheVariants.{At, Blocked, End}
-use Rattle.hx_types.specs.declared.updates.Place.{Place}
+use Rattle.hx_model.specs.Types.{Actor, At, Blocked, Coordinator, End, Hop, Place, RegionId, Server, ServerId, Session}
 use Rattle.hx_types.specs.Words.{same_region, same_server}
 use Rattle.hx_model.specs.Hearing.{goes_to, goes_to_at}
 use Rattle.hx_model.specs.Neighbours.{region_at}

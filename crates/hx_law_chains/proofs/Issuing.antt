@@ -1,16 +1,6 @@
 -- What is kept of a key and of posts when a configuration is issued: who it leaves out holds nothing any more, all others hold what they did in the same order, and a post that comes to be heard by it alone came from a neighbour that has accepted, or committed, the update.
 use Rattle.std.proofs.Common.{◌≡◌, ℕ, ◌<◌, ◌⊎◌, inl, inr, List, length, sym, ap, ◌∙◌, subst, arith}
-use Rattle.hx_types.specs.declared.calls.Answer.{Answer}
-use Rattle.hx_types.specs.declared.calls.Caller.{Caller}
-use Rattle.hx_types.specs.declared.calls.Op.{Op}
-use Rattle.hx_types.specs.declared.configs.Config.{Config}
-use Rattle.hx_types.specs.declared.ids.RegionId.{RegionId}
-use Rattle.hx_types.specs.declared.ids.ServerId.{ServerId}
-use Rattle.hx_types.specs.declared.outcomes.Hop.TheVariants.{At}
-use Rattle.hx_types.specs.declared.traces.Script.{Script}
-use Rattle.hx_types.specs.declared.ids.Version.{Version}
-use Rattle.hx_types.specs.declared.updates.Place.{Place}
-use Rattle.hx_types.specs.declared.updates.Update.{Update}
+use Rattle.hx_model.specs.Types.{Answer, At, Caller, Config, Op, Place, RegionId, Script, ServerId, Update, Version}
 use Rattle.hx_types.specs.Words.{IsBefore, IsIn}
 use Rattle.hx_types.specs.Configs.{members_of}
 use Rattle.hx_types.specs.Spaces.{IsSpace}
@@ -19,8 +9,7 @@ use Rattle.hx_model.specs.Regions.{key_region}
 use Rattle.hx_model.specs.Slots.{KeyState}
 use Rattle.hx_law_lemmas.proofs.Lemmas.{Apart, Differ, more_same, after-nobody, after-order, before-in, head-nobody, head-order, numbered-within as in-below}
 use Rattle.hx_law_lemmas.proofs.Lemmas.{places-apart}
-use Rattle.hx_law_epochs.proofs.Lemmas.{HasPlace, PrecedesInChain, number-region, placed-number, GrownOut, ListsServers}
-use Rattle.hx_law_epochs.proofs.Lemmas.{grown-out-self}
+use Rattle.hx_law_epochs.proofs.Lemmas.{HasPlace, PrecedesInChain, number-region, placed-number, GrownOut, ListsServers, grown-out-self}
 use Rattle.hx_law_epochs.specs.Epochs.{order}
 use Rattle.hx_law_chains.proofs.Between.{none-after, none-before}
 use Rattle.hx_law_chains.proofs.Hops.{Hops, next-hops, prev-hops}

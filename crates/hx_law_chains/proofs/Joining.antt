@@ -1,12 +1,6 @@
 -- What is kept of a key when snapshots are sent: each is a holder right after its sender, with what the sender has.
 use Rattle.std.proofs.Common.{◌≡◌, ℕ, ◌≤◌, ◌⊎◌, inl, inr, true, List, None, Some, refl, sym, ap, ◌∙◌, subst, arith}
-use Rattle.hx_types.specs.declared.ids.RegionId.{RegionId}
-use Rattle.hx_types.specs.declared.ids.ServerId.{ServerId}
-use Rattle.hx_types.specs.declared.outcomes.Hop.TheVariants.{At}
-use Rattle.hx_types.specs.declared.traces.Script.{Script}
-use Rattle.hx_types.specs.declared.updates.Place.{Place}
-use Rattle.hx_types.specs.declared.updates.Update.{Update}
-use Rattle.hx_types.specs.declared.configs.Config.{Config}
+use Rattle.hx_model.specs.Types.{At, Config, Place, RegionId, Script, ServerId, Update}
 use Rattle.hx_types.specs.Words.{IsBefore, IsIn}
 use Rattle.hx_types.specs.Configs.{members_of}
 use Rattle.hx_types.specs.Spaces.{IsSpace}

@@ -3,18 +3,7 @@ use Rattle.hx_model.specs.Lines.{line_object}
 use Rattle.std.proofs.Common.{◌≡◌, ℕ, ◌+◌, ◌≤◌, ◌⊎◌, inl, inr, Bool, true, false, List, [], ◌∷◌, map, length, Option, Some, None, refl, sym, ap, ◌∙◌, subst}
 use Rattle.std.proofs.Common.{leb, ltb, eqb}
 use Rattle.std.proofs.lemmas.Bool.{cond_both}
-use Rattle.hx_types.specs.declared.calls.Caller.{Caller}
-use Rattle.hx_types.specs.declared.calls.Op.{Op}
-use Rattle.hx_types.specs.declared.configs.Config.{Config}
-use Rattle.hx_types.specs.declared.ids.RegionId.{RegionId}
-use Rattle.hx_types.specs.declared.ids.Version.{Version}
-use Rattle.hx_types.specs.declared.outcomes.Decision.{Decision}
-use Rattle.hx_types.specs.declared.snapshots.Mark.{Mark}
-use Rattle.hx_types.specs.declared.spaces.Space.{Space}
-use Rattle.hx_types.specs.declared.traces.Script.{Script}
-use Rattle.hx_types.specs.declared.updates.Place.{Place}
-use Rattle.hx_types.specs.declared.updates.Update.{Update}
-use Rattle.hx_types.specs.declared.values.Value.{Value}
+use Rattle.hx_model.specs.Types.{Caller, Config, Decision, Mark, Op, Place, RegionId, Script, Space, Update, Value, Version}
 use Rattle.hx_types.specs.declared.outcomes.Decision.TheVariants as a_decision
 use Rattle.hx_types.specs.Words.{IsIn, when_some}
 use Rattle.hx_types.specs.Configs.{first_config}

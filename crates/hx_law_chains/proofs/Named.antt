@@ -1,11 +1,7 @@
 -- The names and calls of sessions are the script's.
 use Rattle.std.proofs.Common.{◌≡◌, List, [], ◌∷◌, refl, ◌∙◌, eqb}
 use Rattle.std.proofs.lemmas.Bool.{cond_both}
-use Rattle.hx_types.specs.declared.ids.Actor.{Actor}
-use Rattle.hx_types.specs.declared.ids.SessionId.{SessionId}
-use Rattle.hx_types.specs.declared.traces.Entry.{Entry}
-use Rattle.hx_types.specs.declared.traces.Script.{Script}
-use Rattle.hx_types.specs.declared.ids.Actor.TheVariants.{Coordinator, Server, Session}
+use Rattle.hx_model.specs.Types.{Actor, Coordinator, Entry, Script, Server, Session, SessionId}
 use Rattle.hx_types.specs.Fitting.{calls_of}
 use Rattle.hx_model.specs.Runs.{session_after, session_of}
 use Rattle.hx_model.specs.SessionSteps.{SessionState, session_step}

@@ -2,9 +2,7 @@
 use Rattle.std.proofs.Common.{◌≡◌, ℕ, ◌⊎◌, inl, inr, true, false, List, [], length, Some, refl, subst}
 use Rattle.std.specs.List.{flat_map}
 use Rattle.std.proofs.lemmas.Bool.{cases_Bool}
-use Rattle.hx_types.specs.declared.ids.ServerId.{ServerId}
-use Rattle.hx_types.specs.declared.messages.Post.{Post}
-use Rattle.hx_types.specs.declared.traces.Note.{Note}
+use Rattle.hx_model.specs.Types.{Note, Post, ServerId}
 use Rattle.hx_types.specs.Words.{IsIn, same_text}
 use Rattle.hx_types.specs.Spaces.{IsSpace}
 use Rattle.hx_model.specs.ServerSteps.{Replica, ServerState, SlotContext, move_posts, replica_of, state_in, with_slot}

@@ -4,28 +4,10 @@ use Rattle.std.proofs.Common.{◌≡◌, ℕ, ◌⊎◌, inl, inr, Bool, false, 
 use Rattle.std.specs.Prelude.{⊤}
 use Rattle.std.specs.List.{filter, flat_map}
 use Rattle.std.proofs.lemmas.Bool.{cond_both}
-use Rattle.hx_types.specs.declared.calls.Caller.{Caller}
-use Rattle.hx_types.specs.declared.calls.Op.{Op}
-use Rattle.hx_types.specs.declared.configs.Config.{Config}
-use Rattle.hx_types.specs.declared.messages.Message.{Message}
-use Rattle.hx_types.specs.declared.messages.Post.{Post}
-use Rattle.hx_types.specs.declared.ids.Actor.{Actor}
-use Rattle.hx_types.specs.declared.ids.Epoch.{Epoch}
-use Rattle.hx_types.specs.declared.ids.RegionId.{RegionId}
-use Rattle.hx_types.specs.declared.ids.ServerId.{ServerId}
-use Rattle.hx_types.specs.declared.outcomes.Decision.{Decision}
-use Rattle.hx_types.specs.declared.outcomes.Hop.{Hop}
-use Rattle.hx_types.specs.declared.snapshots.Kept.{Kept}
-use Rattle.hx_types.specs.declared.spaces.Space.{Space}
-use Rattle.hx_types.specs.declared.traces.Input.{Input}
-use Rattle.hx_types.specs.declared.traces.Note.{Note}
-use Rattle.hx_types.specs.declared.updates.Update.{Update}
-use Rattle.hx_types.specs.declared.values.Term.{Term}
+use Rattle.hx_model.specs.Types.{Actor, At, Blocked, Caller, Config, Coordinator, Decision, Deliver, End, Epoch, Halt, Hop, Input, Kept, Message, Note, Op}
+use Rattle.hx_model.specs.Types.{Post, RegionId, Server, ServerId, Session, Space, Term, Tick, Update}
 use Rattle.hx_types.specs.declared.messages.Message.TheVariants as a_message
-use Rattle.hx_types.specs.declared.ids.Actor.TheVariants.{Coordinator, Server, Session}
 use Rattle.hx_types.specs.declared.outcomes.Decision.TheVariants as a_decision
-use Rattle.hx_types.specs.declared.outcomes.Hop.TheVariants.{At, End, Blocked}
-use Rattle.hx_types.specs.declared.traces.Input.TheVariants.{Tick, Halt, Deliver}
 use Rattle.hx_types.specs.declared.traces.Note.TheVariants as a_note
 use Rattle.hx_types.specs.Words.{IsIn, post, provided, same_text}
 use Rattle.hx_types.specs.Configs.{joiner_for, leads, lists_joining, lists_ready}
@@ -37,14 +19,13 @@ use Rattle.hx_model.specs.Hearing.{hears_ack, hears_snap, hears_update}
 use Rattle.hx_model.specs.Neighbours.{place_number, region_at}
 use Rattle.hx_model.specs.Slots.{Commit, KeyState, Move, Take, acknowledged, found_in, moved_all, offered, pending_of, pending_of_all, snapshot_of}
 use Rattle.hx_model.specs.Slots.{state_among, top_of}
-use Rattle.hx_model.specs.ServerSteps.{Replica, ServerState, ServerStep, SlotContext, SlotStep, Slots, accepting, ack_step, ack_to, acked, acked_of}
-use Rattle.hx_model.specs.ServerSteps.{adopted, adopted_posts, asked, asking_last, at_slot, by_moves, by_posts, call_at, call_step, called, called_by}
-use Rattle.hx_model.specs.ServerSteps.{context_of, decided, doubt_in, doubts_from, halting, if_installed, input_step, install_at, installed_slots}
-use Rattle.hx_model.specs.ServerSteps.{is_active, join_keys, join_slot, keys_of, known_to, leader_doubts, listed_regions, meeting, message_step}
-use Rattle.hx_model.specs.ServerSteps.{move_posts, next_at, offered_all, passed_on, pending_posts, pending_with, poll_post, ready_post, replica_for}
-use Rattle.hx_model.specs.ServerSteps.{replica_of, replica_or_new, replica_tick, reply, resumed, resumed_posts, saying, server_step, snap_posts}
-use Rattle.hx_model.specs.ServerSteps.{snap_to, snapped, state_from, state_in, tick_step, told_to, unmoved, update_step, update_to, updated}
-use Rattle.hx_model.specs.ServerSteps.{waiting_doubt, with_config, with_slots, write_step}
+use Rattle.hx_model.specs.ServerSteps.{Replica, ServerState, ServerStep, SlotContext, SlotStep, Slots, accepting, ack_step, ack_to, acked, acked_of, adopted}
+use Rattle.hx_model.specs.ServerSteps.{adopted_posts, asked, asking_last, at_slot, by_moves, by_posts, call_at, call_step, called, called_by, context_of}
+use Rattle.hx_model.specs.ServerSteps.{decided, doubt_in, doubts_from, halting, if_installed, input_step, install_at, installed_slots, is_active, join_keys}
+use Rattle.hx_model.specs.ServerSteps.{join_slot, keys_of, known_to, leader_doubts, listed_regions, meeting, message_step, move_posts, next_at, offered_all}
+use Rattle.hx_model.specs.ServerSteps.{passed_on, pending_posts, pending_with, poll_post, ready_post, replica_for, replica_of, replica_or_new, replica_tick}
+use Rattle.hx_model.specs.ServerSteps.{reply, resumed, resumed_posts, saying, server_step, snap_posts, snap_to, snapped, state_from, state_in, tick_step}
+use Rattle.hx_model.specs.ServerSteps.{told_to, unmoved, update_step, update_to, updated, waiting_doubt, with_config, with_slots, write_step}
 use Rattle.hx_law_lemmas.proofs.Lemmas.{in-append, in-flat_map, in-map, in-provided, when_some_both, replica-found}
 
 -- what servers post, and of which snapshots

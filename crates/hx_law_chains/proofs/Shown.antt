@@ -2,9 +2,7 @@
 use Rattle.hx_model.specs.Lines.{upto}
 use Rattle.std.proofs.Common.{◌≡◌, ℕ, ◌≤◌, true, List, [], ◌∷◌, ◌++◌, None, refl, sym, ap, ◌∙◌, arith, cond, leb, inl}
 use Rattle.std.proofs.lemmas.Bool.{cond-true, le-leb}
-use Rattle.hx_types.specs.declared.ids.RegionId.{RegionId}
-use Rattle.hx_types.specs.declared.spaces.Space.{Space}
-use Rattle.hx_types.specs.declared.updates.Update.{Update}
+use Rattle.hx_model.specs.Types.{RegionId, Space, Update}
 use Rattle.hx_types.specs.Words.{IsIn, provided}
 use Rattle.hx_model.specs.Holders.{only_in}
 use Rattle.hx_model.specs.Regions.{key_region}

@@ -4,33 +4,19 @@ use Rattle.std.proofs.Common.{ap, ◌∙◌, subst, arith, add-one, leb}
 use Rattle.std.specs.List.{flat_map}
 use Rattle.std.proofs.lemmas.Bool.{cond_both, ltb-true, false≢true}
 use Rattle.hx_types.specs.declared.calls.Answer.TheVariants as an_answer
-use Rattle.hx_types.specs.declared.calls.Caller.{Caller}
-use Rattle.hx_types.specs.declared.calls.Op.{Op}
-use Rattle.hx_types.specs.declared.configs.Config.{Config}
-use Rattle.hx_types.specs.declared.ids.RegionId.{RegionId}
-use Rattle.hx_types.specs.declared.ids.ServerId.{ServerId}
-use Rattle.hx_types.specs.declared.ids.Version.{Version}
-use Rattle.hx_types.specs.declared.messages.Post.{Post}
-use Rattle.hx_types.specs.declared.updates.Update.{Update}
-use Rattle.hx_types.specs.Words.{IsIn, when_some}
+use Rattle.hx_model.specs.Types.{Caller, Config, Op, Place, Post, RegionId, ServerId, Space, Touch, Update, Value, Version}
+use Rattle.hx_types.specs.Words.{IsIn, when_some, below, same_region}
 use Rattle.hx_types.specs.Configs.{is_lost, leads}
 use Rattle.hx_types.specs.Effects.{key_of}
 use Rattle.hx_types.specs.Fitting.{call_of}
 use Rattle.hx_types.specs.Subspaces.{is_key_region}
 use Rattle.hx_model.specs.Causes.{pending_at}
 use Rattle.hx_model.specs.Leading.{StuckAt, stuck_of}
-use Rattle.hx_model.specs.Regions.{key_region}
+use Rattle.hx_model.specs.Regions.{key_region, place_of}
 use Rattle.hx_model.specs.ServerSteps.{Replica, ServerState, SlotStep, SlotContext, accepting, ack_step, ack_to, by_moves, by_posts, called, doubt_in}
 use Rattle.hx_model.specs.ServerSteps.{known_to, move_posts, passed_on, prev_at, replica_of, resumed, state_in, update_step}
-use Rattle.hx_model.specs.Slots.{KeyState, acknowledged, has_place, offered, pending_of, top_of}
+use Rattle.hx_model.specs.Slots.{KeyState, acknowledged, has_place, offered, pending_of, top_of, place_in, touches_after}
 use Rattle.hx_model.specs.Places.{declared_subspaces, placed_after, places_of, regions_between}
-use Rattle.hx_model.specs.Regions.{place_of}
-use Rattle.hx_types.specs.declared.snapshots.Touch.{Touch}
-use Rattle.hx_types.specs.declared.spaces.Space.{Space}
-use Rattle.hx_types.specs.declared.updates.Place.{Place}
-use Rattle.hx_types.specs.declared.values.Value.{Value}
-use Rattle.hx_types.specs.Words.{below, same_region}
-use Rattle.hx_model.specs.Slots.{place_in, touches_after}
 use Rattle.hx_model.specs.Lines.{line_object}
 use Rattle.hx_law_lemmas.proofs.Lemmas.{Made, place-found, same-key, in-append, in-flat_map, in-map, in-provided, Held, accepting-known}
 use Rattle.hx_law_lemmas.proofs.Lemmas.{acknowledged-known, offered-known, resumed-known}

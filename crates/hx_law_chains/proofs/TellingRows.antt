@@ -5,27 +5,11 @@ use Rattle.std.proofs.Common.{arith, cond, leb, ltb}
 use Rattle.std.specs.Prelude.{⊤}
 use Rattle.std.specs.List.{filter, flat_map}
 use Rattle.std.proofs.lemmas.Bool.{cond_both, cond-false, and_parts, leb-true, ltb-true, false≢true}
-use Rattle.hx_types.specs.declared.calls.Caller.{Caller}
-use Rattle.hx_types.specs.declared.calls.Op.{Op}
-use Rattle.hx_types.specs.declared.configs.Config.{Config}
-use Rattle.hx_types.specs.declared.ids.Actor.{Actor}
-use Rattle.hx_types.specs.declared.ids.Actor.TheVariants.{Coordinator, Server, Session}
-use Rattle.hx_types.specs.declared.ids.Epoch.{Epoch}
-use Rattle.hx_types.specs.declared.ids.RegionId.{RegionId}
-use Rattle.hx_types.specs.declared.ids.ServerId.{ServerId}
-use Rattle.hx_types.specs.declared.ids.Version.{Version}
-use Rattle.hx_types.specs.declared.messages.Message.{Message}
+use Rattle.hx_model.specs.Types.{Actor, Caller, Config, Coordinator, Decision, Deliver, Epoch, Halt, Input, Kept, Message, Op, Post, PostId, RegionId, Server}
+use Rattle.hx_model.specs.Types.{ServerId, Session, Term, Tick, Update, Version}
 use Rattle.hx_types.specs.declared.messages.Message.TheVariants as a_message
-use Rattle.hx_types.specs.declared.messages.Post.{Post}
-use Rattle.hx_types.specs.declared.messages.PostId.{PostId}
-use Rattle.hx_types.specs.declared.outcomes.Decision.{Decision}
 use Rattle.hx_types.specs.declared.outcomes.Decision.TheVariants as a_decision
-use Rattle.hx_types.specs.declared.snapshots.Kept.{Kept}
-use Rattle.hx_types.specs.declared.traces.Input.{Input}
-use Rattle.hx_types.specs.declared.traces.Input.TheVariants.{Tick, Halt, Deliver}
-use Rattle.hx_types.specs.declared.updates.Update.{Update}
-use Rattle.hx_types.specs.declared.values.Term.{Term}
-use Rattle.hx_types.specs.Words.{IsIn, post}
+use Rattle.hx_types.specs.Words.{IsIn, post, provided}
 use Rattle.hx_types.specs.Configs.{head_of, is_lost, is_server, leads, lists_joining, lists_ready}
 use Rattle.hx_types.specs.Effects.{is_write, key_of}
 use Rattle.hx_types.specs.Fitting.{call_of, is_doubt}
@@ -37,23 +21,16 @@ use Rattle.hx_model.specs.Hearing.{hears_ack, hears_snap, hears_update}
 use Rattle.hx_model.specs.Leading.{StuckAt, decide, stuck_of}
 use Rattle.hx_model.specs.Neighbours.{place_number, prev_of}
 use Rattle.hx_model.specs.Regions.{key_region}
-use Rattle.hx_model.specs.ServerSteps.{Replica, ServerState, ServerStep, SlotContext, SlotStep, accepting, ack_step, acked, acked_of, adopted}
-use Rattle.hx_model.specs.ServerSteps.{adopted_replica, asked}
-use Rattle.hx_model.specs.ServerSteps.{asking_last, at_slot, call_at, call_step, called, called_by, context_of, decided, doubt_in, doubts_from, get_step}
-use Rattle.hx_model.specs.ServerSteps.{halting}
-use Rattle.hx_model.specs.ServerSteps.{if_installed, input_step, install_at, installed_slots, is_active, leader_doubts, meeting, message_step, move_posts}
-use Rattle.hx_model.specs.ServerSteps.{passed_on}
-use Rattle.hx_model.specs.ServerSteps.{pending_posts, pending_with, poll_post, ready_post, replica_for, replica_of, replica_tick, resumed, resumed_posts}
-use Rattle.hx_model.specs.ServerSteps.{saying}
-use Rattle.hx_model.specs.ServerSteps.{server_step, snap_posts, snapped, state_in, tick_step, unmoved, update_step, updated, waiting_doubt, with_config}
-use Rattle.hx_model.specs.ServerSteps.{with_slot}
-use Rattle.hx_model.specs.ServerSteps.{with_slots, write_step}
+use Rattle.hx_model.specs.ServerSteps.{Replica, ServerState, ServerStep, SlotContext, SlotStep, accepting, ack_step, acked, acked_of, adopted, adopted_replica}
+use Rattle.hx_model.specs.ServerSteps.{asked, asking_last, at_slot, call_at, call_step, called, called_by, context_of, decided, doubt_in, doubts_from, get_step}
+use Rattle.hx_model.specs.ServerSteps.{halting, if_installed, input_step, install_at, installed_slots, is_active, leader_doubts, meeting, message_step}
+use Rattle.hx_model.specs.ServerSteps.{move_posts, passed_on, pending_posts, pending_with, poll_post, ready_post, replica_for, replica_of, replica_tick}
+use Rattle.hx_model.specs.ServerSteps.{resumed, resumed_posts, saying, server_step, snap_posts, snapped, state_in, tick_step, unmoved, update_step, updated}
+use Rattle.hx_model.specs.ServerSteps.{waiting_doubt, with_config, with_slot, with_slots, write_step}
 use Rattle.hx_model.specs.Slots.{KeyState, has_place, moved_all, offered, pending_of, top_of}
 use Rattle.hx_law_folds.specs.Folding.{IsJoinableServer}
-use Rattle.hx_types.specs.Words.{provided}
 use Rattle.hx_law_lemmas.proofs.Lemmas.{pending-in, replica-found, replica-here, slot-found, slot-here, state-key, with_slot_at, server-same, in-upto}
-use Rattle.hx_law_lemmas.proofs.Lemmas.{listed-in}
-use Rattle.hx_law_lemmas.proofs.Lemmas.{state-there, in-append, in-filter, in-flat_map, in-map, in-provided, when_some_both, Held, accepting-known}
+use Rattle.hx_law_lemmas.proofs.Lemmas.{listed-in, state-there, in-append, in-filter, in-flat_map, in-map, in-provided, when_some_both, Held, accepting-known}
 use Rattle.hx_law_lemmas.proofs.Lemmas.{offered-known}
 use Rattle.hx_law_lemmas.specs.Words.{standing}
 use Rattle.hx_law_epochs.proofs.Lemmas.{EpochsKept, Shaped, head-ready, installed-is, replica_for-is}

@@ -2,11 +2,7 @@
 use Rattle.std.proofs.Common.{◌≡◌, ◌≢◌, ℕ, ◌≤◌, inl, Bool, true, List, ◌∷◌, map, Some, refl, ap, sym, subst, ◌∙◌, arith}
 use Rattle.std.specs.List.{AllByRecursion}
 use Rattle.atomic_table.specs.Seated.{TableId}
-use Rattle.hx_types.specs.declared.ids.Actor.{Actor}
-use Rattle.hx_types.specs.declared.traces.Entry.{Entry}
-use Rattle.hx_types.specs.declared.traces.Input.{Input}
-use Rattle.hx_types.specs.declared.traces.Script.{Script}
-use Rattle.hx_types.specs.declared.traces.Input.TheVariants.{Tick, Halt, Deliver}
+use Rattle.hx_model.specs.Types.{Actor, Deliver, Entry, Halt, Input, Script, Tick}
 use Rattle.hx_types.specs.Words.{post, IsIn}
 use Rattle.hx_model.specs.Runs.{entry_of, has_halted, made_of, post_named, IsStep, MayTake}
 use Rattle.hx_clock.specs.declared.parts.Stamped.{Stamped}

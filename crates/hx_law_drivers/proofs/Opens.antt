@@ -5,12 +5,7 @@ use Rattle.std.specs.List.{AllByRecursion}
 use Rattle.std.proofs.lemmas.Bool.{and_from, and_parts, eqb-true, le-leb, leb-true, lt-ltb, ltb-true}
 use mathlib.Core.List.{IsPrefix}
 use Rattle.atomic_table.specs.Seated.{TableId}
-use Rattle.hx_types.specs.declared.ids.Actor.{Actor}
-use Rattle.hx_types.specs.declared.messages.Post.{Post}
-use Rattle.hx_types.specs.declared.messages.PostId.{PostId}
-use Rattle.hx_types.specs.declared.traces.Entry.{Entry}
-use Rattle.hx_types.specs.declared.traces.Script.{Script}
-use Rattle.hx_types.specs.declared.ids.Actor.TheVariants.{Coordinator, Server, Session}
+use Rattle.hx_model.specs.Types.{Actor, Coordinator, Entry, Post, PostId, Script, Server, Session}
 use Rattle.hx_types.specs.Words.{same_actor, when_some, IsIn}
 use Rattle.hx_model.specs.Runs.{has_halted, is_actor, post_named}
 use Rattle.hx_model.specs.Schedule.{same_name}

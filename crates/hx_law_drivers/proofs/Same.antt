@@ -6,36 +6,13 @@ use Rattle.std.proofs.Math.IntN.{ℤ_discrete}
 use mathlib.Core.HLevel.{×_discrete, Discrete}
 use mathlib.Core.List.{List-discrete}
 use mathlib.Core.Sum as a_sum
-use Rattle.hx_types.specs.declared.calls.Answer.{Answer}
+use Rattle.hx_model.specs.Types.{Actor, Answer, Assign, Caller, Config, Coordinator, Edit, EditKind, Epoch, Kept, Mark, Member, Message, Op, Place, Post}
+use Rattle.hx_model.specs.Types.{RegionId, Row, Server, ServerId, Session, SessionId, Term, Touch, Update, Value, Version}
 use Rattle.hx_types.specs.declared.calls.Answer.TheVariants as an_answer
-use Rattle.hx_types.specs.declared.calls.Caller.{Caller}
-use Rattle.hx_types.specs.declared.calls.Op.{Op}
 use Rattle.hx_types.specs.declared.calls.Op.TheVariants as an_op
-use Rattle.hx_types.specs.declared.calls.Row.{Row}
-use Rattle.hx_types.specs.declared.configs.Config.{Config}
-use Rattle.hx_types.specs.declared.configs.Member.{Member}
-use Rattle.hx_types.specs.declared.ids.Actor.{Actor}
-use Rattle.hx_types.specs.declared.ids.Actor.TheVariants.{Coordinator, Server, Session}
-use Rattle.hx_types.specs.declared.ids.Epoch.{Epoch}
-use Rattle.hx_types.specs.declared.ids.RegionId.{RegionId}
-use Rattle.hx_types.specs.declared.ids.ServerId.{ServerId}
-use Rattle.hx_types.specs.declared.ids.SessionId.{SessionId}
-use Rattle.hx_types.specs.declared.ids.Version.{Version}
-use Rattle.hx_types.specs.declared.messages.Message.{Message}
 use Rattle.hx_types.specs.declared.messages.Message.TheVariants as a_message
-use Rattle.hx_types.specs.declared.messages.Post.{Post}
-use Rattle.hx_types.specs.declared.snapshots.Kept.{Kept}
-use Rattle.hx_types.specs.declared.snapshots.Mark.{Mark}
-use Rattle.hx_types.specs.declared.snapshots.Touch.{Touch}
-use Rattle.hx_types.specs.declared.updates.Place.{Place}
-use Rattle.hx_types.specs.declared.updates.Update.{Update}
-use Rattle.hx_types.specs.declared.values.Assign.{Assign}
-use Rattle.hx_types.specs.declared.values.Edit.{Edit}
-use Rattle.hx_types.specs.declared.values.EditKind.{EditKind}
 use Rattle.hx_types.specs.declared.values.EditKind.TheVariants as an_edit
-use Rattle.hx_types.specs.declared.values.Term.{Term}
 use Rattle.hx_types.specs.declared.values.Term.TheVariants as a_term
-use Rattle.hx_types.specs.declared.values.Value.{Value}
 use Rattle.hx_types.specs.declared.values.Value.TheVariants as a_value
 use Rattle.hx_mail.specs.declared.views.Mailed.{Mailed}
 

@@ -3,11 +3,7 @@ use Rattle.std.proofs.Common.{◌≡◌, ◌≢◌, ℕ, inl, inr, List, [], ◌
 use Rattle.std.specs.Prelude.{length, reverse}
 use Rattle.hx_types.specs.Words.{IsIn}
 use Rattle.atomic_table.specs.Seated.{TableId}
-use Rattle.hx_types.specs.declared.ids.Actor.{Actor}
-use Rattle.hx_types.specs.declared.traces.Entry.{Entry}
-use Rattle.hx_types.specs.declared.traces.Input.{Input}
-use Rattle.hx_types.specs.declared.traces.Script.{Script}
-use Rattle.hx_types.specs.declared.traces.Input.TheVariants.{Halt}
+use Rattle.hx_model.specs.Types.{Actor, Entry, Halt, Input, Script}
 use Rattle.hx_clock.specs.declared.parts.Stamped.{Stamped}
 use Rattle.hx_clock.proofs.Lemmas.{each_all, each_in}
 use Rattle.hx_law_threads.specs.Feeding.{IsFed, IsFedBy}

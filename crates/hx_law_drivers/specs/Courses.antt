@@ -2,7 +2,7 @@
 use Rattle.std.specs.Prelude.{ℕ, ◌≡◌, List, [], ◌∷◌, None}
 use Rattle.std.specs.List.{AllByRecursion}
 use Rattle.atomic_table.specs.Seated.{TableId}
-use Rattle.hx_types.specs.declared.traces.Script.{Script}
+use Rattle.hx_model.specs.Types.{Script}
 use Rattle.hx_mail.specs.Boxes.{Boxed}
 use Rattle.hx_outbox.specs.Zipped.{Both}
 use Rattle.hx_driver.specs.declared.crews.Crew.{Crew}

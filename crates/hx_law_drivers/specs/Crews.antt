@@ -1,8 +1,7 @@
 -- All crews of a run: their actors, parts and totals, and the cut that their entries make.
 use Rattle.std.specs.Prelude.{ℕ, ◌≡◌, true, List, [], ◌∷◌, map, length, if◌then◌else◌}
 use Rattle.std.specs.List.{IsDistinct, flat_map}
-use Rattle.hx_types.specs.declared.ids.Actor.{Actor}
-use Rattle.hx_types.specs.declared.traces.Script.{Script}
+use Rattle.hx_model.specs.Types.{Actor, Script}
 use Rattle.hx_types.specs.Words.{below, same_actor, IsIn}
 use Rattle.hx_model.specs.Runs.{is_actor}
 use Rattle.hx_clock.specs.Views.{total}

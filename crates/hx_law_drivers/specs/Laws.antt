@@ -1,17 +1,11 @@
 -- The laws on a run of drivers: its trace is paced.
-use Rattle.std.specs.Prelude.{ℕ, ◌≡◌, ◌≢◌, ◌≤◌, Bool, true, List, [], ◌∷◌, ◌++◌, length, map, slice_get, None, Some}
+use Rattle.std.specs.Prelude.{ℕ, ◌≡◌, ◌≢◌, ◌≤◌, Bool, true, List, [], ◌∷◌, ◌++◌, length, map, slice_get, None, Some, IsSome}
 use Rattle.std.specs.List.{AllByRecursion}
 use Rattle.atomic_table.specs.Seated.{TableId}
-use Rattle.hx_types.specs.declared.calls.Caller.{Caller}
-use Rattle.hx_types.specs.declared.ids.Actor.{Actor}
+use Rattle.hx_model.specs.Types.{Actor, Caller, Entry, Halt, PostId, Script}
 use Rattle.hx_types.specs.declared.limits.TheConstants.{MOST_ENTRIES}
-use Rattle.hx_types.specs.declared.messages.PostId.{PostId}
-use Rattle.hx_types.specs.declared.traces.Entry.{Entry}
-use Rattle.hx_types.specs.declared.traces.Script.{Script}
 use Rattle.hx_types.specs.Fitting.{IsScript, call_of}
 use Rattle.hx_types.specs.Words.{IsIn}
-use Rattle.std.specs.Prelude.{IsSome}
-use Rattle.hx_types.specs.declared.traces.Input.TheVariants.{Halt}
 use Rattle.hx_model.specs.Histories.{note_of_end}
 use Rattle.hx_model.specs.Runs.{entry_at, IsRun}
 use Rattle.hx_model.specs.Schedule.{entries_of}

@@ -1,7 +1,7 @@
 -- Drivers at rest: nothing is kept, all that was put was taken, and no session can begin its next call.
 use Rattle.std.specs.Prelude.{ℕ, ◌≡◌, ◌+◌, true, false, List, [], slice_get, None, Some}
 use Rattle.std.specs.List.{AllByRecursion}
-use Rattle.hx_types.specs.declared.traces.Script.{Script}
+use Rattle.hx_model.specs.Types.{Script}
 use Rattle.hx_types.specs.Words.{IsIn}
 use Rattle.hx_law_threads.specs.Cuts.{is_idle_actor}
 use Rattle.hx_machine.specs.Machines.{has_ended}

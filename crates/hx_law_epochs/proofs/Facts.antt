@@ -1,15 +1,8 @@
 -- What every run keeps of configurations, the coordinator, servers and the posts that speak of epochs.
 use Rattle.std.proofs.Common.{◌≡◌, ◌≤◌, true, false, List, Some}
 use Rattle.std.specs.Prelude.{⊤}
-use Rattle.hx_types.specs.declared.configs.Config.{Config}
-use Rattle.hx_types.specs.declared.ids.Actor.{Actor}
-use Rattle.hx_types.specs.declared.ids.Epoch.{Epoch}
-use Rattle.hx_types.specs.declared.ids.RegionId.{RegionId}
-use Rattle.hx_types.specs.declared.ids.ServerId.{ServerId}
-use Rattle.hx_types.specs.declared.messages.Message.{Message}
-use Rattle.hx_types.specs.declared.messages.Post.{Post}
+use Rattle.hx_model.specs.Types.{Actor, Config, Coordinator, Epoch, Message, Post, RegionId, Server, ServerId, Session}
 use Rattle.hx_types.specs.declared.messages.Message.TheVariants as a_message
-use Rattle.hx_types.specs.declared.ids.Actor.TheVariants.{Coordinator, Server, Session}
 use Rattle.hx_types.specs.Words.{IsIn}
 use Rattle.hx_types.specs.Configs.{is_lost, joiner_for, lists_ready}
 use Rattle.hx_model.specs.ServerSteps.{Replica, ServerState, replica_of}

@@ -3,11 +3,7 @@ use Rattle.std.proofs.Common.{◌≡◌, ◌+◌, ◌⊎◌, inl, inr, Bool, tru
 use Rattle.std.specs.List.{filter}
 use Rattle.std.proofs.lemmas.Bool.{and_from, and_parts, cases_Bool, cond_both, eq-eqb, false≢true, or_cases}
 use Rattle.std.proofs.lemmas.List.{map-append}
-use Rattle.hx_types.specs.declared.configs.Config.{Config}
-use Rattle.hx_types.specs.declared.configs.Member.{Member}
-use Rattle.hx_types.specs.declared.ids.Epoch.{Epoch}
-use Rattle.hx_types.specs.declared.ids.RegionId.{RegionId}
-use Rattle.hx_types.specs.declared.ids.ServerId.{ServerId}
+use Rattle.hx_model.specs.Types.{Config, Epoch, Member, RegionId, ServerId}
 use Rattle.hx_types.specs.Words.{IsBefore, IsIn, same_server}
 use Rattle.hx_types.specs.Configs.{any_ready, is_lost, lists, lists_joining, lists_ready, members_of}
 use Rattle.hx_law_lemmas.proofs.Lemmas.{any-in, in-append, in-filter, in-map, in_left, map-in, Differ, server-same, before-in, fewer-before, fewer-differ}

@@ -1,8 +1,6 @@
 -- A configuration that has grown out of another: servers only leave, and lists grow at their end alone.
 use Rattle.std.proofs.Common.{◌≡◌, ◌≤◌, true, subst, arith}
-use Rattle.hx_types.specs.declared.configs.Config.{Config}
-use Rattle.hx_types.specs.declared.ids.RegionId.{RegionId}
-use Rattle.hx_types.specs.declared.ids.ServerId.{ServerId}
+use Rattle.hx_model.specs.Types.{Config, RegionId, ServerId}
 use Rattle.hx_types.specs.Words.{IsBefore, IsIn}
 use Rattle.hx_types.specs.Configs.{is_lost, members_of}
 use Rattle.hx_law_lemmas.proofs.Lemmas.{before-in, in-listed, listed-in}

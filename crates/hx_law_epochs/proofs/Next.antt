@@ -3,10 +3,7 @@ use Rattle.std.proofs.Common.{◌≡◌, ℕ, zero, suc, ◌⊎◌, inl, inr, Bo
 use Rattle.std.proofs.Common.{◌∙◌, subst, cond}
 use Rattle.std.specs.List.{filter, list_any, slice_get, slice_set}
 use Rattle.std.proofs.lemmas.Bool.{and_from, cases_Bool, cases_eq, cond_both, eq-eqb, false≢true}
-use Rattle.hx_types.specs.declared.configs.Config.{Config}
-use Rattle.hx_types.specs.declared.configs.Member.{Member}
-use Rattle.hx_types.specs.declared.ids.RegionId.{RegionId}
-use Rattle.hx_types.specs.declared.ids.ServerId.{ServerId}
+use Rattle.hx_model.specs.Types.{Config, Member, RegionId, ServerId}
 use Rattle.hx_types.specs.declared.calls.Answer.TheVariants as an_answer
 use Rattle.hx_types.specs.Words.{IsBefore, IsIn, same_server, server_in, when_some}
 use Rattle.hx_types.specs.Configs.{any_joining, any_ready, is_lost, lists_ready, members_of}

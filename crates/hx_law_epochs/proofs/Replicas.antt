@@ -1,10 +1,7 @@
 -- A server's replicas: those of the regions in which its configuration lists it, each once, empty where not installed; what changes of them keeps this.
 use Rattle.std.proofs.Common.{◌≡◌, inl, inr, Bool, true, false, List, [], map, Option, Some, None, refl, sym, ap, ◌∙◌, subst, cond}
 use Rattle.std.proofs.lemmas.Bool.{cond_both}
-use Rattle.hx_types.specs.declared.configs.Config.{Config}
-use Rattle.hx_types.specs.declared.ids.RegionId.{RegionId}
-use Rattle.hx_types.specs.declared.ids.ServerId.{ServerId}
-use Rattle.hx_types.specs.declared.spaces.Space.{Space}
+use Rattle.hx_model.specs.Types.{Config, RegionId, ServerId, Space}
 use Rattle.hx_types.specs.Words.{IsIn, when_some}
 use Rattle.hx_types.specs.Configs.{first_config, is_lost, lists}
 use Rattle.hx_model.specs.Slots.{KeyState}

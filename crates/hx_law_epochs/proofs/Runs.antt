@@ -3,23 +3,9 @@ use Rattle.std.proofs.Common.{◌≡◌, ℕ, zero, suc, ◌+◌, ◌-◌, ◌<�
 use Rattle.std.proofs.Common.{◌∙◌, subst, arith, cond, eqb, ltb, leb}
 use Rattle.std.proofs.lemmas.Bool.{and_from, and_parts, cond_both, cond-false, cond-true, eq-eqb, eqb-true, le-leb, leb-true, lt-ltb, ltb-true, ne_eqb}
 use Rattle.std.proofs.lemmas.Bool.{cases_lt}
-use Rattle.hx_types.specs.declared.configs.Config.{Config}
-use Rattle.hx_types.specs.declared.ids.Actor.{Actor}
-use Rattle.hx_types.specs.declared.ids.Epoch.{Epoch}
-use Rattle.hx_types.specs.declared.ids.RegionId.{RegionId}
-use Rattle.hx_types.specs.declared.ids.ServerId.{ServerId}
-use Rattle.hx_types.specs.declared.ids.SessionId.{SessionId}
-use Rattle.hx_types.specs.declared.messages.Message.{Message}
-use Rattle.hx_types.specs.declared.messages.Post.{Post}
-use Rattle.hx_types.specs.declared.messages.PostId.{PostId}
-use Rattle.hx_types.specs.declared.spaces.Space.{Space}
-use Rattle.hx_types.specs.declared.traces.Entry.{Entry}
-use Rattle.hx_types.specs.declared.traces.Input.{Input}
-use Rattle.hx_types.specs.declared.traces.Note.{Note}
-use Rattle.hx_types.specs.declared.traces.Script.{Script}
+use Rattle.hx_model.specs.Types.{Actor, Config, Coordinator, Deliver, Entry, Epoch, Input, Message, Note, Post, PostId, RegionId, Script, Server, ServerId}
+use Rattle.hx_model.specs.Types.{Session, SessionId, Space}
 use Rattle.hx_types.specs.declared.messages.Message.TheVariants as a_message
-use Rattle.hx_types.specs.declared.ids.Actor.TheVariants.{Coordinator, Server, Session}
-use Rattle.hx_types.specs.declared.traces.Input.TheVariants.{Deliver}
 use Rattle.hx_types.specs.declared.traces.Note.TheVariants as a_note
 use Rattle.hx_types.specs.Words.{IsIn, below, first_some, post, same_server}
 use Rattle.hx_types.specs.Configs.{first_config, is_lost, lists_ready, members_of}
@@ -33,8 +19,7 @@ use Rattle.hx_model.specs.Runs.{IsRun, IsStep, Output, MayTake, coordinator_afte
 use Rattle.hx_model.specs.Runs.{session_after, session_of}
 use Rattle.hx_law_lemmas.specs.Words.{posts_of}
 use Rattle.hx_law_lemmas.proofs.Lemmas.{before-first, in-below, in-map, in_left, in_right, map-in, all-ready, listed-in, started, arrived, members-differ}
-use Rattle.hx_law_lemmas.proofs.Lemmas.{session_turn}
-use Rattle.hx_law_lemmas.proofs.Lemmas.{SaysOf}
+use Rattle.hx_law_lemmas.proofs.Lemmas.{session_turn, SaysOf}
 use Rattle.hx_law_posts.proofs.Lemmas.{first-of_space, member-server}
 use Rattle.hx_law_epochs.specs.Epochs.{FollowsOn, RunsOn, WasIssued}
 use Rattle.hx_law_epochs.proofs.Controls.{Controls}

@@ -3,24 +3,12 @@ use Rattle.hx_model.specs.Lines.{no_version}
 use Rattle.std.proofs.Common.{◌≡◌, ℕ, ◌+◌, ◌<◌, ◌⊎◌, inl, inr, Bool, true, false, if◌then◌else◌, List, [], ◌++◌, Option, Some, None, refl, ap, ◌∙◌, map, eqb, ltb}
 use Rattle.std.proofs.lemmas.Bool.{cond_both, ltb-true}
 use Rattle.std.specs.Prelude.{◌&&◌}
-use Rattle.hx_types.specs.declared.configs.Config.{Config}
-use Rattle.hx_types.specs.declared.calls.Op.{Op}
-use Rattle.hx_types.specs.declared.ids.Actor.{Actor}
-use Rattle.hx_types.specs.declared.ids.Epoch.{Epoch}
-use Rattle.hx_types.specs.declared.ids.RegionId.{RegionId}
-use Rattle.hx_types.specs.declared.messages.Message.{Message}
-use Rattle.hx_types.specs.declared.messages.PostId.{PostId}
-use Rattle.hx_types.specs.declared.outcomes.Planned.{Planned}
-use Rattle.hx_types.specs.declared.spaces.Space.{Space}
-use Rattle.hx_types.specs.declared.traces.Input.{Input}
-use Rattle.hx_types.specs.declared.values.Term.{Term}
-use Rattle.hx_types.specs.declared.calls.Row.{Row}
+use Rattle.hx_model.specs.Types.{Actor, Add, Atomic, Config, Cput, Del, Deliver, Epoch, Get, Halt, Input, Message, Op, Planned, PostId, Put, RegionId, Row}
+use Rattle.hx_model.specs.Types.{Search, Space, Stop, Term, Tick}
 use Rattle.std.specs.List.{list_any}
 use Rattle.hx_types.specs.declared.calls.Answer.TheVariants as an_answer
-use Rattle.hx_types.specs.declared.calls.Op.TheVariants.{Put, Get, Del, Cput, Search, Stop, Add, Atomic}
 use Rattle.hx_types.specs.declared.messages.Message.TheVariants as a_message
 use Rattle.hx_types.specs.declared.outcomes.Planned.TheVariants as a_plan
-use Rattle.hx_types.specs.declared.traces.Input.TheVariants.{Tick, Halt, Deliver}
 use Rattle.hx_types.specs.Words.{when_some}
 use Rattle.hx_types.specs.Configs.{is_lost}
 use Rattle.hx_types.specs.Fitting.{numbered}

@@ -1,15 +1,8 @@
 -- What is kept of epochs stays so where more is posted and where one more configuration is known, which follows on the newest.
 use Rattle.std.proofs.Common.{◌≡◌, ◌+◌, ◌≤◌, ◌⊎◌, inl, inr, true, List, ◌++◌, sym, ap, ◌∙◌, subst, arith}
 use Rattle.std.proofs.lemmas.Bool.{false≢true}
-use Rattle.hx_types.specs.declared.configs.Config.{Config}
-use Rattle.hx_types.specs.declared.ids.Actor.{Actor}
-use Rattle.hx_types.specs.declared.ids.Epoch.{Epoch}
-use Rattle.hx_types.specs.declared.ids.RegionId.{RegionId}
-use Rattle.hx_types.specs.declared.ids.ServerId.{ServerId}
-use Rattle.hx_types.specs.declared.messages.Message.{Message}
-use Rattle.hx_types.specs.declared.messages.Post.{Post}
+use Rattle.hx_model.specs.Types.{Actor, Config, Coordinator, Epoch, Message, Post, RegionId, Server, ServerId, Session}
 use Rattle.hx_types.specs.declared.messages.Message.TheVariants as a_message
-use Rattle.hx_types.specs.declared.ids.Actor.TheVariants.{Coordinator, Server, Session}
 use Rattle.hx_types.specs.Words.{IsIn}
 use Rattle.hx_types.specs.Configs.{lists_ready}
 use Rattle.hx_model.specs.ServerSteps.{ServerState}

@@ -1,18 +1,8 @@
 -- Configurations of every run: how each follows on the one before, and which servers have halted where it is issued.
 use Rattle.std.specs.Prelude.{◌≡◌, ◌+◌, ◌≤◌, ◌⊎◌, true, false, List, ◌∷◌, map, is_some, ⊤, Some}
-use Rattle.hx_types.specs.declared.configs.Config.{Config}
-use Rattle.hx_types.specs.declared.configs.Member.{Member}
-use Rattle.hx_types.specs.declared.ids.Actor.{Actor}
-use Rattle.hx_types.specs.declared.ids.Epoch.{Epoch}
-use Rattle.hx_types.specs.declared.ids.RegionId.{RegionId}
-use Rattle.hx_types.specs.declared.ids.ServerId.{ServerId}
-use Rattle.hx_types.specs.declared.ids.SessionId.{SessionId}
-use Rattle.hx_types.specs.declared.messages.Message.{Message}
-use Rattle.hx_types.specs.declared.ids.Actor.TheVariants.{Server}
+use Rattle.hx_model.specs.Types.{Actor, Config, Entry, Epoch, Member, Message, RegionId, Script, Server, ServerId, SessionId}
 use Rattle.hx_types.specs.declared.messages.Message.TheVariants as a_message
-use Rattle.hx_types.specs.declared.traces.Entry.{Entry}
 use Rattle.hx_types.specs.declared.traces.Note.TheVariants as a_note
-use Rattle.hx_types.specs.declared.traces.Script.{Script}
 use Rattle.hx_types.specs.Words.{IsBefore, IsIn, post}
 use Rattle.hx_types.specs.Configs.{is_lost, lists, lists_joining, lists_ready, members_of}
 use Rattle.hx_types.specs.Fitting.{IsScript}

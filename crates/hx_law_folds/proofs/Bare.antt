@@ -4,12 +4,10 @@ use Rattle.std.proofs.Common.{◌≡◌, ℕ, zero, suc, ◌<◌, ◌≤◌, Boo
 use Rattle.std.specs.Prelude.{⊤}
 use Rattle.std.specs.List.{AllByRecursion, find}
 use Rattle.std.proofs.lemmas.Bool.{cond_both, cond-true, cond-false, lt-leb, le-leb}
-use Rattle.hx_types.specs.declared.ids.RegionId.{RegionId}
-use Rattle.hx_types.specs.declared.updates.Update.{Update}
+use Rattle.hx_model.specs.Types.{Kept, RegionId, Update}
 use Rattle.hx_types.specs.Words.{provided}
 use Rattle.hx_model.specs.Slots.{Acknowledge, Commit, Forget, Hold, KeyState, Move, Take, follows, kept_row, marks_after, moved, moved_all, offered, top_above, top_of, touches_after, turns}
 use Rattle.hx_model.specs.ServerSteps.{state_from}
-use Rattle.hx_types.specs.declared.snapshots.Kept.{Kept}
 use Rattle.hx_law_folds.specs.Folding.{Descends, IsBare, IsLater, IsSlotOf, above, folded, kept_over}
 use Rattle.hx_law_folds.proofs.Folds.{folded-twice, marks-parts, touches-parts}
 use Rattle.hx_law_folds.proofs.Lists.{row-append, top-append}

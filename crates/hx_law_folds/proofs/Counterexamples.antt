@@ -2,11 +2,7 @@
 use Rattle.std.specs.Option.{option_map}
 use Rattle.std.specs.Prelude.{◌≡◌, ℕ, Bool, true, false, List, [], ◌∷◌, length, Option, Some, None}
 use Rattle.hx_types.specs.declared.calls.Answer.TheVariants as an_answer
-use Rattle.hx_types.specs.declared.ids.RegionId.{RegionId}
-use Rattle.hx_types.specs.declared.ids.SessionId.{SessionId}
-use Rattle.hx_types.specs.declared.snapshots.Mark.{Mark}
-use Rattle.hx_types.specs.declared.calls.Row.{Row}
-use Rattle.hx_types.specs.declared.updates.Update.{Update}
+use Rattle.hx_model.specs.Types.{Mark, RegionId, Row, SessionId, Update}
 use Rattle.hx_model.specs.ServerSteps.{offered_all, state_from}
 use Rattle.hx_model.specs.Slots.{Commit, KeyState, kept_of, latest_of, mark_among, mark_of, marks_after, moved, moved_all, no_kept, object_of, pending_of, snapshot_of, top_of, touches_of}
 use Rattle.hx_law_folds.specs.Folding.{folded}

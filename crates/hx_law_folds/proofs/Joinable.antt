@@ -4,22 +4,9 @@ use Rattle.std.specs.Prelude.{not}
 use Rattle.std.specs.List.{AllByRecursion, filter}
 use Rattle.std.specs.Option.{IfSome}
 use Rattle.std.proofs.lemmas.Bool.{cond_both, eqb-true, ltb-true}
-use Rattle.hx_types.specs.declared.calls.Caller.{Caller}
-use Rattle.hx_types.specs.declared.calls.Op.{Op}
-use Rattle.hx_types.specs.declared.configs.Config.{Config}
-use Rattle.hx_types.specs.declared.messages.Message.{Message}
-use Rattle.hx_types.specs.declared.ids.Actor.{Actor}
-use Rattle.hx_types.specs.declared.ids.Epoch.{Epoch}
-use Rattle.hx_types.specs.declared.ids.RegionId.{RegionId}
-use Rattle.hx_types.specs.declared.ids.ServerId.{ServerId}
-use Rattle.hx_types.specs.declared.snapshots.Kept.{Kept}
-use Rattle.hx_types.specs.declared.spaces.Space.{Space}
-use Rattle.hx_types.specs.declared.traces.Input.{Input}
-use Rattle.hx_types.specs.declared.updates.Update.{Update}
-use Rattle.hx_types.specs.declared.values.Term.{Term}
+use Rattle.hx_model.specs.Types.{Actor, Caller, Config, Coordinator, Deliver, Epoch, Halt, Input, Kept, Message, Op, RegionId, Server, ServerId, Session, Space}
+use Rattle.hx_model.specs.Types.{Term, Tick, Update}
 use Rattle.hx_types.specs.declared.messages.Message.TheVariants as a_message
-use Rattle.hx_types.specs.declared.ids.Actor.TheVariants.{Coordinator, Server, Session}
-use Rattle.hx_types.specs.declared.traces.Input.TheVariants.{Tick, Halt, Deliver}
 use Rattle.hx_types.specs.Configs.{first_config, is_lost, leads}
 use Rattle.hx_types.specs.Effects.{key_of}
 use Rattle.hx_types.specs.Subspaces.{is_key_region}
@@ -28,12 +15,11 @@ use Rattle.hx_model.proofs.Lemmas.{base-moved_all, eq_of_same_text}
 use Rattle.hx_model.specs.Hearing.{hears_ack, hears_snap, hears_update}
 use Rattle.hx_model.specs.Neighbours.{place_number}
 use Rattle.hx_model.specs.Regions.{key_region}
-use Rattle.hx_model.specs.ServerSteps.{Replica, ServerState, ServerStep, SlotContext, SlotStep, Slots, accepting, ack_step, acked, acked_of}
-use Rattle.hx_model.specs.ServerSteps.{adopted, adopted_replica, adopted_state, asked, at_slot, call_at, call_step, called, called_by}
-use Rattle.hx_model.specs.ServerSteps.{context_of, if_installed, input_step, install_at, installed_slots, is_active, join_keys, join_slot}
-use Rattle.hx_model.specs.ServerSteps.{keys_of, listed_regions, message_step, offered_all, pending_with, ready_post, replica_for}
-use Rattle.hx_model.specs.ServerSteps.{replica_of, replica_or_new, resumed, saying, server_at_start, server_step, snapped, state_from}
-use Rattle.hx_model.specs.ServerSteps.{state_in, unmoved, update_step, updated, with_config, with_slots}
+use Rattle.hx_model.specs.ServerSteps.{Replica, ServerState, ServerStep, SlotContext, SlotStep, Slots, accepting, ack_step, acked, acked_of, adopted}
+use Rattle.hx_model.specs.ServerSteps.{adopted_replica, adopted_state, asked, at_slot, call_at, call_step, called, called_by, context_of, if_installed}
+use Rattle.hx_model.specs.ServerSteps.{input_step, install_at, installed_slots, is_active, join_keys, join_slot, keys_of, listed_regions, message_step}
+use Rattle.hx_model.specs.ServerSteps.{offered_all, pending_with, ready_post, replica_for, replica_of, replica_or_new, resumed, saying, server_at_start}
+use Rattle.hx_model.specs.ServerSteps.{server_step, snapped, state_from, state_in, unmoved, update_step, updated, with_config, with_slots}
 use Rattle.hx_model.specs.Slots.{KeyState, kept_of, snapshot_of, moved_all, state_among, with_state}
 use Rattle.hx_law_folds.specs.Folding.{CanJoin, KeysDiffer, InputJoins, IsAfter, IsJoinable, IsJoinableReplica, IsJoinableServer, KeptsAscend, KeysAscend, MessageJoins}
 use Rattle.hx_law_folds.proofs.Owning.{ack-joinable, adopted-joinable, call-joinable, join-joinable, joinable-from, joinable-new, joinable-sent, update-joinable}

@@ -5,10 +5,7 @@ use Rattle.std.specs.Prelude.{⊤}
 use Rattle.std.specs.List.{AllByRecursion, filter, find, flat_map, list_any}
 use Rattle.std.proofs.lemmas.Bool.{cond_both, cond-true, cond-false, lt-leb}
 use Rattle.std.proofs.lemmas.List.{map-append, reverse-append}
-use Rattle.hx_types.specs.declared.messages.Post.{Post}
-use Rattle.hx_types.specs.declared.ids.RegionId.{RegionId}
-use Rattle.hx_types.specs.declared.snapshots.Kept.{Kept}
-use Rattle.hx_types.specs.declared.updates.Update.{Update}
+use Rattle.hx_model.specs.Types.{Kept, Post, RegionId, Update}
 use Rattle.hx_types.specs.Words.{provided}
 use Rattle.hx_model.proofs.Lemmas.{moved_all-++}
 use Rattle.hx_model.specs.Neighbours.{is_end}

@@ -4,12 +4,7 @@ use Rattle.std.proofs.Common.{◌≡◌, ℕ, zero, suc, ◌<◌, Bool, true, fa
 use Rattle.std.specs.Prelude.{⊤}
 use Rattle.std.specs.List.{AllByRecursion, filter, find, list_any}
 use Rattle.std.proofs.lemmas.Bool.{cond_both, cond-false, lt-leb}
-use Rattle.hx_types.specs.declared.calls.Caller.{Caller}
-use Rattle.hx_types.specs.declared.calls.Op.{Op}
-use Rattle.hx_types.specs.declared.ids.RegionId.{RegionId}
-use Rattle.hx_types.specs.declared.outcomes.Decision.{Decision}
-use Rattle.hx_types.specs.declared.snapshots.Kept.{Kept}
-use Rattle.hx_types.specs.declared.updates.Update.{Update}
+use Rattle.hx_model.specs.Types.{Caller, Decision, Kept, Op, RegionId, Update}
 use Rattle.hx_types.specs.declared.outcomes.Decision.TheVariants as a_decision
 use Rattle.hx_types.specs.Effects.{is_write}
 use Rattle.hx_types.specs.Words.{provided, same_text}

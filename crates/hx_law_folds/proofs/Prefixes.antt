@@ -3,11 +3,7 @@ use Rattle.hx_model.specs.Lines.{upto}
 use Rattle.std.proofs.Common.{◌≡◌, ℕ, ◌≤◌, Bool, true, List, [], ◌∷◌, ◌++◌, Option, None, refl, ap, sym, ◌∙◌, arith, leb, append_assoc}
 use Rattle.std.specs.List.{AllByRecursion, filter}
 use Rattle.std.proofs.lemmas.Bool.{cond_both, cond-true, cond-false, leb-true, leb-false, le-leb, lt-leb}
-use Rattle.hx_types.specs.declared.calls.Row.{Row}
-use Rattle.hx_types.specs.declared.ids.RegionId.{RegionId}
-use Rattle.hx_types.specs.declared.snapshots.Mark.{Mark}
-use Rattle.hx_types.specs.declared.snapshots.Touch.{Touch}
-use Rattle.hx_types.specs.declared.updates.Update.{Update}
+use Rattle.hx_model.specs.Types.{Mark, RegionId, Row, Touch, Update}
 use Rattle.hx_types.specs.Words.{provided}
 use Rattle.hx_model.specs.Holders.{IsPrefix, only_in}
 use Rattle.hx_model.specs.Slots.{KeyState, has_place, kept_of, kept_row, latest_of, marks_after, object_in, object_of, top_above, top_of, touches_after, touches_of}

@@ -4,23 +4,9 @@ use Rattle.std.specs.Prelude.{◌&&◌}
 use Rattle.std.specs.List.{AllByRecursion, find, flat_map, slice_get}
 use Rattle.std.specs.Option.{IfSome, option_map}
 use Rattle.std.proofs.lemmas.Bool.{cond_both, cond-true, cond-false, eqb-true}
-use Rattle.hx_types.specs.declared.calls.Caller.{Caller}
-use Rattle.hx_types.specs.declared.calls.Op.{Op}
-use Rattle.hx_types.specs.declared.configs.Config.{Config}
-use Rattle.hx_types.specs.declared.messages.Message.{Message}
-use Rattle.hx_types.specs.declared.messages.Post.{Post}
-use Rattle.hx_types.specs.declared.ids.Actor.{Actor}
-use Rattle.hx_types.specs.declared.ids.Epoch.{Epoch}
-use Rattle.hx_types.specs.declared.ids.RegionId.{RegionId}
-use Rattle.hx_types.specs.declared.ids.ServerId.{ServerId}
-use Rattle.hx_types.specs.declared.snapshots.Kept.{Kept}
-use Rattle.hx_types.specs.declared.spaces.Space.{Space}
-use Rattle.hx_types.specs.declared.traces.Input.{Input}
-use Rattle.hx_types.specs.declared.updates.Update.{Update}
-use Rattle.hx_types.specs.declared.values.Term.{Term}
+use Rattle.hx_model.specs.Types.{Actor, Caller, Config, Coordinator, Deliver, Epoch, Halt, Input, Kept, Message, Op, Post, RegionId, Server, ServerId, Session}
+use Rattle.hx_model.specs.Types.{Space, Term, Tick, Update}
 use Rattle.hx_types.specs.declared.messages.Message.TheVariants as a_message
-use Rattle.hx_types.specs.declared.ids.Actor.TheVariants.{Coordinator, Server, Session}
-use Rattle.hx_types.specs.declared.traces.Input.TheVariants.{Tick, Halt, Deliver}
 use Rattle.hx_types.specs.Configs.{is_lost, joiner_for, leads, lists_ready}
 use Rattle.hx_types.specs.Effects.{key_of}
 use Rattle.hx_types.specs.Subspaces.{is_key_region}
@@ -28,12 +14,11 @@ use Rattle.hx_types.specs.Words.{post, provided, same_region, when_some}
 use Rattle.hx_model.specs.Regions.{key_region}
 use Rattle.hx_model.specs.Hearing.{hears_ack, hears_snap, hears_update}
 use Rattle.hx_model.specs.Neighbours.{place_number}
-use Rattle.hx_model.specs.ServerSteps.{Replica, ServerState, ServerStep, SlotStep, ack_step, acked, acked_of, adopted, adopted_posts}
-use Rattle.hx_model.specs.ServerSteps.{adopted_replica, asked, asking_last, at_slot, call_at, call_step, called, called_by, context_of}
-use Rattle.hx_model.specs.ServerSteps.{halting, if_installed, input_step, install_at, installed_slots, is_active, listed_regions, meeting}
-use Rattle.hx_model.specs.ServerSteps.{message_step, pending_with, ready_post, replica_for, replica_of, replica_or_new, replica_tick}
-use Rattle.hx_model.specs.ServerSteps.{saying, server_step, snap_posts, snap_to, snapped, state_in, tick_step, unmoved, update_step}
-use Rattle.hx_model.specs.ServerSteps.{updated, with_config, with_replica, with_slot}
+use Rattle.hx_model.specs.ServerSteps.{Replica, ServerState, ServerStep, SlotStep, ack_step, acked, acked_of, adopted, adopted_posts, adopted_replica, asked}
+use Rattle.hx_model.specs.ServerSteps.{asking_last, at_slot, call_at, call_step, called, called_by, context_of, halting, if_installed, input_step, install_at}
+use Rattle.hx_model.specs.ServerSteps.{installed_slots, is_active, listed_regions, meeting, message_step, pending_with, ready_post, replica_for, replica_of}
+use Rattle.hx_model.specs.ServerSteps.{replica_or_new, replica_tick, saying, server_step, snap_posts, snap_to, snapped, state_in, tick_step, unmoved}
+use Rattle.hx_model.specs.ServerSteps.{update_step, updated, with_config, with_replica, with_slot}
 use Rattle.hx_model.specs.Slots.{KeyState, state_among, moved_all, with_state}
 use Rattle.hx_law_folds.specs.Folding.{InputFits, IsAfter, IsReplicaOf, IsServerOf, IsSlotOf, MessageFits, StepFolds}
 use Rattle.hx_law_folds.specs.Folding.{folded, folded_replica, folded_server, folded_step}

@@ -1,11 +1,9 @@
 -- Slots that differ in their past alone show the same.
 use Rattle.std.proofs.Common.{◌≡◌, ℕ, not, List, [], ◌∷◌, ◌++◌, length, ap, sym, ◌∙◌, subst, cond, eqb, leb}
 use Rattle.std.specs.List.{list_any}
-use Rattle.hx_types.specs.declared.configs.Config.{Config}
-use Rattle.hx_types.specs.declared.ids.RegionId.{RegionId}
+use Rattle.hx_model.specs.Types.{Config, RegionId, Update}
 use Rattle.hx_types.specs.declared.outcomes.Acked.TheVariants as an_ack
 use Rattle.hx_types.specs.declared.outcomes.Offer.TheVariants.{Accepted, Known, Early}
-use Rattle.hx_types.specs.declared.updates.Update.{Update}
 use Rattle.hx_types.specs.Words.{provided}
 use Rattle.hx_model.specs.Leading.{stuck_among, stuck_of}
 use Rattle.hx_model.specs.ServerSteps.{SlotContext, accepting, tail_acks, resumed, with_commits}

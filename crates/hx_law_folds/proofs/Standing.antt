@@ -1,7 +1,6 @@
 -- A slot without a past stands for every slot with a past of which it is the fold, and its steps do too.
 use Rattle.std.proofs.Common.{◌≡◌, ℕ, List, [], ◌∷◌, ap, sym, ◌∙◌, subst}
-use Rattle.hx_types.specs.declared.ids.RegionId.{RegionId}
-use Rattle.hx_types.specs.declared.updates.Update.{Update}
+use Rattle.hx_model.specs.Types.{RegionId, Update}
 use Rattle.hx_model.specs.Slots.{Acknowledge, Forget, KeyState, Move, acknowledged, moved, moved_all, offered, settled}
 use Rattle.hx_law_folds.specs.Folding.{AreAlike, IsBare, IsLater, IsSlotOf, StandsFor, folded}
 use Rattle.hx_law_folds.proofs.Bare.{bare-offered, folded-bare}

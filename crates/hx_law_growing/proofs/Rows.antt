@@ -1,16 +1,8 @@
 -- Scripts with a call more, and what the schedule makes, computed on two sessions of the shop.
 use Rattle.std.specs.Prelude.{◌≡◌, ℕ, List, [], ◌∷◌, length, None}
 use Rattle.std.proofs.Common.{inl, refl, ap, arith}
-use Rattle.hx_types.specs.declared.calls.Op.{Op}
-use Rattle.hx_types.specs.declared.ids.Actor.{Actor}
-use Rattle.hx_types.specs.declared.messages.PostId.{PostId}
-use Rattle.hx_types.specs.declared.traces.Entry.{Entry}
-use Rattle.hx_types.specs.declared.traces.Input.{Input}
-use Rattle.hx_types.specs.declared.traces.Script.{Script}
+use Rattle.hx_model.specs.Types.{Actor, Deliver, Entry, Get, Input, Op, PostId, Script, Server, Session, Tick}
 use Rattle.hx_types.specs.declared.messages.Message.TheVariants as a_message
-use Rattle.hx_types.specs.declared.calls.Op.TheVariants.{Get}
-use Rattle.hx_types.specs.declared.ids.Actor.TheVariants.{Server, Session}
-use Rattle.hx_types.specs.declared.traces.Input.TheVariants.{Tick, Deliver}
 use Rattle.hx_model.specs.Runs.{entry_of, made_of}
 use Rattle.hx_model.specs.Schedule.{next_entry, scheduled}
 use Rattle.hx_model.proofs.Lemmas.{called, never, hand_made_put_color as put_color, hand_made_key as the_key, epoch, red, server, session}

@@ -1,10 +1,6 @@
 -- One caller alone makes the calls of a script: session after session, each submitted once the schedule has gone on from the one before.
 use Rattle.std.specs.Prelude.{◌≡◌, ℕ, ◌+◌, ◌<◌, true, List, [], ◌∷◌, length, replicate, Some, ⊤}
-use Rattle.hx_types.specs.declared.calls.Op.{Op}
-use Rattle.hx_types.specs.declared.ids.Actor.TheVariants.{Session}
-use Rattle.hx_types.specs.declared.ids.SessionId.{SessionId}
-use Rattle.hx_types.specs.declared.traces.Entry.{Entry}
-use Rattle.hx_types.specs.declared.traces.Script.{Script}
+use Rattle.hx_model.specs.Types.{Entry, Op, Script, Session, SessionId}
 use Rattle.hx_types.specs.Fitting.{calls_of, numbered}
 use Rattle.hx_model.specs.Runs.{IsRun, is_actor}
 use Rattle.hx_model.specs.Schedule.{IsQuiet, IsScheduled, scheduled}

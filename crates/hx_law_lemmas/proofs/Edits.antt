@@ -4,19 +4,11 @@ use Rattle.std.specs.Prelude.{IsSomeAnd, nat_le}
 use Rattle.std.specs.List.{AllZip, slice_get, slice_set}
 use Rattle.std.proofs.lemmas.Bool.{cond_both, leb-true}
 use Rattle.std.proofs.lemmas.List.{length-append}
-use Rattle.hx_types.specs.declared.calls.Answer.{Answer}
+use Rattle.hx_model.specs.Types.{Answer, Atomic, Attribute, Edit, EditKind, Effect, Kind, Space, Value}
 use Rattle.hx_types.specs.declared.limits.TheConstants.{LONGEST_TEXT}
-use Rattle.hx_types.specs.declared.outcomes.Effect.{Effect}
-use Rattle.hx_types.specs.declared.spaces.Attribute.{Attribute}
-use Rattle.hx_types.specs.declared.spaces.Kind.{Kind}
-use Rattle.hx_types.specs.declared.spaces.Space.{Space}
-use Rattle.hx_types.specs.declared.values.Edit.{Edit}
-use Rattle.hx_types.specs.declared.values.EditKind.{EditKind}
-use Rattle.hx_types.specs.declared.values.Value.{Value}
 use Rattle.hx_types.specs.declared.calls.Answer.TheVariants as an_answer
 use Rattle.hx_types.specs.declared.spaces.Kind.TheVariants as a_kind
 use Rattle.hx_types.specs.declared.values.EditKind.TheVariants as an_edit
-use Rattle.hx_types.specs.declared.calls.Op.TheVariants.{Atomic}
 use Rattle.hx_types.specs.declared.values.Value.TheVariants as a_value
 use Rattle.hx_types.specs.Words.{IsIn, when_some}
 use Rattle.hx_types.specs.Effects.{and_then, changed_to, edit_answered, edit_of, edited_from, edited_value, effect_of, fits_64, left_as}

@@ -2,9 +2,7 @@
 use Rattle.hx_model.specs.Lines.{line_object, upto}
 use Rattle.std.proofs.Common.{◌≡◌, ℕ, inl, inr, false, List, [], ◌∷◌, sym, ap, ◌∙◌, subst, arith, leb}
 use Rattle.std.proofs.lemmas.Bool.{cond_both}
-use Rattle.hx_types.specs.declared.calls.Caller.{Caller}
-use Rattle.hx_types.specs.declared.traces.Script.{Script}
-use Rattle.hx_types.specs.declared.updates.Update.{Update}
+use Rattle.hx_model.specs.Types.{Caller, Script, Update}
 use Rattle.hx_types.specs.Words.{IsIn}
 use Rattle.hx_types.specs.Fitting.{is_done}
 use Rattle.hx_law_lemmas.proofs.Effects.{effect-done, effect-same}

@@ -1,7 +1,7 @@
 -- The newest calls that a coordinator knows.
 use Rattle.std.proofs.Common.{◌≡◌, ◌⊎◌, inl, inr, List, [], ◌∷◌, Some, ap, ◌∙◌}
 use Rattle.std.proofs.lemmas.Bool.{cond_both, eqb-true}
-use Rattle.hx_types.specs.declared.ids.SessionId.{SessionId}
+use Rattle.hx_model.specs.Types.{SessionId}
 use Rattle.hx_types.specs.Words.{IsIn, same_session}
 use Rattle.hx_model.specs.CoordinatorSteps.{Newest, newest_of, with_newest}
 

@@ -1,11 +1,7 @@
 -- The rows that a replica finds, where each of its slots keeps what its region keeps of the key's line up to a front.
 use Rattle.hx_model.specs.Lines.{upto}
 use Rattle.std.proofs.Common.{◌≡◌, ℕ, inl, inr, true, List, Some, None, sym, ap, ◌∙◌, subst}
-use Rattle.hx_types.specs.declared.calls.Row.{Row}
-use Rattle.hx_types.specs.declared.ids.RegionId.{RegionId}
-use Rattle.hx_types.specs.declared.spaces.Space.{Space}
-use Rattle.hx_types.specs.declared.updates.Update.{Update}
-use Rattle.hx_types.specs.declared.values.Term.{Term}
+use Rattle.hx_model.specs.Types.{RegionId, Row, Space, Term, Update}
 use Rattle.hx_types.specs.Words.{IsIn}
 use Rattle.hx_types.specs.Subspaces.{is_key_region}
 use Rattle.hx_model.specs.Matching.{matches}

@@ -1,8 +1,7 @@
 -- A line that stays up to a version, whatever entry comes next, stays so however the run goes on.
 use Rattle.hx_model.specs.Lines.{upto}
 use Rattle.std.proofs.Common.{◌≡◌, ℕ, inl, inr, List, [], ◌∷◌, refl, ◌∙◌, subst}
-use Rattle.hx_types.specs.declared.traces.Entry.{Entry}
-use Rattle.hx_types.specs.declared.traces.Script.{Script}
+use Rattle.hx_model.specs.Types.{Entry, Script}
 use Rattle.hx_model.specs.Runs.{IsRun}
 use Rattle.hx_model.specs.Histories.{line_of}
 use Rattle.hx_law_lemmas.specs.Facts.{IsPartOf, StaysUpTo}

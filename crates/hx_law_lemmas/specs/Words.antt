@@ -1,17 +1,10 @@
 -- Words that proofs share: all posts of a trace, a server's slot of a key, lines after notes, what a slot counts for.
 use Rattle.std.specs.Prelude.{ℕ, true, false, List, [], ◌∷◌, ◌++◌, cond}
-use Rattle.hx_types.specs.declared.configs.Config.{Config}
-use Rattle.hx_types.specs.declared.messages.Post.{Post}
-use Rattle.hx_types.specs.declared.ids.RegionId.{RegionId}
-use Rattle.hx_types.specs.declared.ids.ServerId.{ServerId}
-use Rattle.hx_types.specs.declared.spaces.Space.{Space}
-use Rattle.hx_types.specs.declared.updates.Update.{Update}
+use Rattle.hx_model.specs.Types.{Config, Entry, Note, Post, RegionId, ServerId, Space, Update}
 use Rattle.hx_types.specs.Words.{when_some}
 use Rattle.hx_model.specs.Slots.{Forget, KeyState, moved, new_state}
 use Rattle.hx_model.specs.ServerSteps.{Replica, ServerState, replica_of, state_in}
-use Rattle.hx_types.specs.declared.traces.Note.{Note}
 use Rattle.hx_model.specs.Histories.{line_notes}
-use Rattle.hx_types.specs.declared.traces.Entry.{Entry}
 
 -- what a slot is worth: where its server has halted, without acknowledgements and early updates
 abbrev pub view : ServerState → KeyState → KeyState

@@ -1,11 +1,6 @@
 -- In a run a session's calls that ended did so before its later ones began.
 use Rattle.std.proofs.Common.{◌≡◌, ℕ, ◌<◌, ◌+◌, inl, inr, List, [], ◌∷◌, ap, arith}
-use Rattle.hx_types.specs.declared.calls.Answer.{Answer}
-use Rattle.hx_types.specs.declared.calls.Caller.{Caller}
-use Rattle.hx_types.specs.declared.ids.SessionId.{SessionId}
-use Rattle.hx_types.specs.declared.ids.Version.{Version}
-use Rattle.hx_types.specs.declared.traces.Entry.{Entry}
-use Rattle.hx_types.specs.declared.traces.Script.{Script}
+use Rattle.hx_model.specs.Types.{Answer, Caller, Entry, Script, SessionId, Version}
 use Rattle.hx_model.specs.Runs.{IsRun, session_of}
 use Rattle.hx_law_lemmas.proofs.Lemmas.{started, end-noted, begins_now, ends_now, may_start, BeganAt, EndedAt, began_at, ended_at}
 use Rattle.hx_law_lemmas.specs.Facts.{Facts}

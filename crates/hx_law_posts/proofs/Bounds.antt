@@ -1,18 +1,9 @@
 -- What bounds the state of an actor after so many entries, and that it bounds it after more of them.
 use Rattle.std.proofs.Common.{◌≡◌, ℕ, ◌+◌, ◌≤◌, true, arith}
-use Rattle.hx_types.specs.declared.calls.Answer.{Answer}
-use Rattle.hx_types.specs.declared.calls.Row.{Row}
-use Rattle.hx_types.specs.declared.ids.Actor.{Actor}
-use Rattle.hx_types.specs.declared.ids.RegionId.{RegionId}
-use Rattle.hx_types.specs.declared.snapshots.Kept.{Kept}
-use Rattle.hx_types.specs.declared.snapshots.Mark.{Mark}
-use Rattle.hx_types.specs.declared.spaces.Space.{Space}
-use Rattle.hx_types.specs.declared.updates.Update.{Update}
+use Rattle.hx_model.specs.Types.{Actor, Answer, Config, Coordinator, Kept, Mark, RegionId, Row, Server, Session, Space, Update}
 use Rattle.hx_types.specs.declared.calls.Answer.TheVariants as an_answer
-use Rattle.hx_types.specs.declared.ids.Actor.TheVariants.{Coordinator, Server, Session}
 use Rattle.hx_types.specs.Spaces.{IsConfigOf}
 use Rattle.hx_types.specs.Posts.{ActorExists, AnswerUpTo, Bounds, IsSessionOf, IsSoundAnswer, IsSoundKept, IsSoundUpdate, has_place_in}
-use Rattle.hx_types.specs.declared.configs.Config.{Config}
 use Rattle.hx_law_lemmas.proofs.Lemmas.{all-in, all-of}
 
 -- what bounds the posts of an entry

@@ -5,12 +5,7 @@ use Rattle.std.specs.List.{All, filter, slice_get, slice_set}
 use Rattle.std.proofs.lemmas.Bool.{and_from, cond_both, eq-eqb, false≢true}
 use Rattle.std.proofs.lemmas.List.{length-map, map-append}
 use Rattle.std.proofs.lemmas.List.Elements.{All-nil}
-use Rattle.hx_types.specs.declared.calls.Answer.{Answer}
-use Rattle.hx_types.specs.declared.configs.Config.{Config}
-use Rattle.hx_types.specs.declared.configs.Member.{Member}
-use Rattle.hx_types.specs.declared.ids.RegionId.{RegionId}
-use Rattle.hx_types.specs.declared.ids.ServerId.{ServerId}
-use Rattle.hx_types.specs.declared.spaces.Space.{Space}
+use Rattle.hx_model.specs.Types.{Answer, Config, Member, RegionId, ServerId, Space}
 use Rattle.hx_types.specs.declared.calls.Answer.TheVariants as an_answer
 use Rattle.hx_types.specs.Words.{IsIn, same_server, server_in, without_server}
 use Rattle.hx_types.specs.Configs.{any_joining, is_lost, lists_ready, members_of}

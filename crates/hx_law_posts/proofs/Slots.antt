@@ -1,10 +1,7 @@
 -- Sound slots: what a slot of a replica holds is of the space, and its versions are small; moves keep it so.
 use Rattle.std.proofs.Common.{ℕ, ◌≤◌, inl, inr, Bool, List, [], ◌∷◌, ◌++◌, refl, sym, subst, arith}
 use Rattle.std.proofs.lemmas.List.Elements.{All-nil}
-use Rattle.hx_types.specs.declared.ids.RegionId.{RegionId}
-use Rattle.hx_types.specs.declared.snapshots.Kept.{Kept}
-use Rattle.hx_types.specs.declared.spaces.Space.{Space}
-use Rattle.hx_types.specs.declared.updates.Update.{Update}
+use Rattle.hx_model.specs.Types.{Kept, RegionId, Space, Update}
 use Rattle.hx_types.specs.Words.{IsIn}
 use Rattle.hx_types.specs.Spaces.{KeyFits}
 use Rattle.hx_types.specs.Posts.{IsSoundKept}

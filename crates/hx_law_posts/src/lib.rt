@@ -1,7 +1,7 @@
 //! Laws of all runs: what is posted is sound, and versions and epochs stay small.
 #![tactic(auto)]
 
-ghost use Rattle.hx_types.specs.declared.traces.Script.{Script};
+ghost use Rattle.hx_model.specs.Types.{Script};
 ghost use Rattle.hx_types.specs.Fitting.{IsScript};
 ghost use Rattle.hx_law_posts.specs.Posts.{EpochsStaySmall, PostsStaySound, VersionsStaySmall};
 

@@ -2,16 +2,8 @@
 use Rattle.hx_model.specs.Lines.{upto}
 use Rattle.std.proofs.Common.{◌≡◌, ℕ, ◌-◌, ◌<◌, ◌⊎◌, inl, inr, List, [], ◌∷◌, refl, sym, ap, ◌∙◌, subst, arith, eqb}
 use Rattle.std.proofs.lemmas.Bool.{cond-true, eq-eqb, true≢false}
-use Rattle.hx_types.specs.declared.calls.Caller.{Caller}
-use Rattle.hx_types.specs.declared.messages.Post.{Post}
-use Rattle.hx_types.specs.declared.ids.Actor.{Actor}
-use Rattle.hx_types.specs.declared.ids.ServerId.{ServerId}
-use Rattle.hx_types.specs.declared.ids.SessionId.{SessionId}
-use Rattle.hx_types.specs.declared.traces.Entry.{Entry}
-use Rattle.hx_types.specs.declared.traces.Script.{Script}
-use Rattle.hx_types.specs.declared.updates.Update.{Update}
+use Rattle.hx_model.specs.Types.{Actor, Caller, Coordinator, Entry, Post, Script, Server, ServerId, Session, SessionId, Update}
 use Rattle.hx_types.specs.declared.messages.Message.TheVariants as a_message
-use Rattle.hx_types.specs.declared.ids.Actor.TheVariants.{Coordinator, Server, Session}
 use Rattle.hx_types.specs.Words.{IsIn, post}
 use Rattle.hx_model.specs.SessionSteps.{session_step}
 use Rattle.hx_model.specs.Runs.{IsRun, IsStep, Output, MayTake, coordinator_of, made_of, server_of, session_after, session_of}

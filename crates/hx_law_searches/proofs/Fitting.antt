@@ -3,22 +3,9 @@ use Rattle.std.proofs.Common.{◌≡◌, ℕ, ◌+◌, ◌⊎◌, inl, inr, Bool
 use Rattle.std.specs.Prelude.{reverse}
 use Rattle.std.proofs.lemmas.Bool.{and_from, and_parts, cond-true, eq-eqb, eqb-true, false≢true, or_left}
 use Rattle.hx_model.specs.Lines.{line_object, upto}
-use Rattle.hx_types.specs.declared.calls.Answer.{Answer}
-use Rattle.hx_types.specs.declared.calls.Caller.{Caller}
-use Rattle.hx_types.specs.declared.calls.Op.{Op}
-use Rattle.hx_types.specs.declared.ids.Actor.{Actor}
-use Rattle.hx_types.specs.declared.ids.ServerId.{ServerId}
-use Rattle.hx_types.specs.declared.ids.SessionId.{SessionId}
-use Rattle.hx_types.specs.declared.ids.Version.{Version}
-use Rattle.hx_types.specs.declared.spaces.Space.{Space}
-use Rattle.hx_types.specs.declared.traces.Entry.{Entry}
-use Rattle.hx_types.specs.declared.traces.Note.{Note}
-use Rattle.hx_types.specs.declared.traces.Script.{Script}
-use Rattle.hx_types.specs.declared.updates.Update.{Update}
-use Rattle.hx_types.specs.declared.values.Value.{Value}
+use Rattle.hx_model.specs.Types.{Actor, Answer, Atomic, Caller, Coordinator, Cput, Del, Effect, Entry, Get, Note, Op, Put, Script, Search, Server, ServerId}
+use Rattle.hx_model.specs.Types.{Session, SessionId, Space, Update, Value, Version}
 use Rattle.hx_types.specs.declared.calls.Answer.TheVariants as an_answer
-use Rattle.hx_types.specs.declared.calls.Op.TheVariants.{Put, Get, Del, Cput, Search, Atomic}
-use Rattle.hx_types.specs.declared.ids.Actor.TheVariants.{Coordinator, Server, Session}
 use Rattle.hx_types.specs.declared.traces.Note.TheVariants as a_note
 use Rattle.hx_types.specs.Words.{IsIn, same_actor, same_session, same_text, when_some}
 use Rattle.hx_types.specs.Effects.{changed_to, effect_of, is_write, key_of, left_as, tests_hold, written}
@@ -27,7 +14,6 @@ use Rattle.hx_model.proofs.Lemmas.{same_text_self}
 use Rattle.hx_model.specs.Histories.{line_notes, line_of}
 use Rattle.hx_model.specs.Runs.{IsRun, Output, coordinator_of, made_of, server_of, session_of}
 use Rattle.hx_model.specs.ServerSteps.{get_answer}
-use Rattle.hx_types.specs.declared.outcomes.Effect.{Effect}
 use Rattle.hx_law_lemmas.proofs.Lemmas.{atomic-both, any-in, in-append, in-map, in-reverse, in_left, in_right, of-reverse, CallStop, began_notes, end_notes}
 use Rattle.hx_law_lemmas.proofs.Lemmas.{started, BeganAt, EndedAt, of_session, session_self, SessionTurn, all_notes, update-at}
 use Rattle.hx_law_posts.proofs.Lemmas.{any-of}

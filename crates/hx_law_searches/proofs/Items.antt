@@ -1,12 +1,7 @@
 -- Where the items of a key's history stand, and that calls begin once.
 use Rattle.std.proofs.Common.{◌≡◌, ℕ, ◌<◌, inl, inr, true, false, List, [], ◌∷◌, ◌++◌, Option, Some, None, refl, sym, ◌∙◌, subst, arith, ltb, IsSome}
 use Rattle.std.proofs.lemmas.Bool.{lt-ltb, false≢true}
-use Rattle.hx_types.specs.declared.calls.Answer.{Answer}
-use Rattle.hx_types.specs.declared.calls.Caller.{Caller}
-use Rattle.hx_types.specs.declared.calls.Op.{Op}
-use Rattle.hx_types.specs.declared.traces.Entry.{Entry}
-use Rattle.hx_types.specs.declared.traces.Script.{Script}
-use Rattle.hx_types.specs.declared.updates.Update.{Update}
+use Rattle.hx_model.specs.Types.{Answer, Caller, Entry, Op, Script, Session, Update}
 use Rattle.hx_types.specs.declared.calls.Answer.TheVariants as an_answer
 use Rattle.hx_types.specs.Words.{IsIn, when_some}
 use Rattle.hx_types.specs.Fitting.{call_of, is_done, is_refused}
@@ -15,7 +10,6 @@ use Rattle.hx_model.specs.Histories.{begin_of, gets_of, history_of, history_on, 
 use Rattle.hx_model.specs.Linear.{began_before}
 use Rattle.hx_law_lemmas.proofs.Lemmas.{in_left, in_right, BeganAt, began_at, begin_is, begins_now}
 use Rattle.hx_types.specs.declared.traces.Note.TheVariants as a_note
-use Rattle.hx_types.specs.declared.ids.Actor.TheVariants.{Session}
 use Rattle.hx_law_lemmas.specs.Facts.{Facts}
 use Rattle.hx_law_searches.proofs.CallsKept.{calls_kept, turn_is}
 use Rattle.hx_law_searches.proofs.Histories.{write_of}

@@ -1,11 +1,6 @@
 -- Rows that a session was ever sent are of changes that stay in their keys' lines, and servers serve the calls.
 use Rattle.std.proofs.Common.{List, subst, sym}
-use Rattle.hx_types.specs.declared.calls.Caller.{Caller}
-use Rattle.hx_types.specs.declared.calls.Row.{Row}
-use Rattle.hx_types.specs.declared.ids.RegionId.{RegionId}
-use Rattle.hx_types.specs.declared.traces.Entry.{Entry}
-use Rattle.hx_types.specs.declared.traces.Script.{Script}
-use Rattle.hx_types.specs.declared.updates.Update.{Update}
+use Rattle.hx_model.specs.Types.{Caller, Entry, RegionId, Row, Script, Update}
 use Rattle.hx_types.specs.Words.{IsIn}
 use Rattle.hx_model.specs.Lines.{upto}
 use Rattle.hx_model.specs.Runs.{IsRun}

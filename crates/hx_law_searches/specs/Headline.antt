@@ -1,16 +1,7 @@
 -- The laws on histories and searches, for every run of every valid script.
 use Rattle.std.specs.Prelude.{◌≡◌, ℕ, true, List, Some}
-use Rattle.hx_types.specs.declared.calls.Caller.{Caller}
-use Rattle.hx_types.specs.declared.calls.Row.{Row}
+use Rattle.hx_model.specs.Types.{Actor, Caller, Entry, Epoch, RegionId, Row, Script, Session, SessionId, Update}
 use Rattle.hx_types.specs.declared.messages.Message.TheVariants as a_message
-use Rattle.hx_types.specs.declared.ids.Actor.{Actor}
-use Rattle.hx_types.specs.declared.ids.Epoch.{Epoch}
-use Rattle.hx_types.specs.declared.ids.RegionId.{RegionId}
-use Rattle.hx_types.specs.declared.ids.SessionId.{SessionId}
-use Rattle.hx_types.specs.declared.ids.Actor.TheVariants.{Session}
-use Rattle.hx_types.specs.declared.updates.Update.{Update}
-use Rattle.hx_types.specs.declared.traces.Entry.{Entry}
-use Rattle.hx_types.specs.declared.traces.Script.{Script}
 use Rattle.hx_types.specs.Fitting.{IsScript, TraceFits}
 use Rattle.hx_types.specs.Words.{IsIn, post}
 use Rattle.hx_model.specs.Runs.{IsRun}

@@ -5,11 +5,7 @@ use Rattle.std.specs.List.{list_all}
 use Rattle.std.specs.Fmt.{digits}
 use Rattle.std.proofs.lemmas.Bool.{and_parts, false≢true}
 use Rattle.hex.specs.Hex.{encode_with}
-use Rattle.hx_types.specs.declared.calls.Caller.{Caller}
-use Rattle.hx_types.specs.declared.calls.Op.{Op}
-use Rattle.hx_types.specs.declared.traces.Entry.{Entry}
-use Rattle.hx_types.specs.declared.traces.Input.{Input}
-use Rattle.hx_types.specs.declared.traces.Input.TheVariants.{Tick, Halt, Deliver}
+use Rattle.hx_model.specs.Types.{Caller, Deliver, Entry, Halt, Input, Op, Tick}
 use Rattle.hx_types.specs.Fitting.{call_of}
 use Rattle.hx_print.specs.Printing.{named_text, quoted, value_text}
 use Rattle.hx_report.specs.Reporting.{object_text}

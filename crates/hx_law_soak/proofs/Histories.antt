@@ -4,13 +4,7 @@ use Rattle.std.specs.List.{fold}
 use Rattle.std.proofs.lemmas.Bool.{cases_Bool, cond_both, cond-false, false≢true, lt-ltb}
 use Rattle.std.proofs.lemmas.List.{map-append}
 use Rattle.std.proofs.lemmas.List.Sums.{fold_push}
-use Rattle.hx_types.specs.declared.calls.Caller.{Caller}
-use Rattle.hx_types.specs.declared.calls.Op.{Op}
-use Rattle.hx_types.specs.declared.histories.Item.{Item}
-use Rattle.hx_types.specs.declared.ids.SessionId.{SessionId}
-use Rattle.hx_types.specs.declared.traces.Entry.{Entry}
-use Rattle.hx_types.specs.declared.traces.Script.{Script}
-use Rattle.hx_types.specs.declared.values.Value.{Value}
+use Rattle.hx_model.specs.Types.{Caller, Entry, Item, Op, Script, SessionId, Value}
 use Rattle.hx_types.specs.Effects.{effect_of, key_of}
 use Rattle.hx_types.specs.Fitting.{IsScript, call_of, calls_of, is_doubt, is_refused, is_rows, numbered}
 use Rattle.hx_types.specs.Words.{IsBefore, IsIn, below, same_text, when_some}

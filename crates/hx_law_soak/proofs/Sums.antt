@@ -4,8 +4,7 @@ use Rattle.std.specs.List.{count_by, flat_map, sum_by}
 use Rattle.std.proofs.lemmas.Bool.{eqb-true}
 use Rattle.std.proofs.lemmas.List.{append-nil, length-append, length-map}
 use Rattle.std.proofs.lemmas.List.Sums.{sum_by-append, sum_by-cons, sum_by_push}
-use Rattle.hx_types.specs.declared.calls.Caller.{Caller}
-use Rattle.hx_types.specs.declared.calls.Op.{Op}
+use Rattle.hx_model.specs.Types.{Caller, Op}
 use Rattle.hx_types.specs.Fitting.{calls_of}
 use Rattle.hx_types.specs.Words.{below}
 use Rattle.hx_soak.specs.Calling.{call_drawn}

@@ -2,10 +2,7 @@
 use Rattle.std.specs.Prelude.{ℕ, ◌+◌, Bool, true, false, List, [], ◌∷◌, ◌++◌, map, if◌then◌else◌, Option, None, Some}
 use Rattle.std.specs.List.{fold}
 use Rattle.std.specs.Option.{option_map}
-use Rattle.hx_types.specs.declared.calls.Op.{Op}
-use Rattle.hx_types.specs.declared.outcomes.Effect.{Effect}
-use Rattle.hx_types.specs.declared.spaces.Space.{Space}
-use Rattle.hx_types.specs.declared.values.Value.{Value}
+use Rattle.hx_model.specs.Types.{Effect, Op, Space, Value}
 use Rattle.hx_types.specs.Effects.{effect_of, key_of}
 use Rattle.hx_types.specs.Fitting.{is_cmp_fail, is_done, is_found, is_not_found}
 use Rattle.hx_types.specs.Words.{below, list_of, same_text, text_below, when_some}

@@ -1,10 +1,7 @@
 -- The law on soaks: the summary of each finished run of a generated script is that of its calls taken one after the other.
 use Rattle.std.specs.Prelude.{◌≡◌, ◌≢◌, ℕ, ◌≤◌, List, IsSome}
-use Rattle.hx_types.specs.declared.calls.Caller.{Caller}
+use Rattle.hx_model.specs.Types.{Caller, Entry, Halt, Script}
 use Rattle.hx_types.specs.declared.limits.TheConstants.{MOST_CALLS}
-use Rattle.hx_types.specs.declared.traces.Entry.{Entry}
-use Rattle.hx_types.specs.declared.traces.Input.TheVariants.{Halt}
-use Rattle.hx_types.specs.declared.traces.Script.{Script}
 use Rattle.hx_types.specs.Fitting.{call_of}
 use Rattle.hx_types.specs.Words.{IsIn}
 use Rattle.hx_model.specs.Histories.{note_of_end}

@@ -1,8 +1,7 @@
 -- When two actors are the same.
 use Rattle.std.proofs.Common.{◌≡◌, true, refl}
 use Rattle.std.proofs.lemmas.Bool.{eqb-true, eq-eqb}
-use Rattle.hx_types.specs.declared.ids.Actor.{Actor}
-use Rattle.hx_types.specs.declared.ids.Actor.TheVariants.{Coordinator, Server, Session}
+use Rattle.hx_model.specs.Types.{Actor, Coordinator, Server, Session}
 use Rattle.hx_types.specs.Words.{same_actor}
 
 pub same_actor_is : (a b : Actor) → same_actor a b ≡ true → a ≡ b

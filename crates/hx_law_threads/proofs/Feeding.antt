@@ -1,16 +1,7 @@
 -- An actor by itself keeps what every run keeps of it.
 use Rattle.std.proofs.Common.{◌≡◌, ℕ, ◌+◌, ◌≤◌, ⊎_elim, true, List, [], ◌∷◌, length, refl, ap, sym, subst, ◌∙◌, arith, ltb, leb}
 use Rattle.std.proofs.lemmas.Bool.{and_parts, cond-true, eq-eqb, leb-true, ltb-true}
-use Rattle.hx_types.specs.declared.ids.Actor.{Actor}
-use Rattle.hx_types.specs.declared.ids.Actor.TheVariants.{Coordinator, Server, Session}
-use Rattle.hx_types.specs.declared.ids.ServerId.{ServerId}
-use Rattle.hx_types.specs.declared.ids.SessionId.{SessionId}
-use Rattle.hx_types.specs.declared.messages.Message.{Message}
-use Rattle.hx_types.specs.declared.messages.Post.{Post}
-use Rattle.hx_types.specs.declared.messages.PostId.{PostId}
-use Rattle.hx_types.specs.declared.traces.Input.{Input}
-use Rattle.hx_types.specs.declared.traces.Input.TheVariants.{Deliver}
-use Rattle.hx_types.specs.declared.traces.Script.{Script}
+use Rattle.hx_model.specs.Types.{Actor, Coordinator, Deliver, Input, Message, Post, PostId, Script, Server, ServerId, Session, SessionId}
 use Rattle.hx_types.specs.Fitting.{IsScript}
 use Rattle.hx_types.specs.Posts.{IsSessionOf, IsSoundPost}
 use Rattle.hx_types.specs.Spaces.{IsServerOf}

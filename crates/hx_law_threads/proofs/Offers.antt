@@ -1,9 +1,7 @@
 -- What follows from how often each post was put.
 use Rattle.std.proofs.Common.{◌≡◌, ℕ, ◌+◌, ◌*◌, ◌≤◌, inl, inr, Bool, true, false, cond, eqb, List, [], ◌∷◌, length, refl, ap, sym, ◌∙◌, subst, arith}
 use Rattle.std.proofs.lemmas.Bool.{eq-eqb, eqb-true}
-use Rattle.hx_types.specs.declared.messages.PostId.{PostId}
-use Rattle.hx_types.specs.declared.traces.Entry.{Entry}
-use Rattle.hx_types.specs.declared.traces.Script.{Script}
+use Rattle.hx_model.specs.Types.{Entry, PostId, Script}
 use Rattle.hx_types.specs.Words.{IsIn}
 use Rattle.hx_model.specs.Schedule.{same_name}
 use Rattle.hx_clock.specs.Views.{one, total}

@@ -5,9 +5,7 @@ use Rattle.std.proofs.lemmas.Bool.{cond_both, eqb-true, eq-eqb, true≢false}
 use Rattle.std.proofs.lemmas.List.{map-id, reverse-reverse}
 use Rattle.std.specs.List.Sorted.{IsStrictlyIncreasing}
 use Rattle.std.proofs.lemmas.List.Sorted.{IsPermutation-sym, IsPermutation-map}
-use Rattle.hx_types.specs.declared.messages.Post.{Post}
-use Rattle.hx_types.specs.declared.messages.PostId.{PostId}
-use Rattle.hx_types.specs.declared.traces.Entry.{Entry}
+use Rattle.hx_model.specs.Types.{Entry, Post, PostId}
 use Rattle.hx_types.specs.Words.{below, when_some, IsIn}
 use Rattle.hx_model.specs.Runs.{entry_at, post_named}
 use Rattle.hx_clock.specs.declared.parts.Stamped.{Stamped}

@@ -6,13 +6,7 @@ use Rattle.std.specs.List.Sorted.{IsStrictlyIncreasing}
 use Rattle.std.proofs.Math.Logic.{∥∥₁_elim, ∥∥₁_map}
 use Rattle.std.proofs.lemmas.Bool.{cond_both, true≢false}
 use Rattle.std.proofs.lemmas.List.Sorted.{IsPermutation-sym}
-use Rattle.hx_types.specs.declared.ids.Actor.{Actor}
-use Rattle.hx_types.specs.declared.messages.Post.{Post}
-use Rattle.hx_types.specs.declared.messages.PostId.{PostId}
-use Rattle.hx_types.specs.declared.traces.Entry.{Entry}
-use Rattle.hx_types.specs.declared.traces.Input.{Input}
-use Rattle.hx_types.specs.declared.traces.Script.{Script}
-use Rattle.hx_types.specs.declared.traces.Input.TheVariants.{Tick, Halt, Deliver}
+use Rattle.hx_model.specs.Types.{Actor, Deliver, Entry, Halt, Input, Post, PostId, Script, Tick}
 use Rattle.hx_types.specs.Words.{same_actor, IsIn}
 use Rattle.hx_model.specs.Runs.{has_halted, is_actor, made_of, post_named, IsRun, IsStep, MayTake}
 use Rattle.hx_clock.specs.declared.parts.Stamped.{Stamped}

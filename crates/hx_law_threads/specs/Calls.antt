@@ -1,10 +1,6 @@
 -- What a session's entries tell of its calls.
 use Rattle.std.specs.Prelude.{◌≡◌, ℕ, true, false, List, None, IsSome}
-use Rattle.hx_types.specs.declared.calls.Caller.{Caller}
-use Rattle.hx_types.specs.declared.ids.SessionId.{SessionId}
-use Rattle.hx_types.specs.declared.traces.Entry.{Entry}
-use Rattle.hx_types.specs.declared.traces.Script.{Script}
-use Rattle.hx_types.specs.declared.ids.Actor.TheVariants.{Session}
+use Rattle.hx_model.specs.Types.{Caller, Entry, Script, Session, SessionId}
 use Rattle.hx_types.specs.Fitting.{call_of}
 use Rattle.hx_model.specs.Histories.{begin_of, note_of_end}
 use Rattle.hx_model.specs.Runs.{session_of, IsRun}

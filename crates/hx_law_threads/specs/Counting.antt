@@ -1,8 +1,6 @@
 -- What the entries of a cut add up to, on the trace and on the parts of which it is merged.
 use Rattle.std.specs.Prelude.{◌≡◌, ◌≤◌, ℕ, ◌+◌, Bool, true, false, cond, List, [], ◌∷◌, length, take}
-use Rattle.hx_types.specs.declared.messages.PostId.{PostId}
-use Rattle.hx_types.specs.declared.traces.Entry.{Entry}
-use Rattle.hx_types.specs.declared.traces.Script.{Script}
+use Rattle.hx_model.specs.Types.{Entry, PostId, Script}
 use Rattle.hx_types.specs.Words.{IsIn}
 use Rattle.hx_model.specs.Schedule.{names_from}
 use Rattle.hx_clock.specs.declared.parts.Stamped.{Stamped}

@@ -2,16 +2,7 @@
 -- What is open at a cut, and who goes on by itself there.
 use Rattle.std.specs.Prelude.{◌≡◌, ℕ, ◌+◌, Bool, true, false, not, ◌&&◌, List, [], ◌∷◌, ◌++◌, length, if◌then◌else◌, nat_lt, ◌==◌, Option, None, IsSome}
 use Rattle.std.specs.List.{filter, list_any}
-use Rattle.hx_types.specs.declared.ids.Actor.{Actor}
-use Rattle.hx_types.specs.declared.calls.Caller.{Caller}
-use Rattle.hx_types.specs.declared.messages.Post.{Post}
-use Rattle.hx_types.specs.declared.messages.PostId.{PostId}
-use Rattle.hx_types.specs.declared.traces.Entry.{Entry}
-use Rattle.hx_types.specs.declared.traces.Input.{Input}
-use Rattle.hx_types.specs.declared.traces.Note.{Note}
-use Rattle.hx_types.specs.declared.traces.Script.{Script}
-use Rattle.hx_types.specs.declared.ids.Actor.TheVariants.{Session}
-use Rattle.hx_types.specs.declared.traces.Input.TheVariants.{Tick, Deliver}
+use Rattle.hx_model.specs.Types.{Actor, Caller, Deliver, Entry, Input, Note, Post, PostId, Script, Session, Tick}
 use Rattle.hx_types.specs.declared.traces.Note.TheVariants as a_note
 use Rattle.hx_types.specs.Words.{provided, when_some}
 use Rattle.hx_model.specs.Histories.{begin_of, note_of_end}

@@ -2,15 +2,7 @@
 use Rattle.std.specs.Prelude.{◌≡◌, ℕ, ◌+◌, true, List, Option, Some, slice_get, take}
 use Rattle.std.specs.List.{AllByRecursion}
 use Rattle.std.specs.Option.{option_map}
-use Rattle.hx_types.specs.declared.ids.Actor.{Actor}
-use Rattle.hx_types.specs.declared.ids.ServerId.{ServerId}
-use Rattle.hx_types.specs.declared.ids.SessionId.{SessionId}
-use Rattle.hx_types.specs.declared.messages.Post.{Post}
-use Rattle.hx_types.specs.declared.messages.PostId.{PostId}
-use Rattle.hx_types.specs.declared.traces.Entry.{Entry}
-use Rattle.hx_types.specs.declared.traces.Input.{Input}
-use Rattle.hx_types.specs.declared.traces.Script.{Script}
-use Rattle.hx_types.specs.declared.ids.Actor.TheVariants.{Coordinator, Server, Session}
+use Rattle.hx_model.specs.Types.{Actor, Coordinator, Entry, Input, Post, PostId, Script, Server, ServerId, Session, SessionId}
 use Rattle.hx_model.specs.Runs.{coordinator_of, entry_at, has_halted, made_of, post_named, server_of, session_of, IsRun}
 use Rattle.hx_types.specs.Words.{IsIn}
 use Rattle.hx_clock.specs.declared.parts.Stamped.{Stamped}

@@ -1,9 +1,7 @@
 -- How often each post was put into its receiver's mailbox, and what follows for those that were lost and those that came twice.
 use Rattle.std.specs.Prelude.{◌≡◌, ◌≤◌, ℕ, ◌*◌, eqb, true, List, length}
 use Rattle.std.specs.List.{AllByRecursion}
-use Rattle.hx_types.specs.declared.messages.PostId.{PostId}
-use Rattle.hx_types.specs.declared.traces.Entry.{Entry}
-use Rattle.hx_types.specs.declared.traces.Script.{Script}
+use Rattle.hx_model.specs.Types.{Entry, PostId, Script}
 use Rattle.hx_clock.specs.Views.{one, total}
 use Rattle.hx_law_threads.specs.Cuts.{delivered_at, is_to_halted, open_at, posted_at, whole_of, Cut}
 use Rattle.hx_law_threads.specs.Pacing.{AreRepeatedAtMost}

@@ -1,11 +1,7 @@
 -- What one actor makes on its own thread: its entries, each its step after those before it, whatever was posted to it.
 use Rattle.std.specs.Prelude.{◌≡◌, true, false, List, [], ◌∷◌, map, reverse, ⊤}
 use Rattle.std.specs.List.{filter}
-use Rattle.hx_types.specs.declared.ids.Actor.{Actor}
-use Rattle.hx_types.specs.declared.traces.Entry.{Entry}
-use Rattle.hx_types.specs.declared.traces.Input.{Input}
-use Rattle.hx_types.specs.declared.traces.Script.{Script}
-use Rattle.hx_types.specs.declared.traces.Input.TheVariants.{Tick, Halt, Deliver}
+use Rattle.hx_model.specs.Types.{Actor, Deliver, Entry, Halt, Input, Script, Tick}
 use Rattle.hx_types.specs.Words.{same_actor}
 use Rattle.hx_model.specs.Runs.{has_halted, made_of, does_something, IsAServer}
 use Rattle.hx_clock.specs.declared.parts.Stamped.{Stamped}

@@ -1,10 +1,7 @@
 -- When retries come: together, and only where no other step is left but for what was lost.
 use Rattle.std.specs.Prelude.{◌≡◌, ℕ, ◌+◌, ◌≤◌, Bool, true, false, List, [], ◌∷◌, length, Some, ⊤}
 use Rattle.std.specs.List.{AllByRecursion}
-use Rattle.hx_types.specs.declared.ids.Actor.{Actor}
-use Rattle.hx_types.specs.declared.messages.PostId.{PostId}
-use Rattle.hx_types.specs.declared.traces.Entry.{Entry}
-use Rattle.hx_types.specs.declared.traces.Script.{Script}
+use Rattle.hx_model.specs.Types.{Actor, Entry, PostId, Script}
 use Rattle.hx_types.specs.Words.{when_some, IsIn}
 use Rattle.hx_model.specs.Runs.{entry_at, is_actor}
 use Rattle.hx_model.specs.Schedule.{entries_of}

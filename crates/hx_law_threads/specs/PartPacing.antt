@@ -1,11 +1,7 @@
 -- The pace of a trace, as it is read in the parts of which it is merged.
 use Rattle.std.specs.Prelude.{◌≡◌, ◌≢◌, ◌≤◌, ℕ, true, false, List, length, take, Some}
 use Rattle.std.specs.List.{AllByRecursion}
-use Rattle.hx_types.specs.declared.ids.Actor.{Actor}
-use Rattle.hx_types.specs.declared.ids.SessionId.{SessionId}
-use Rattle.hx_types.specs.declared.traces.Entry.{Entry}
-use Rattle.hx_types.specs.declared.traces.Script.{Script}
-use Rattle.hx_types.specs.declared.ids.Actor.TheVariants.{Session}
+use Rattle.hx_model.specs.Types.{Actor, Entry, Script, Session, SessionId}
 use Rattle.hx_types.specs.Words.{when_some, IsIn}
 use Rattle.hx_model.specs.Runs.{is_actor, session_of}
 use Rattle.hx_model.specs.Schedule.{entries_of}

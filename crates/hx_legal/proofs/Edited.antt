@@ -4,11 +4,7 @@ use Rattle.std.specs.Prelude.{◌+ℤ◌, nat_le, slice_get, slice_set, Result, 
 use Rattle.std.specs.List.{find}
 use Rattle.std.specs.Option.{option_map}
 use Rattle.std.proofs.lemmas.List.{map-append, reverse-append, take-append-drop}
-use Rattle.hx_types.specs.declared.calls.Answer.{Answer}
-use Rattle.hx_types.specs.declared.values.Assign.{Assign}
-use Rattle.hx_types.specs.declared.values.Edit.{Edit}
-use Rattle.hx_types.specs.declared.values.EditKind.{EditKind}
-use Rattle.hx_types.specs.declared.values.Value.{Value}
+use Rattle.hx_model.specs.Types.{Answer, Assign, Edit, EditKind, Value}
 use Rattle.hx_types.specs.declared.calls.Answer.TheVariants as an_answer
 use Rattle.hx_types.specs.declared.values.EditKind.TheVariants as an_edit
 use Rattle.hx_types.specs.declared.values.Value.TheVariants as a_value

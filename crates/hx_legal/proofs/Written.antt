@@ -4,8 +4,7 @@ use Rattle.std.specs.List.{find, slice_get}
 use Rattle.std.proofs.lemmas.Bool.Decides.{nat_tests}
 use Rattle.std.proofs.lemmas.List.{get_or-set_other, get_or-set_same, length-set, reverse-append, reverse-reverse, same_lists}
 use Rattle.std.proofs.lemmas.Option.{get_or_from_slice_get, slice_get-get_or}
-use Rattle.hx_types.specs.declared.values.Assign.{Assign}
-use Rattle.hx_types.specs.declared.values.Value.{Value}
+use Rattle.hx_model.specs.Types.{Assign, Value}
 use Rattle.hx_types.specs.Effects.{written}
 use Rattle.hx_types.specs.Words.{when_some}
 use Rattle.hx_legal.specs.Shown.{value_after, writes_at}

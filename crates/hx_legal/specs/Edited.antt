@@ -1,10 +1,6 @@
 -- What edits make of an object, or which of them can't be made, in the parts by which an item is compared with it.
 use Rattle.std.specs.Prelude.{ℕ, ◌-◌, ◌+ℤ◌, ◌++◌, Bool, ◌==◌, List, [], ◌∷◌, map, slice_get, Option, None, Some, Result, Ok, Err}
-use Rattle.hx_types.specs.declared.calls.Answer.{Answer}
-use Rattle.hx_types.specs.declared.values.Assign.{Assign}
-use Rattle.hx_types.specs.declared.values.Edit.{Edit}
-use Rattle.hx_types.specs.declared.values.EditKind.{EditKind}
-use Rattle.hx_types.specs.declared.values.Value.{Value}
+use Rattle.hx_model.specs.Types.{Answer, Assign, Edit, EditKind, Value}
 use Rattle.hx_types.specs.declared.calls.Answer.TheVariants as an_answer
 use Rattle.hx_types.specs.declared.values.EditKind.TheVariants as an_edit
 use Rattle.hx_types.specs.declared.values.Value.TheVariants as a_value

@@ -1,7 +1,6 @@
 -- The first fault of a history whose items stand oldest first.
 use Rattle.std.specs.Prelude.{ℕ, List, reverse, take, slice_get, IsSomeAnd}
-use Rattle.hx_types.specs.declared.histories.Item.{Item}
-use Rattle.hx_types.specs.declared.spaces.Space.{Space}
+use Rattle.hx_model.specs.Types.{Item, Space}
 use Rattle.hx_model.specs.Legal.{IsEffect, IsLegal, object_now}
 
 -- the items before the place are legal, and there is an item at it that isn't the effect of its operation on the object after them

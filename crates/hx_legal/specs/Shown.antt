@@ -1,10 +1,7 @@
 -- What an item shows of the effect of its operation, and the parts that this is compared by.
 use Rattle.std.specs.Prelude.{◌≡◌, ℕ, ◌-◌, Bool, ◌==◌, List, reverse, slice_get, Option, Some}
 use Rattle.std.specs.List.{find}
-use Rattle.hx_types.specs.declared.histories.Item.{Item}
-use Rattle.hx_types.specs.declared.outcomes.Effect.{Effect}
-use Rattle.hx_types.specs.declared.values.Assign.{Assign}
-use Rattle.hx_types.specs.declared.values.Value.{Value}
+use Rattle.hx_model.specs.Types.{Assign, Effect, Item, Value}
 use Rattle.hx_types.specs.Words.{when_some}
 
 -- the item has the answer and the object of the effect

@@ -1,13 +1,7 @@
 -- What an actor makes of an input after its entries, and what it is then.
 use Rattle.std.proofs.Common.{◌≡◌, Box, Global, true, List, ◌∷◌, refl, sym, ap, ◌∙◌, subst}
 use Rattle.std.proofs.lemmas.Bool.{cond-true, eq-eqb}
-use Rattle.hx_types.specs.declared.ids.Actor.{Actor}
-use Rattle.hx_types.specs.declared.ids.ServerId.{ServerId}
-use Rattle.hx_types.specs.declared.ids.SessionId.{SessionId}
-use Rattle.hx_types.specs.declared.traces.Entry.{Entry}
-use Rattle.hx_types.specs.declared.traces.Input.{Input}
-use Rattle.hx_types.specs.declared.traces.Script.{Script}
-use Rattle.hx_types.specs.declared.ids.Actor.TheVariants.{Coordinator, Server, Session}
+use Rattle.hx_model.specs.Types.{Actor, Coordinator, Entry, Input, Script, Server, ServerId, Session, SessionId}
 use Rattle.hx_types.specs.Words.{same_server, same_session}
 use Rattle.hx_model.specs.CoordinatorSteps.{CoordinatorState, coordinator_step}
 use Rattle.hx_model.specs.Runs.{coordinator_of, entry_of, made_of, server_of, session_of}

@@ -1,7 +1,5 @@
 ghost use Rattle.std.specs.Prelude.{◌≡◌, true, [], ◌∷◌, List, IfOk};
-ghost use Rattle.hx_types.specs.declared.ids.Actor.{Actor as ActorSeen};
-ghost use Rattle.hx_types.specs.declared.traces.Entry.{Entry as EntrySeen};
-ghost use Rattle.hx_types.specs.declared.traces.Script.{Script as ScriptSeen};
+ghost use Rattle.hx_model.specs.Types.{Actor as ActorSeen, Entry as EntrySeen, Script as ScriptSeen};
 ghost use Rattle.hx_types.specs.Fitting.{IsScript};
 ghost use Rattle.hx_model.specs.Runs.{has_halted, is_actor};
 ghost use Rattle.hx_clock.specs.declared.parts.Stamped.{Stamped};

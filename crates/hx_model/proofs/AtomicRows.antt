@@ -1,14 +1,9 @@
 -- What atomic operations do to an object, by computing.
-use Rattle.std.specs.Prelude.{◌≡◌, ℕ, Bool, true, false, List, [], ◌∷◌, ◌++◌, ℤ, pos, negsuc, None, Some, codes}
-use Rattle.hx_types.specs.declared.calls.Op.{Op}
-use Rattle.hx_types.specs.declared.outcomes.Effect.{Effect}
-use Rattle.hx_types.specs.declared.values.Edit.{Edit}
-use Rattle.hx_types.specs.declared.values.EditKind.{EditKind}
+use Rattle.std.specs.Prelude.{◌≡◌, ℕ, true, false, List, [], ◌∷◌, ℤ, pos, negsuc, None, Some, codes}
+use Rattle.hx_model.specs.Types.{Answer, Atomic, Edit, EditKind, Effect}
 use Rattle.hx_types.specs.declared.values.EditKind.TheVariants as an_edit
 use Rattle.hx_types.specs.declared.values.Value.TheVariants as a_value
-use Rattle.hx_types.specs.declared.calls.Answer.{Answer}
 use Rattle.hx_types.specs.declared.calls.Answer.TheVariants as an_answer
-use Rattle.hx_types.specs.declared.calls.Op.TheVariants.{Atomic}
 use Rattle.hx_types.specs.Effects.{effect_of}
 use Rattle.hx_model.proofs.Examples.{book, books, text_a}
 use Rattle.std.proofs.Common.{refl}

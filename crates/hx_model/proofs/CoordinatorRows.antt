@@ -1,16 +1,9 @@
 -- The table of the coordinator's steps, row by row, on a small space.
 use Rattle.std.specs.Prelude.{◌≡◌, ℕ, List, [], ◌∷◌, ◌++◌, map, Option, None, Some}
-use Rattle.hx_types.specs.declared.calls.Answer.{Answer}
-use Rattle.hx_types.specs.declared.configs.Config.{Config}
-use Rattle.hx_types.specs.declared.traces.Input.{Input}
-use Rattle.hx_types.specs.declared.configs.Member.{Member}
-use Rattle.hx_types.specs.declared.calls.Op.{Op}
-use Rattle.hx_types.specs.declared.messages.Post.{Post}
+use Rattle.hx_model.specs.Types.{Answer, Config, Get, Halt, Input, Member, Op, Post, Stop, Tick}
 use Rattle.hx_types.specs.declared.calls.Answer.TheVariants as an_answer
 use Rattle.hx_types.specs.declared.messages.Message.TheVariants as a_message
 use Rattle.hx_types.specs.declared.traces.Note.TheVariants as a_note
-use Rattle.hx_types.specs.declared.calls.Op.TheVariants.{Get, Stop, Add}
-use Rattle.hx_types.specs.declared.traces.Input.TheVariants.{Tick, Halt}
 use Rattle.hx_model.specs.CoordinatorSteps.{CoordinatorState, CoordinatorStep, Newest, Task, coordinator_step}
 use Rattle.std.proofs.Common.{refl}
 use Rattle.hx_model.proofs.SmallSpace.{by_coordinator, by_coordinator_to_session, caller, configured, epoch, first_update, from_server, from_session, joining, ready, region, server, session, the_key, version, whole}

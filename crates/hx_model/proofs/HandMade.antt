@@ -1,21 +1,9 @@
 -- Entries made by hand, of notes alone, for histories and searches that no run makes.
 use Rattle.std.specs.Prelude.{◌≡◌, ℕ, Bool, true, false, List, [], ◌∷◌, codes, Option, Some}
-use Rattle.hx_types.specs.declared.ids.Actor.{Actor}
-use Rattle.hx_types.specs.declared.calls.Answer.{Answer}
-use Rattle.hx_types.specs.declared.calls.Caller.{Caller}
-use Rattle.hx_types.specs.declared.traces.Entry.{Entry}
-use Rattle.hx_types.specs.declared.histories.Item.{Item}
-use Rattle.hx_types.specs.declared.traces.Note.{Note}
-use Rattle.hx_types.specs.declared.calls.Op.{Op}
-use Rattle.hx_types.specs.declared.traces.Script.{Script}
-use Rattle.hx_types.specs.declared.updates.Update.{Update}
-use Rattle.hx_types.specs.declared.values.Value.{Value}
+use Rattle.hx_model.specs.Types.{Actor, Answer, Caller, Entry, Item, Note, Op, Put, Script, Server, Session, Tick, Update, Value}
 use Rattle.hx_types.specs.declared.calls.Answer.TheVariants as an_answer
 use Rattle.hx_types.specs.declared.traces.Note.TheVariants as a_note
 use Rattle.hx_types.specs.declared.values.Value.TheVariants as a_value
-use Rattle.hx_types.specs.declared.calls.Op.TheVariants.{Put}
-use Rattle.hx_types.specs.declared.ids.Actor.TheVariants.{Server, Session}
-use Rattle.hx_types.specs.declared.traces.Input.TheVariants.{Tick}
 use Rattle.hx_types.specs.Words.{same_text}
 use Rattle.hx_model.proofs.SmallSpace.{blue, caller, server, session, shop, version}
 

@@ -1,9 +1,6 @@
 -- Whom a replica hears, position by position, on a small space.
 use Rattle.std.specs.Prelude.{◌≡◌, ℕ, Bool, true, false, List, [], ◌∷◌, map}
-use Rattle.hx_types.specs.declared.ids.Actor.{Actor}
-use Rattle.hx_types.specs.declared.configs.Config.{Config}
-use Rattle.hx_types.specs.declared.updates.Update.{Update}
-use Rattle.hx_types.specs.declared.ids.Actor.TheVariants.{Coordinator, Server, Session}
+use Rattle.hx_model.specs.Types.{Actor, Config, Coordinator, Server, Session, Update}
 use Rattle.hx_model.specs.Hearing.{hears_ack, hears_snap, hears_update}
 use Rattle.std.proofs.Common.{refl}
 use Rattle.hx_model.proofs.SmallSpace.{configured, first_update, joining, ready, region, second_update, server, session, third_update, whole}

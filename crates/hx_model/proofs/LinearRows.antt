@@ -1,10 +1,7 @@
 -- Histories that are not linear, one for each reason.
-use Rattle.std.specs.Prelude.{◌≡◌, ℕ, Bool, true, false, List, [], ◌∷◌, Some, ◌==◌}
-use Rattle.hx_types.specs.declared.traces.Entry.{Entry}
-use Rattle.hx_types.specs.declared.histories.Item.{Item}
-use Rattle.hx_types.specs.declared.traces.Script.{Script}
+use Rattle.std.specs.Prelude.{◌≡◌, List, [], ◌∷◌, Some, ◌==◌}
+use Rattle.hx_model.specs.Types.{Entry, Get, Item, Script}
 use Rattle.hx_types.specs.declared.calls.Answer.TheVariants as an_answer
-use Rattle.hx_types.specs.declared.calls.Op.TheVariants.{Get}
 use Rattle.hx_types.specs.Words.{IsBefore}
 use Rattle.hx_model.specs.Histories.{history_of}
 use Rattle.hx_model.specs.Linear.{IsLinear}

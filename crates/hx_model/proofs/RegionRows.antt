@@ -1,21 +1,15 @@
 -- Which regions and objects a search meets, and that an answer of refusal stands in no history, by computing.
-use Rattle.std.specs.Prelude.{◌≡◌, ℕ, Bool, true, false, List, [], ◌∷◌, filter, map, pos, codes}
-use Rattle.hx_types.specs.declared.ids.RegionId.{RegionId}
-use Rattle.hx_types.specs.declared.spaces.Space.{Space}
-use Rattle.hx_types.specs.declared.traces.Entry.{Entry}
-use Rattle.hx_types.specs.declared.traces.Script.{Script}
-use Rattle.hx_types.specs.declared.values.Term.{Term}
+use Rattle.std.specs.Prelude.{◌≡◌, ℕ, true, false, List, [], ◌∷◌, filter, map, pos, codes}
+use Rattle.hx_model.specs.Types.{Entry, Equal, Get, Range, RegionId, Script, Space, Term}
 use Rattle.hx_types.specs.declared.calls.Answer.TheVariants as an_answer
-use Rattle.hx_types.specs.declared.calls.Op.TheVariants.{Get}
-use Rattle.hx_types.specs.declared.values.Term.TheVariants.{Equal, Range}
 use Rattle.hx_types.specs.declared.values.Value.TheVariants as a_value
 use Rattle.hx_model.specs.Histories.{history_of}
 use Rattle.hx_model.specs.Matching.{matches}
-use Rattle.hx_model.specs.Regions.{meets, place_of, regions_of}
+use Rattle.hx_model.specs.Regions.{meets, regions_of}
 use Rattle.std.proofs.Common.{refl}
 use Rattle.hx_model.proofs.Examples.{book, books, int_axis, text_a}
 use Rattle.hx_model.proofs.SmallSpace.{epoch, red, region}
-use Rattle.hx_model.proofs.HandMade.{assigned, began, called, ended, of_color, put_color, put_item, the_key}
+use Rattle.hx_model.proofs.HandMade.{assigned, began, called, ended, put_color, put_item, the_key}
 
 -- a range has both its ends
 abbrev pub between : ℕ → ℕ → List Term

@@ -1,20 +1,10 @@
 -- Traces that are no runs, one for each reason.
-use Rattle.std.specs.Prelude.{◌≡◌, ℕ, Bool, true, false, List, [], ◌∷◌, Option, None, Some, is_some, not}
-use Rattle.hx_types.specs.declared.ids.Actor.{Actor}
-use Rattle.hx_types.specs.declared.traces.Entry.{Entry}
-use Rattle.hx_types.specs.declared.messages.Message.{Message}
-use Rattle.hx_types.specs.declared.messages.Post.{Post}
-use Rattle.hx_types.specs.declared.messages.PostId.{PostId}
-use Rattle.hx_types.specs.declared.traces.Input.{Input}
-use Rattle.hx_types.specs.declared.traces.Script.{Script}
-use Rattle.hx_types.specs.declared.traces.Note.TheVariants as a_note
+use Rattle.std.specs.Prelude.{◌≡◌, Bool, false, List, [], ◌∷◌, Option, None, Some, is_some, not}
+use Rattle.hx_model.specs.Types.{Actor, Coordinator, Deliver, Entry, Get, Halt, Input, Message, Post, PostId, Script, Server, Session, Tick}
 use Rattle.hx_types.specs.declared.messages.Message.TheVariants as a_message
-use Rattle.hx_types.specs.declared.calls.Op.TheVariants.{Get}
-use Rattle.hx_types.specs.declared.ids.Actor.TheVariants.{Coordinator, Server, Session}
-use Rattle.hx_types.specs.declared.traces.Input.TheVariants.{Tick, Halt, Deliver}
 use Rattle.hx_types.specs.Words.{same_actor, post}
-use Rattle.hx_model.specs.Runs.{IsRun, IsStep, Output, entry_of, is_empty, made_of, post_named}
-use Rattle.std.proofs.Common.{refl, ap, sym, ◌∙◌}
+use Rattle.hx_model.specs.Runs.{IsRun, Output, entry_of, is_empty, made_of, post_named}
+use Rattle.std.proofs.Common.{refl, ap, sym}
 use Rattle.hx_model.proofs.SmallSpace.{epoch, server, session}
 use Rattle.hx_model.proofs.HandMade.{called, never, the_key}
 

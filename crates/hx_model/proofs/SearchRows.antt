@@ -1,17 +1,10 @@
 -- Finished searches of one key that are not whole or not true, one for each reason, and two that may look so and are.
-use Rattle.std.specs.Prelude.{◌≡◌, ℕ, Bool, true, false, List, [], ◌∷◌, Some, ◌==◌}
-use Rattle.hx_types.specs.declared.traces.Entry.{Entry}
-use Rattle.hx_types.specs.declared.calls.Row.{Row}
-use Rattle.hx_types.specs.declared.traces.Script.{Script}
-use Rattle.hx_types.specs.declared.values.Term.{Term}
+use Rattle.std.specs.Prelude.{◌≡◌, ℕ, Bool, true, false, List, [], ◌∷◌, ◌==◌}
+use Rattle.hx_model.specs.Types.{Entry, Equal, Row, Script, Server, Update, Version}
 use Rattle.hx_types.specs.declared.calls.Answer.TheVariants as an_answer
 use Rattle.hx_types.specs.declared.traces.Note.TheVariants as a_note
 use Rattle.hx_types.specs.declared.values.Value.TheVariants as a_value
-use Rattle.hx_types.specs.declared.ids.Actor.TheVariants.{Server}
-use Rattle.hx_types.specs.declared.values.Term.TheVariants.{Equal}
 use Rattle.hx_types.specs.Words.{IsIn}
-use Rattle.hx_types.specs.declared.ids.Version.{Version}
-use Rattle.hx_types.specs.declared.updates.Update.{Update}
 use Rattle.hx_model.specs.Linear.{began_before}
 use Rattle.hx_model.specs.Searching.{FinishedSearch, IsSearchTrue, IsSearchWhole, IsTrueRow, ItemWithNewer, changes_object, no_change_before}
 use Rattle.std.proofs.Common.{refl, inl, inr, ap, sym, ◌∙◌}

@@ -1,18 +1,10 @@
 -- The table of a server's steps, row by row, on a small space.
 use Rattle.std.specs.Prelude.{◌≡◌, ℕ, true, false, List, [], ◌∷◌, ◌++◌, map, codes, None, Some}
-use Rattle.hx_types.specs.declared.configs.Config.{Config}
-use Rattle.hx_types.specs.declared.traces.Input.{Input}
-use Rattle.hx_types.specs.declared.snapshots.Kept.{Kept}
-use Rattle.hx_types.specs.declared.calls.Op.{Op}
-use Rattle.hx_types.specs.declared.messages.Post.{Post}
-use Rattle.hx_types.specs.declared.updates.Update.{Update}
+use Rattle.hx_model.specs.Types.{Config, Del, Equal, Get, Halt, Input, Kept, Op, Post, Tick, Update}
 use Rattle.hx_types.specs.declared.values.Value.TheVariants as a_value
 use Rattle.hx_types.specs.declared.calls.Answer.TheVariants as an_answer
 use Rattle.hx_types.specs.declared.messages.Message.TheVariants as a_message
 use Rattle.hx_types.specs.declared.traces.Note.TheVariants as a_note
-use Rattle.hx_types.specs.declared.calls.Op.TheVariants.{Get, Del}
-use Rattle.hx_types.specs.declared.values.Term.TheVariants.{Equal}
-use Rattle.hx_types.specs.declared.traces.Input.TheVariants.{Tick, Halt}
 use Rattle.hx_model.specs.Slots.{KeyState}
 use Rattle.hx_model.specs.ServerSteps.{ServerState, ServerStep, server_step}
 use Rattle.std.proofs.Common.{refl}

@@ -1,17 +1,10 @@
 -- The table of a session's steps, row by row, on a small space.
 use Rattle.std.specs.Prelude.{◌≡◌, ℕ, true, false, List, [], ◌∷◌, map, codes, None, Some}
-use Rattle.hx_types.specs.declared.calls.Answer.{Answer}
-use Rattle.hx_types.specs.declared.configs.Config.{Config}
-use Rattle.hx_types.specs.declared.traces.Input.{Input}
-use Rattle.hx_types.specs.declared.calls.Op.{Op}
-use Rattle.hx_types.specs.declared.messages.Post.{Post}
-use Rattle.hx_types.specs.declared.calls.Row.{Row}
+use Rattle.hx_model.specs.Types.{Add, Answer, Config, Cput, Del, Get, Halt, Input, Op, Post, Row, Search, Stop, Tick}
 use Rattle.hx_types.specs.declared.values.Value.TheVariants as a_value
 use Rattle.hx_types.specs.declared.calls.Answer.TheVariants as an_answer
 use Rattle.hx_types.specs.declared.messages.Message.TheVariants as a_message
 use Rattle.hx_types.specs.declared.traces.Note.TheVariants as a_note
-use Rattle.hx_types.specs.declared.calls.Op.TheVariants.{Get, Del, Cput, Search, Stop, Add}
-use Rattle.hx_types.specs.declared.traces.Input.TheVariants.{Tick, Halt}
 use Rattle.hx_model.specs.SessionSteps.{Part, SessionState, SessionStep, session_step}
 use Rattle.std.proofs.Common.{refl}
 use Rattle.hx_model.proofs.SmallSpace.{blue, by_session, by_session_to_coordinator, configured, epoch, first_update, from_coordinator, from_server, from_session, put_color, ready, red, region, row, server, session, shop, the_key, version, whole}

@@ -1,32 +1,10 @@
 -- A small space for single steps: three servers, one key region, and one declared subspace of two regions.
 use Rattle.std.specs.Prelude.{ℕ, Bool, true, false, List, [], ◌∷◌, map, codes, None, Some}
-use Rattle.hx_types.specs.declared.ids.Actor.{Actor}
-use Rattle.hx_types.specs.declared.calls.Answer.{Answer}
-use Rattle.hx_types.specs.declared.calls.Caller.{Caller}
-use Rattle.hx_types.specs.declared.configs.Config.{Config}
-use Rattle.hx_types.specs.declared.ids.Epoch.{Epoch}
-use Rattle.hx_types.specs.declared.traces.Input.{Input}
-use Rattle.hx_types.specs.declared.snapshots.Mark.{Mark}
-use Rattle.hx_types.specs.declared.configs.Member.{Member}
-use Rattle.hx_types.specs.declared.messages.Message.{Message}
-use Rattle.hx_types.specs.declared.calls.Op.{Op}
-use Rattle.hx_types.specs.declared.updates.Place.{Place}
-use Rattle.hx_types.specs.declared.messages.Post.{Post}
-use Rattle.hx_types.specs.declared.ids.RegionId.{RegionId}
-use Rattle.hx_types.specs.declared.calls.Row.{Row}
-use Rattle.hx_types.specs.declared.ids.ServerId.{ServerId}
-use Rattle.hx_types.specs.declared.ids.SessionId.{SessionId}
-use Rattle.hx_types.specs.declared.spaces.Space.{Space}
-use Rattle.hx_types.specs.declared.snapshots.Touch.{Touch}
-use Rattle.hx_types.specs.declared.updates.Update.{Update}
-use Rattle.hx_types.specs.declared.values.Value.{Value}
-use Rattle.hx_types.specs.declared.ids.Version.{Version}
+use Rattle.hx_model.specs.Types.{Actor, Answer, Caller, Config, Coordinator, Deliver, Epoch, Input, Mark, Member, Message, Op, Place, Post, Put, RegionId, Row}
+use Rattle.hx_model.specs.Types.{Server, ServerId, Session, SessionId, Space, Touch, Update, Value, Version}
 use Rattle.hx_types.specs.declared.calls.Answer.TheVariants as an_answer
 use Rattle.hx_types.specs.declared.spaces.Kind.TheVariants as a_kind
 use Rattle.hx_types.specs.declared.values.Value.TheVariants as a_value
-use Rattle.hx_types.specs.declared.calls.Op.TheVariants.{Put}
-use Rattle.hx_types.specs.declared.ids.Actor.TheVariants.{Coordinator, Server, Session}
-use Rattle.hx_types.specs.declared.traces.Input.TheVariants.{Deliver}
 use Rattle.hx_model.specs.Slots.{KeyState}
 use Rattle.hx_model.specs.ServerSteps.{Replica, ServerState, ServerStep}
 

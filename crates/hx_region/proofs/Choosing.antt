@@ -1,6 +1,6 @@
 -- Candidates compared one after another.
 use Rattle.std.proofs.Common.{◌≡◌, ℕ, ◌+◌, List, [], ◌∷◌, ◌++◌, map, Option, None, refl, ap, ◌∙◌}
-use Rattle.hx_types.specs.declared.configs.Config.{Config}
+use Rattle.hx_model.specs.Types.{Config}
 use Rattle.hx_types.specs.Words.{below}
 use Rattle.hx_types.proofs.Lemmas.{map_below_next}
 use Rattle.hx_model.specs.Planning.{QueryRegions, chosen, fewer_of}

@@ -1,12 +1,8 @@
 -- Plans in a space of books, computed.
 use Rattle.std.specs.Prelude.{true, ◌≡◌, ℕ, List, [], ◌∷◌, map, pos}
 use Rattle.std.proofs.Common.{refl}
-use Rattle.hx_types.specs.declared.configs.Config.{Config}
-use Rattle.hx_types.specs.declared.configs.Member.{Member}
-use Rattle.hx_types.specs.declared.ids.RegionId.{RegionId}
-use Rattle.hx_types.specs.declared.outcomes.Planned.{Planned}
+use Rattle.hx_model.specs.Types.{Config, Equal, Member, Planned, Range, RegionId}
 use Rattle.hx_types.specs.declared.outcomes.Planned.TheVariants as a_plan
-use Rattle.hx_types.specs.declared.values.Term.TheVariants.{Equal, Range}
 use Rattle.hx_types.specs.declared.values.Value.TheVariants as a_value
 use Rattle.hx_model.specs.Planning.{plan_of}
 use Rattle.hx_region.proofs.Examples.{books}

@@ -1,8 +1,6 @@
 -- How the subspaces are tried: in each the regions for a query are counted, and the fewest are looked at first.
 use Rattle.std.specs.Prelude.{◌≡◌, ℕ, ◌<◌, ◌≤◌, ◌⊎◌, true, List, map, length, if◌then◌else◌, nat_lt, slice_index_or, Option, None, Some}
-use Rattle.hx_types.specs.declared.configs.Config.{Config}
-use Rattle.hx_types.specs.declared.spaces.Space.{Space}
-use Rattle.hx_types.specs.declared.values.Term.{Term}
+use Rattle.hx_model.specs.Types.{Config, Space, Term}
 use Rattle.hx_types.specs.Words.{below}
 use Rattle.hx_model.specs.Planning.{QueryRegions, any_lost}
 use Rattle.hx_region.specs.Spans.{subspace_count}

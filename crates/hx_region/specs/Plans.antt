@@ -1,12 +1,8 @@
 -- What the plan of a search promises.
 use Rattle.std.specs.Prelude.{◌≡◌, ℕ, ◌<◌, ◌≤◌, ◌⊎◌, ◌↔◌, true, false, List, length}
 use Rattle.std.specs.List.{All, AllPairs, Contains}
-use Rattle.hx_types.specs.declared.configs.Config.{Config}
-use Rattle.hx_types.specs.declared.ids.RegionId.{RegionId}
+use Rattle.hx_model.specs.Types.{Config, RegionId, Space, Term, Value}
 use Rattle.hx_types.specs.declared.outcomes.Planned.TheVariants as a_plan
-use Rattle.hx_types.specs.declared.spaces.Space.{Space}
-use Rattle.hx_types.specs.declared.values.Term.{Term}
-use Rattle.hx_types.specs.declared.values.Value.{Value}
 use Rattle.hx_types.specs.Configs.{is_lost}
 use Rattle.hx_model.specs.Matching.{matches}
 use Rattle.hx_model.specs.Planning.{plan_of, query_regions}

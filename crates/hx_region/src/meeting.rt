@@ -5,7 +5,7 @@ ghost use Rattle.hx_region.specs.Ranges.{AreThose, rows_from, rows_met};
 ghost use Rattle.hx_types.specs.Spaces.{ArePart, IsSpace};
 ghost use Rattle.hx_types.specs.Subspaces.{size_of};
 ghost use Rattle.hx_types.specs.Words.{below};
-ghost use Rattle.hx_types.specs.declared.spaces.Axis.{Axis};
+ghost use Rattle.hx_model.specs.Types.{Axis};
 
 use crate::cell;
 use crate::cells::CellRange;

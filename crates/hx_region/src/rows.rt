@@ -4,7 +4,7 @@ ghost use Rattle.hx_model.specs.Cells.{cell_of};
 ghost use Rattle.hx_model.specs.Regions.{allows, axis_cell, row_meets, row_number};
 ghost use Rattle.hx_types.specs.Spaces.{ArePart, IsKind, IsSpace};
 ghost use Rattle.hx_types.specs.Subspaces.{kind_at, size_of};
-ghost use Rattle.hx_types.specs.declared.spaces.Axis.{Axis};
+ghost use Rattle.hx_model.specs.Types.{Axis};
 ghost use Rattle.hx_types.specs.declared.values.Value.TheVariants as a_value;
 
 use crate::{cell, int_cell, text_cell};

@@ -1,9 +1,7 @@
 -- How many entries an actor made grows with the trace.
 use Rattle.std.proofs.Common.{◌≡◌, ◌≤◌, ◌+◌, Bool, true, false, cond, List, ◌∷◌, Option, Some, None, refl, ap, ◌∙◌, arith}
 use Rattle.std.proofs.lemmas.Bool.{eq-eqb}
-use Rattle.hx_types.specs.declared.ids.Actor.{Actor}
-use Rattle.hx_types.specs.declared.ids.Actor.TheVariants.{Coordinator, Server, Session}
-use Rattle.hx_types.specs.declared.traces.Entry.{Entry}
+use Rattle.hx_model.specs.Types.{Actor, Coordinator, Entry, Server, Session}
 use Rattle.hx_types.specs.Words.{same_actor}
 use Rattle.hx_model.specs.Schedule.{entries_of, with_entry}
 

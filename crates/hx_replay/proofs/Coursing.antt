@@ -6,10 +6,7 @@ use Rattle.std.proofs.lemmas.List.{reverse-reverse}
 use Rattle.std.proofs.lemmas.List.Elements.{recursion_from_All}
 use Rattle.std.proofs.lemmas.Slice.Zip.{AllZip-long}
 use Rattle.hx_bundle.specs.declared.bundles.Bundle.{Bundle}
-use Rattle.hx_types.specs.declared.errors.Memory.{Memory}
-use Rattle.hx_types.specs.declared.traces.Entry.{Entry}
-use Rattle.hx_types.specs.declared.traces.Script.{Script}
-use Rattle.hx_types.specs.declared.totals.Totals.{Totals}
+use Rattle.hx_model.specs.Types.{Entry, Memory, Script, Totals}
 use Rattle.hx_model.specs.Runs.{IsRun}
 use Rattle.hx_report.specs.BundleReporting.{IsBundleReport}
 use Rattle.hx_spaces.specs.Clusters.{IsCourse, IsRunOfSpace, traces_of}

@@ -1,10 +1,7 @@
 -- What a replay of a script comes to that was stopped.
 use Rattle.std.proofs.Common.{◌≡◌, ◌∙◌, inl, inr, refl, ℕ, List, [], ◌∷◌, map, reverse, ap, subst, Bool}
 use Rattle.std.specs.Prelude.{IfOk, Result, Ok, Err}
-use Rattle.hx_types.specs.declared.errors.Memory.{Memory}
-use Rattle.hx_types.specs.declared.traces.Entry.{Entry}
-use Rattle.hx_types.specs.declared.traces.Script.{Script}
-use Rattle.hx_types.specs.declared.traces.Step.{Step}
+use Rattle.hx_model.specs.Types.{Entry, Memory, Script, Step}
 use Rattle.hx_model.specs.Runs.{IsRun}
 use Rattle.hx_model.specs.Schedule.{scheduled, stepped}
 use Rattle.hx_world.specs.Worlds.{DrainFails, HasFewEntries, IsPartOf}

@@ -1,7 +1,7 @@
 -- A script that has an answer has no step that is refused.
 use Rattle.std.proofs.Common.{◌≡◌, inl, inr, ℕ, List, Option, Some, subst}
 use Rattle.std.specs.Prelude.{Ok, IfSome}
-use Rattle.hx_types.specs.declared.traces.Entry.{Entry}
+use Rattle.hx_model.specs.Types.{Entry}
 use Rattle.hx_script.specs.declared.errors.Reason.{Reason}
 use Rattle.hx_script.specs.declared.errors.Reason.TheVariants as a_reason
 use Rattle.hx_script.specs.declared.errors.ScriptError.TheVariants as a_script_error

@@ -1,8 +1,7 @@
 -- What the laws say of a run, and of the runs of several spaces.
 use Rattle.std.proofs.Common.{List, [], ◌∷◌, reverse}
 use Rattle.std.specs.List.{AllByRecursion, AllZip}
-use Rattle.hx_types.specs.declared.traces.Entry.{Entry}
-use Rattle.hx_types.specs.declared.traces.Script.{Script}
+use Rattle.hx_model.specs.Types.{Entry, Script}
 use Rattle.hx_types.specs.Fitting.{IsScript}
 use Rattle.hx_model.specs.Runs.{IsRun}
 use Rattle.hx_law_searches.specs.Headline.{RunsAreLinear, RunsSearchWell}

@@ -4,9 +4,7 @@ use Rattle.std.specs.Prelude.{Ok}
 use Rattle.std.specs.declared.string.String.{String}
 use Rattle.std.specs.declared.alloc.Global.{Global}
 use Rattle.hx_bundle.specs.declared.bundles.Bundle.{Bundle}
-use Rattle.hx_types.specs.declared.ids.Actor.{Actor}
-use Rattle.hx_types.specs.declared.traces.Entry.{Entry}
-use Rattle.hx_types.specs.declared.traces.Script.{Script}
+use Rattle.hx_model.specs.Types.{Actor, Entry, Script}
 use Rattle.hx_script.specs.declared.errors.Reason.{Reason}
 use Rattle.hx_script.specs.declared.errors.Reason.TheVariants as a_reason
 use Rattle.hx_replay.specs.Causes.{CommandEnds, CommandMakes, EndsAtStep, EndsWorn, IsJudged, IsRefusedStep, IsSteppable, IsStopped, IsTaken, IsWorn, ReadsText, ScriptedEnds, limit, outcome_of}

@@ -1,7 +1,7 @@
 -- What a text is the script of, by its version; and it is refused as the text of a bundle is.
 use Rattle.std.proofs.Common.{◌≡◌, ℕ, Bool, true, false, cond, List, Result, Ok, Err, ap, ◌∙◌}
 use Rattle.std.specs.Prelude.{◌==◌}
-use Rattle.hx_types.specs.declared.traces.Script.{Script}
+use Rattle.hx_model.specs.Types.{Script}
 use Rattle.hx_script.specs.declared.errors.ScriptError.{ScriptError}
 use Rattle.hx_script.specs.BundleTexts.{bundle_by, bundle_of, one_space, read_first, read_second, then_read, version_of}
 use Rattle.hx_script.specs.Texts.{script_of}

@@ -1,9 +1,7 @@
 -- A drained world holds the run of its script that its steps and the schedule give.
 use Rattle.std.proofs.Common.{◌≡◌, ◌≤◌, ◌<◌, length, arith, ℕ, List, [], sym, subst, ◌∙◌, ap, reverse, None, map}
 use Rattle.std.proofs.lemmas.List.{length-reverse}
-use Rattle.hx_types.specs.declared.traces.Entry.{Entry}
-use Rattle.hx_types.specs.declared.traces.Script.{Script}
-use Rattle.hx_types.specs.declared.traces.Step.{Step}
+use Rattle.hx_model.specs.Types.{Entry, Script, Step}
 use Rattle.hx_model.specs.Runs.{IsRun}
 use Rattle.hx_model.specs.Schedule.{next_entry, scheduled, stepped}
 use Rattle.hx_world.specs.Worlds.{Drains, HasFewEntries, WorldState, most_entries}

@@ -1,9 +1,7 @@
 -- The steps of a script or of a bundle, one after another.
 use Rattle.std.proofs.Common.{◌≡◌, ℕ, List, [], sym, ap, ◌∙◌, subst, Option, Some, None}
 use Rattle.hx_bundle.specs.declared.bundles.Bundle.{Bundle}
-use Rattle.hx_types.specs.declared.ids.Actor.{Actor}
-use Rattle.hx_types.specs.declared.traces.Entry.{Entry}
-use Rattle.hx_types.specs.declared.traces.Script.{Script}
+use Rattle.hx_model.specs.Types.{Actor, Entry, Script}
 use Rattle.hx_model.specs.Schedule.{Worn as WornFault}
 use Rattle.hx_spaces.specs.Courses.{Course, at_start}
 use Rattle.hx_spaces.specs.Stepping.{BundleStop, bundle_stop_of}

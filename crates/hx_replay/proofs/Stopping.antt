@@ -1,9 +1,7 @@
 -- What a replay of a script comes to that was stopped, by the world that was left.
 use Rattle.std.proofs.Common.{◌≡◌, ◌∙◌, ℕ, List, [], ◌∷◌, reverse, sym, ap, subst, Bool}
 use Rattle.std.specs.Prelude.{IfOk, Result, Ok}
-use Rattle.hx_types.specs.declared.errors.Memory.{Memory}
-use Rattle.hx_types.specs.declared.traces.Entry.{Entry}
-use Rattle.hx_types.specs.declared.traces.Script.{Script}
+use Rattle.hx_model.specs.Types.{Entry, Memory, Script}
 use Rattle.hx_model.specs.Runs.{IsRun}
 use Rattle.hx_world.specs.Worlds.{DrainFails, HasFewEntries, IsPartOf, WorldState}
 use Rattle.hx_world.specs.declared.ends.DrainError.{DrainError}

@@ -3,10 +3,7 @@ use Rattle.std.proofs.Common.{◌≡◌, ◌⊎◌, inl, inr, ◌≤◌, ◌<◌
 use Rattle.std.specs.Prelude.{IsSomeAnd, Err, IfSome}
 use Rattle.std.proofs.lemmas.Bool.{cases_lt, leb-true}
 use Rattle.hx_io.specs.Causes.{Rose}
-use Rattle.hx_types.specs.declared.ids.Actor.{Actor}
-use Rattle.hx_types.specs.declared.traces.Entry.{Entry}
-use Rattle.hx_types.specs.declared.traces.Script.{Script}
-use Rattle.hx_types.specs.declared.traces.Step.{Step}
+use Rattle.hx_model.specs.Types.{Actor, Entry, Script, Step}
 use Rattle.hx_script.specs.declared.errors.ScriptError.TheVariants as a_script_error
 use Rattle.hx_model.specs.Schedule.{Worn as WornFault, entries_of, next_entry, scheduled, stepped, with_entry}
 use Rattle.hx_world.specs.Worlds.{HasFewEntries, IsWornOut}

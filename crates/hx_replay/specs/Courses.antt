@@ -2,10 +2,7 @@
 use Rattle.std.specs.Prelude.{◌≡◌, ◌⊎◌, Bool, ℕ, List, [], map, reverse, None, Some}
 use Rattle.std.specs.List.{AllZip}
 use Rattle.hx_bundle.specs.declared.bundles.Bundle.{Bundle}
-use Rattle.hx_types.specs.declared.ids.Actor.{Actor}
-use Rattle.hx_types.specs.declared.totals.Totals.{Totals}
-use Rattle.hx_types.specs.declared.traces.Entry.{Entry}
-use Rattle.hx_types.specs.declared.traces.Script.{Script}
+use Rattle.hx_model.specs.Types.{Actor, Entry, Script, Totals}
 use Rattle.hx_model.specs.Runs.{IsRun}
 use Rattle.hx_model.specs.Schedule.{Worn as WornFault}
 use Rattle.hx_report.specs.BundleReporting.{IsBundleReport}

@@ -4,7 +4,7 @@ use Rattle.std.specs.Fmt.{decimal}
 use Rattle.hx_script.specs.declared.errors.Reason.{Reason}
 use Rattle.hx_script.specs.declared.errors.Reason.TheVariants as a_reason
 use Rattle.hx_print.specs.Printing.{actor_text}
-use Rattle.hx_types.specs.declared.ids.Actor.{Actor}
+use Rattle.hx_model.specs.Types.{Actor}
 use Rattle.hx_replay.specs.declared.outcomes.Outcome.{Outcome}
 use Rattle.hx_audit.specs.declared.verdicts.Clause.{Clause}
 use Rattle.hx_audit.specs.Verdicts.{clause_word}

@@ -3,15 +3,8 @@ use Rattle.std.specs.Prelude.{ℕ, ◌+◌, List, [], ◌∷◌, ◌++◌, map, 
 use Rattle.std.specs.Fmt.{decimal}
 use Rattle.std.specs.List.{flat_map}
 use Rattle.hx_bundle.specs.declared.bundles.Bundle.{Bundle}
-use Rattle.hx_types.specs.declared.calls.Caller.{Caller}
-use Rattle.hx_types.specs.declared.calls.Op.{Op}
-use Rattle.hx_types.specs.declared.calls.Op.TheVariants.{Search}
-use Rattle.hx_types.specs.declared.configs.Config.{Config}
-use Rattle.hx_types.specs.declared.ids.RegionId.{RegionId}
-use Rattle.hx_types.specs.declared.outcomes.Planned.{Planned}
+use Rattle.hx_model.specs.Types.{Caller, Config, Op, Planned, RegionId, Script, Search, Space}
 use Rattle.hx_types.specs.declared.outcomes.Planned.TheVariants as a_plan
-use Rattle.hx_types.specs.declared.spaces.Space.{Space}
-use Rattle.hx_types.specs.declared.traces.Script.{Script}
 use Rattle.hx_types.specs.Configs.{first_config}
 use Rattle.hx_model.specs.Planning.{plan_of}
 use Rattle.hx_print.specs.Printing.{caller_text, numbers_text}

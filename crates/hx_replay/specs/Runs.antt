@@ -1,10 +1,6 @@
 -- What a replay of a script comes to: one run of it.
 use Rattle.std.specs.Prelude.{◌≡◌, ◌⊎◌, Bool, ℕ, List, [], ◌∷◌, map, reverse, Some}
-use Rattle.hx_types.specs.declared.calls.Caller.{Caller}
-use Rattle.hx_types.specs.declared.ids.Actor.{Actor}
-use Rattle.hx_types.specs.declared.traces.Entry.{Entry}
-use Rattle.hx_types.specs.declared.traces.Script.{Script}
-use Rattle.hx_types.specs.declared.traces.Step.{Step}
+use Rattle.hx_model.specs.Types.{Actor, Caller, Entry, Script, Step}
 use Rattle.hx_model.specs.Linear.{IsLinear}
 use Rattle.hx_model.specs.Runs.{IsRun}
 use Rattle.hx_model.specs.Causes.{HasCauses}

@@ -7,11 +7,7 @@ use Rattle.hx_world.specs.declared.ends.DrainError.{DrainError}
 use Rattle.hx_world.specs.declared.ends.DrainError.TheVariants as a_drain_error
 use Rattle.hx_world.specs.declared.ends.StepError.{StepError}
 use Rattle.hx_world.specs.declared.ends.StepError.TheVariants as an_error
-use Rattle.hx_types.specs.declared.errors.Memory.{Memory}
-use Rattle.hx_types.specs.declared.ids.Actor.{Actor}
-use Rattle.hx_types.specs.declared.traces.Entry.{Entry}
-use Rattle.hx_types.specs.declared.traces.Script.{Script}
-use Rattle.hx_types.specs.declared.traces.Step.{Step}
+use Rattle.hx_model.specs.Types.{Actor, Entry, Memory, Script, Step}
 use Rattle.hx_types.specs.Words.{when_some}
 use Rattle.hx_replay.specs.declared.outcomes.Ended.{Ended}
 use Rattle.hx_replay.specs.declared.outcomes.Ended.TheVariants as an_end

@@ -1,5 +1,5 @@
 ghost use Rattle.std.specs.Prelude.{◌≡◌, ℕ, List, [], IfOk, IfErr, Ok, map};
-ghost use Rattle.hx_types.specs.declared.traces.Script.{Script as ScriptSeen};
+ghost use Rattle.hx_model.specs.Types.{Script as ScriptSeen};
 ghost use Rattle.hx_replay.specs.Causes.{CommandEnds, CommandMakes, IsTextCause, ScriptedEnds};
 ghost use Rattle.hx_replay.specs.Texts.{IsScripted, scripted_of};
 ghost use Rattle.hx_replay.specs.declared.words.Command.TheVariants as a_command;

@@ -1,5 +1,5 @@
 ghost use Rattle.std.specs.Prelude.{◌≡◌, [], IfOk, map};
-ghost use Rattle.hx_types.specs.declared.traces.Script.{Script as ScriptSeen};
+ghost use Rattle.hx_model.specs.Types.{Script as ScriptSeen};
 ghost use Rattle.hx_bundle.specs.Bundles.{IsBundle};
 ghost use Rattle.hx_spaces.specs.Courses.{Course, at_start};
 ghost use Rattle.hx_spaces.specs.Stepping.{bundle_stepped};

@@ -1,5 +1,5 @@
 ghost use Rattle.std.specs.Prelude.{◌≡◌, ℕ, [], ◌∷◌, IfOk, Ok, map, reverse};
-ghost use Rattle.hx_types.specs.declared.traces.Step.{Step};
+ghost use Rattle.hx_model.specs.Types.{Step};
 ghost use Rattle.hx_model.specs.Schedule.{stepped};
 ghost use Rattle.hx_types.specs.Fitting.{IsScript};
 ghost use Rattle.hx_replay.specs.Runs.{IsOfOne, IsWholeReplay, IsWholeRun, ReplayEnds};

@@ -1,5 +1,5 @@
 ghost use Rattle.std.specs.Prelude.{◌≡◌, ℕ, [], map, IfErr, OnErr, OnOk, reverse};
-ghost use Rattle.hx_types.specs.declared.traces.Step.{Step};
+ghost use Rattle.hx_model.specs.Types.{Step};
 ghost use Rattle.hx_model.specs.Schedule.{stepped};
 ghost use Rattle.hx_replay.specs.Steps.{AreTaken, HasSteps, Stops, StopsAt, stopped_by};
 ghost use Rattle.hx_world.specs.Worlds.{IsStepOf, Steps};

@@ -3,10 +3,8 @@ use Rattle.std.proofs.Common.{◌≡◌, ℕ, ◌+◌, ◌≤◌, true, false, n
 use Rattle.std.specs.List.{find, flat_map, list_any, slice_get}
 use Rattle.std.proofs.lemmas.Bool.{cond-false, cond-true}
 use Rattle.std.proofs.lemmas.List.{drop_all}
-use Rattle.hx_types.specs.declared.messages.Post.{Post}
-use Rattle.hx_types.specs.declared.ids.Version.{Version}
+use Rattle.hx_model.specs.Types.{Post, Update, Version}
 use Rattle.hx_types.specs.declared.outcomes.Acked.TheVariants as an_ack
-use Rattle.hx_types.specs.declared.updates.Update.{Update}
 use Rattle.hx_types.specs.Words.{provided}
 use Rattle.hx_model.specs.ServerSteps.{SlotContext as ModelContext, ack_step, accepting, move_posts, with_commits}
 use Rattle.hx_model.specs.Slots.{Acknowledge, Commit, KeyState, Move, ack_answer, commits, is_pending, moved, offered, pending_of, settled, waits_below}

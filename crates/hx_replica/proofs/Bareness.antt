@@ -1,8 +1,6 @@
 -- A server's slots have no past.
 use Rattle.std.proofs.Common.{◌≡◌, true, List, [], ◌∷◌, map, refl, ap, sym, ◌∙◌, subst}
-use Rattle.hx_types.specs.declared.configs.Config.{Config}
-use Rattle.hx_types.specs.declared.ids.RegionId.{RegionId}
-use Rattle.hx_types.specs.declared.spaces.Space.{Space}
+use Rattle.hx_model.specs.Types.{Config, RegionId, Space}
 use Rattle.hx_model.specs.ServerSteps.{Replica as ReplicaState, ServerState, listed_regions, replica_or_new}
 use Rattle.hx_law_folds.specs.Folding.{folded_replica, folded_server}
 use Rattle.hx_law_folds.proofs.Lemmas.{folded-server-twice}

@@ -3,8 +3,7 @@ use Rattle.std.proofs.Common.{◌≡◌, ℕ, suc, ◌+◌, ◌≤◌, Bool, tru
 use Rattle.std.specs.List.{AllByRecursion, list_any, slice_get}
 use Rattle.std.proofs.lemmas.List.{drop_all}
 use Rattle.std.proofs.lemmas.Bool.{cond_both, cond-true, cond-false, false≢true, le-leb, lt-leb}
-use Rattle.hx_types.specs.declared.ids.Version.{Version}
-use Rattle.hx_types.specs.declared.updates.Update.{Update}
+use Rattle.hx_model.specs.Types.{Update, Version}
 use Rattle.hx_types.specs.Words.{provided}
 use Rattle.hx_model.specs.Slots.{Commit, KeyState, commits, moved, moved_all, pending_above, pending_of, top_above}
 use Rattle.hx_law_folds.specs.Folding.{Descends, Stands}

@@ -3,10 +3,7 @@ use Rattle.std.proofs.Common.{◌≡◌, ◌<◌, Bool, true, false, List, [], �
 use Rattle.std.specs.List.{flat_map}
 use Rattle.std.specs.declared.alloc.Global.{Global}
 use Rattle.std.proofs.lemmas.Bool.{cond-true, lt-ltb}
-use Rattle.hx_types.specs.declared.configs.Config.{Config}
-use Rattle.hx_types.specs.declared.messages.Post.{Post}
-use Rattle.hx_types.specs.declared.ids.RegionId.{RegionId}
-use Rattle.hx_types.specs.declared.spaces.Space.{Space}
+use Rattle.hx_model.specs.Types.{Config, Post, RegionId, Space}
 use Rattle.hx_types.specs.Configs.{joiner_for}
 use Rattle.hx_types.specs.Words.{provided}
 use Rattle.hx_model.specs.ServerSteps.{Replica as ReplicaState, ServerState, ServerStep, SlotContext, adopted, adopted_posts, adopted_replica, adopted_state, install_at, is_active, listed_regions, ready_post, replica_or_new, resumed_posts, context_of, unmoved, with_config}

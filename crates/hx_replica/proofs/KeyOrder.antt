@@ -5,7 +5,7 @@ use Rattle.std.specs.List.{AllByRecursion, insert, slice_get}
 use Rattle.std.proofs.lemmas.Bool.{cond_both, cond-true, cond-false, false_from_ne_true, false≢true}
 use Rattle.std.proofs.lemmas.List.{take-append-drop}
 use Rattle.std.proofs.lemmas.Option.{same_Some}
-use Rattle.hx_types.specs.declared.updates.Update.{Update}
+use Rattle.hx_model.specs.Types.{Update}
 use Rattle.hx_types.specs.Words.{same_text, text_below}
 use Rattle.hx_model.proofs.Lemmas.{eq_of_same_text, same_text_self}
 use Rattle.hx_model.specs.ServerSteps.{keys_of, with_key}

@@ -1,9 +1,7 @@
 -- Whom a server knows that gets a search at the start, and posts that name somebody else.
 use Rattle.std.proofs.Common.{◌≡◌, ℕ, inl, inr, List, [], ◌∷◌, refl, ap, arith}
-use Rattle.hx_types.specs.declared.ids.Actor.{Actor}
-use Rattle.hx_types.specs.declared.ids.Actor.TheVariants.{Coordinator, Server, Session}
+use Rattle.hx_model.specs.Types.{Actor, Coordinator, Post, Server, Session}
 use Rattle.hx_types.specs.declared.messages.Message.TheVariants.{Found, StopServer}
-use Rattle.hx_types.specs.declared.messages.Post.{Post}
 use Rattle.hx_types.specs.Posted.{NameOnly, NamesOnly, actors_of_message}
 use Rattle.hx_types.specs.Words.{IsIn, post}
 use Rattle.hx_model.specs.ServerSteps.{server_at_start}

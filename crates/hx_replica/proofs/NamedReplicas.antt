@@ -1,14 +1,7 @@
 -- Replicas: where whom they name is known, ticks, adopted configurations and snapshots make posts that name known actors alone.
 use Rattle.std.proofs.Common.{ℕ, inl, inr, Bool, true, false, List, [], ◌∷◌, ◌++◌, map, Option, Some, None, sym, subst, ltb}
 use Rattle.std.specs.List.{filter, flat_map}
-use Rattle.hx_types.specs.declared.ids.Actor.{Actor}
-use Rattle.hx_types.specs.declared.ids.Actor.TheVariants.{Coordinator, Session}
-use Rattle.hx_types.specs.declared.ids.RegionId.{RegionId}
-use Rattle.hx_types.specs.declared.ids.ServerId.{ServerId}
-use Rattle.hx_types.specs.declared.snapshots.Kept.{Kept}
-use Rattle.hx_types.specs.declared.snapshots.Mark.{Mark}
-use Rattle.hx_types.specs.declared.spaces.Space.{Space}
-use Rattle.hx_types.specs.declared.updates.Update.{Update}
+use Rattle.hx_model.specs.Types.{Actor, Coordinator, Kept, Mark, RegionId, ServerId, Session, Space, Update}
 use Rattle.hx_types.specs.Configs.{joiner_for, lists_joining}
 use Rattle.hx_types.specs.Posted.{sessions_marked}
 use Rattle.hx_types.specs.Subspaces.{is_key_region}

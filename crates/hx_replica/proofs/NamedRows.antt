@@ -3,25 +3,9 @@ use Rattle.std.proofs.Common.{◌≡◌, ℕ, inl, false, not, List, [], ◌∷�
 use Rattle.std.specs.Prelude.{⊤}
 use Rattle.std.specs.List.{flat_map, slice_get}
 use Rattle.std.proofs.lemmas.Bool.{cond_both}
-use Rattle.hx_types.specs.declared.calls.Op.{Op}
-use Rattle.hx_types.specs.declared.calls.Caller.{Caller}
-use Rattle.hx_types.specs.declared.configs.Config.{Config}
-use Rattle.hx_types.specs.declared.configs.Member.{Member}
-use Rattle.hx_types.specs.declared.ids.Actor.{Actor}
-use Rattle.hx_types.specs.declared.ids.Actor.TheVariants.{Coordinator, Server, Session}
-use Rattle.hx_types.specs.declared.ids.Epoch.{Epoch}
-use Rattle.hx_types.specs.declared.ids.RegionId.{RegionId}
-use Rattle.hx_types.specs.declared.ids.ServerId.{ServerId}
-use Rattle.hx_types.specs.declared.messages.Message.{Message}
-use Rattle.hx_types.specs.declared.messages.Post.{Post}
+use Rattle.hx_model.specs.Types.{Actor, Caller, Config, Coordinator, Deliver, Epoch, Halt, Input, Kept, Mark, Member, Message, Op, Post, RegionId, Server}
+use Rattle.hx_model.specs.Types.{ServerId, Session, Space, Term, Tick, Update}
 use Rattle.hx_types.specs.declared.messages.Message.TheVariants as a_message
-use Rattle.hx_types.specs.declared.snapshots.Kept.{Kept}
-use Rattle.hx_types.specs.declared.snapshots.Mark.{Mark}
-use Rattle.hx_types.specs.declared.spaces.Space.{Space}
-use Rattle.hx_types.specs.declared.traces.Input.{Input}
-use Rattle.hx_types.specs.declared.traces.Input.TheVariants.{Tick, Halt, Deliver}
-use Rattle.hx_types.specs.declared.updates.Update.{Update}
-use Rattle.hx_types.specs.declared.values.Term.{Term}
 use Rattle.hx_types.specs.Configs.{leads, lists_ready, members_of}
 use Rattle.hx_types.specs.Effects.{key_of}
 use Rattle.hx_types.specs.Posted.{actors_of_config, actors_of_message, servers_among, sessions_marked}

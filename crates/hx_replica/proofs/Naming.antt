@@ -1,16 +1,7 @@
 -- Whom a server and its input name: the posts of each step name these alone.
 use Rattle.std.proofs.Common.{◌≡◌, inl, inr, List, ◌∷◌, ◌++◌, map, refl, ap, sym, ◌∙◌, subst}
 use Rattle.std.specs.List.{flat_map}
-use Rattle.hx_types.specs.declared.ids.Actor.{Actor}
-use Rattle.hx_types.specs.declared.ids.Actor.TheVariants.{Server, Session}
-use Rattle.hx_types.specs.declared.messages.Message.{Message}
-use Rattle.hx_types.specs.declared.messages.Post.{Post}
-use Rattle.hx_types.specs.declared.messages.PostId.{PostId}
-use Rattle.hx_types.specs.declared.snapshots.Mark.{Mark}
-use Rattle.hx_types.specs.declared.spaces.Space.{Space}
-use Rattle.hx_types.specs.declared.traces.Entry.{Entry}
-use Rattle.hx_types.specs.declared.traces.Input.{Input}
-use Rattle.hx_types.specs.declared.traces.Input.TheVariants.{Tick, Halt, Deliver}
+use Rattle.hx_model.specs.Types.{Actor, Deliver, Entry, Halt, Input, Mark, Message, Post, PostId, Server, Session, Space, Tick}
 use Rattle.hx_types.specs.Posted.{NameOnly, NamesOnly, actors_of_config, actors_of_input, actors_of_message, sessions_marked}
 use Rattle.hx_types.specs.Words.{IsIn}
 use Rattle.hx_model.specs.ServerSteps.{Replica, ServerState, ServerStep, message_step, server_step}

@@ -10,11 +10,7 @@ use Rattle.std.proofs.lemmas.Grind.{flat_map-append}
 use Rattle.std.proofs.lemmas.List.{append-nil}
 use Rattle.std.proofs.lemmas.List.Elements.{All-nil, All-cons, All-head, All-tail}
 use Rattle.std.proofs.lemmas.List.Folds.{list_any-append}
-use Rattle.hx_types.specs.declared.messages.Post.{Post}
-use Rattle.hx_types.specs.declared.ids.RegionId.{RegionId}
-use Rattle.hx_types.specs.declared.ids.Version.{Version}
-use Rattle.hx_types.specs.declared.updates.Place.{Place}
-use Rattle.hx_types.specs.declared.updates.Update.{Update}
+use Rattle.hx_model.specs.Types.{Place, Post, RegionId, Update, Version}
 use Rattle.hx_types.specs.Words.{provided, same_region, when_some}
 use Rattle.hx_model.specs.Neighbours.{is_end, place_number}
 use Rattle.hx_model.specs.ServerSteps.{SlotContext as ModelContext, tail_acks, move_posts, next_at, passed_on}

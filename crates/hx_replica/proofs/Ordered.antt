@@ -3,8 +3,7 @@ use Rattle.std.proofs.Common.{◌≡◌, ℕ, zero, suc, ◌+◌, ◌<◌, ◌�
 use Rattle.std.specs.List.{All, AllByRecursion, slice_get}
 use Rattle.std.specs.Option.{option_map}
 use Rattle.std.proofs.lemmas.List.Elements.{All-from_recursion, recursion_from_All}
-use Rattle.hx_types.specs.declared.ids.RegionId.{RegionId}
-use Rattle.hx_types.specs.declared.spaces.Space.{Space}
+use Rattle.hx_model.specs.Types.{RegionId, Space}
 use Rattle.hx_types.specs.Spaces.{IsAscending}
 use Rattle.hx_model.specs.ServerSteps.{Replica as ReplicaState, replica_of}
 use Rattle.hx_replica.specs.declared.replicas.Replica.{Replica}

@@ -4,9 +4,7 @@ use Rattle.std.specs.List.{All, filter, flat_map}
 use Rattle.std.proofs.lemmas.Bool.Decides.{nat_tests}
 use Rattle.std.proofs.lemmas.Grind.{flat_map-append}
 use Rattle.std.proofs.lemmas.List.Elements.{All-nil, All-cons, All-head, All-tail}
-use Rattle.hx_types.specs.declared.messages.Post.{Post}
-use Rattle.hx_types.specs.declared.ids.Version.{Version}
-use Rattle.hx_types.specs.declared.updates.Update.{Update}
+use Rattle.hx_model.specs.Types.{Post, Update, Version}
 use Rattle.hx_types.specs.Configs.{leads}
 use Rattle.hx_types.specs.Words.{provided}
 use Rattle.hx_model.specs.Leading.{StuckAt, stuck_among}

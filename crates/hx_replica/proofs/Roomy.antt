@@ -4,8 +4,7 @@ use Rattle.std.specs.List.{All, AllByRecursion, slice_get}
 use Rattle.std.proofs.lemmas.Bool.{cond_both, eq-eqb, eqb-true, false≢true, false_from_ne_true, ne_eqb}
 use Rattle.std.proofs.lemmas.List.Elements.{All-head, All-tail}
 use Rattle.std.proofs.lemmas.Option.{same_Some}
-use Rattle.hx_types.specs.declared.configs.Config.{Config}
-use Rattle.hx_types.specs.declared.ids.RegionId.{RegionId}
+use Rattle.hx_model.specs.Types.{Config, RegionId}
 use Rattle.hx_types.specs.Words.{same_region}
 use Rattle.hx_model.specs.ServerSteps.{Replica as ReplicaState, replica_of}
 use Rattle.hx_store.specs.Stores.{KeepsRooms, Room, UsesRoom}

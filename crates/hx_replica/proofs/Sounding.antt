@@ -1,16 +1,7 @@
 -- The posts of a server's step are sound where the server and its input are.
 use Rattle.std.proofs.Common.{◌≡◌, ℕ, ◌+◌, ◌≤◌, List, [], ◌∷◌, inl, inr, true, refl, ap, sym, ◌∙◌, subst, arith}
 use Rattle.std.specs.List.{All, AllByRecursion}
-use Rattle.hx_types.specs.declared.ids.Actor.{Actor}
-use Rattle.hx_types.specs.declared.ids.RegionId.{RegionId}
-use Rattle.hx_types.specs.declared.messages.Message.{Message}
-use Rattle.hx_types.specs.declared.messages.PostId.{PostId}
-use Rattle.hx_types.specs.declared.spaces.Space.{Space}
-use Rattle.hx_types.specs.declared.traces.Entry.{Entry}
-use Rattle.hx_types.specs.declared.traces.Input.{Input}
-use Rattle.hx_types.specs.declared.updates.Update.{Update}
-use Rattle.hx_types.specs.declared.ids.Actor.TheVariants.{Server}
-use Rattle.hx_types.specs.declared.traces.Input.TheVariants.{Deliver}
+use Rattle.hx_model.specs.Types.{Actor, Deliver, Entry, Input, Message, PostId, RegionId, Server, Space, Update}
 use Rattle.hx_types.specs.Posts.{IsSoundPost}
 use Rattle.hx_types.specs.Words.{IsIn, post, text_below}
 use Rattle.hx_model.specs.ServerSteps.{Replica, ServerState, ServerStep, message_step, server_step}

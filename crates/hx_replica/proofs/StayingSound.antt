@@ -2,14 +2,10 @@
 use Rattle.std.proofs.Common.{◌≡◌, ℕ, ◌+◌, ◌<◌, ◌≤◌, List, [], ◌∷◌, length, map, true, inl, inr, refl, sym, ◌∙◌, subst, arith, leb}
 use Rattle.std.specs.List.{AllByRecursion}
 use Rattle.std.proofs.lemmas.Bool.{cond_both, false≢true, le-leb}
-use Rattle.hx_types.specs.declared.ids.RegionId.{RegionId}
-use Rattle.hx_types.specs.declared.spaces.Space.{Space}
-use Rattle.hx_types.specs.declared.traces.Input.{Input}
-use Rattle.hx_types.specs.declared.updates.Update.{Update}
+use Rattle.hx_model.specs.Types.{Input, RegionId, ServerId, Space, Update}
 use Rattle.hx_types.specs.Configs.{first_config, lists}
 use Rattle.hx_types.specs.Words.{IsIn, below, text_below}
 use Rattle.hx_types.specs.Spaces.{IsRegionOf, IsServerOf, IsSpace}
-use Rattle.hx_types.specs.declared.ids.ServerId.{ServerId}
 use Rattle.hx_model.specs.ServerSteps.{Replica, ServerState, listed_regions, server_at_start, server_step}
 use Rattle.hx_model.specs.Slots.{KeyState, top_above}
 use Rattle.hx_law_folds.specs.Folding.{Descends, KeysAscend, above, folded, folded_replica, folded_server}

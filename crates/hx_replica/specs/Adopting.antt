@@ -1,12 +1,7 @@
 -- What a server makes of a configuration that it adopts.
 use Rattle.std.specs.Prelude.{◌≡◌, ℕ, zero, suc, Bool, true, false, IsSomeAnd, if◌then◌else◌, List, [], ◌∷◌, ◌++◌, map, nat_le, Option, None, Some, slice_get}
 use Rattle.std.specs.List.{flat_map}
-use Rattle.hx_types.specs.declared.configs.Config.{Config}
-use Rattle.hx_types.specs.declared.messages.Post.{Post}
-use Rattle.hx_types.specs.declared.ids.RegionId.{RegionId}
-use Rattle.hx_types.specs.declared.ids.Version.{Version}
-use Rattle.hx_types.specs.declared.spaces.Space.{Space}
-use Rattle.hx_types.specs.declared.updates.Update.{Update}
+use Rattle.hx_model.specs.Types.{Config, Post, RegionId, Space, Update, Version}
 use Rattle.hx_types.specs.Configs.{leads}
 use Rattle.hx_types.specs.Words.{provided, when_some}
 use Rattle.hx_model.specs.Leading.{StuckAt, stuck_among}

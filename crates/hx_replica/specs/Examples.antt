@@ -1,13 +1,7 @@
 -- What the tests are of: a space of one region on one server, and inputs there.
 use Rattle.std.specs.Prelude.{ℕ, [], ◌∷◌}
-use Rattle.hx_types.specs.declared.messages.Message.{Message}
-use Rattle.hx_types.specs.declared.ids.ServerId.{ServerId}
-use Rattle.hx_types.specs.declared.spaces.Space.{Space}
-use Rattle.hx_types.specs.declared.traces.Input.{Input}
-use Rattle.hx_types.specs.declared.calls.Op.TheVariants.{Put}
+use Rattle.hx_model.specs.Types.{Coordinator, Deliver, Input, Message, Put, ServerId, Session, Space}
 use Rattle.hx_types.specs.declared.messages.Message.TheVariants.{Ask, Call}
-use Rattle.hx_types.specs.declared.ids.Actor.TheVariants.{Coordinator, Session}
-use Rattle.hx_types.specs.declared.traces.Input.TheVariants.{Deliver}
 
 abbrev pub small : Space
 small =

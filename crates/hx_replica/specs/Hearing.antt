@@ -1,10 +1,6 @@
 -- To which replica a message on a key goes, and what a message makes beside asking for the newest configuration.
 use Rattle.std.specs.Prelude.{List, [], ◌∷◌, ℕ, ⊤, if◌then◌else◌, nat_lt, Option, None, Some}
-use Rattle.hx_types.specs.declared.ids.Actor.{Actor}
-use Rattle.hx_types.specs.declared.messages.Message.{Message}
-use Rattle.hx_types.specs.declared.messages.Post.{Post}
-use Rattle.hx_types.specs.declared.ids.Epoch.{Epoch}
-use Rattle.hx_types.specs.declared.spaces.Space.{Space}
+use Rattle.hx_model.specs.Types.{Actor, Epoch, Message, Post, Space}
 use Rattle.hx_types.specs.declared.messages.Message.TheVariants as a_message
 use Rattle.hx_types.specs.Configs.{leads}
 use Rattle.hx_types.specs.Effects.{key_of}

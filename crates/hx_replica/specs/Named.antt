@@ -1,10 +1,7 @@
 -- Whom a server names: the coordinator, the servers of its configuration, and the sessions that its slots name.
 use Rattle.std.specs.Prelude.{List, ◌∷◌, ◌++◌, map}
 use Rattle.std.specs.List.{flat_map}
-use Rattle.hx_types.specs.declared.ids.Actor.{Actor}
-use Rattle.hx_types.specs.declared.ids.Actor.TheVariants.{Coordinator, Session}
-use Rattle.hx_types.specs.declared.traces.Input.{Input}
-use Rattle.hx_types.specs.declared.updates.Update.{Update}
+use Rattle.hx_model.specs.Types.{Actor, Coordinator, Input, Session, Update}
 use Rattle.hx_types.specs.Posted.{actors_of_config, actors_of_input, sessions_marked}
 use Rattle.hx_model.specs.ServerSteps.{Replica, ServerState}
 use Rattle.hx_model.specs.Slots.{KeyState}

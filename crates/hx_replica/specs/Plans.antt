@@ -1,11 +1,6 @@
 -- A step of a server that is ready to be made.
 use Rattle.std.specs.Prelude.{◌≡◌, ℕ, zero, suc, ◌<◌, ⊤, true, List, [], ◌∷◌, IsSomeAnd, Option, None, Some, length, map, slice_get}
-use Rattle.hx_types.specs.declared.configs.Config.{Config}
-use Rattle.hx_types.specs.declared.messages.Message.{Message}
-use Rattle.hx_types.specs.declared.messages.PostId.{PostId}
-use Rattle.hx_types.specs.declared.ids.Actor.{Actor}
-use Rattle.hx_types.specs.declared.spaces.Space.{Space}
-use Rattle.hx_types.specs.declared.traces.Input.TheVariants.{Deliver}
+use Rattle.hx_model.specs.Types.{Actor, Config, Deliver, Message, PostId, Space}
 use Rattle.hx_model.specs.ServerSteps.{Replica as ReplicaState, ServerState, SlotStep, listed_regions, server_step, context_of, state_in, with_replica, with_slot}
 use Rattle.hx_law_folds.specs.Folding.{folded_server}
 use Rattle.hx_replica.specs.declared.outputs.SlotChange.{SlotChange}

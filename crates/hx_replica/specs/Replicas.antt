@@ -1,8 +1,7 @@
 -- The replicas of a server, in ascending order of regions.
 use Rattle.std.specs.Prelude.{◌≡◌, ◌+◌, true, false, ⊤, List, [], ◌∷◌, if◌then◌else◌, length, map}
 use Rattle.std.specs.List.{All, AllByRecursion}
-use Rattle.hx_types.specs.declared.ids.RegionId.{RegionId}
-use Rattle.hx_types.specs.declared.spaces.Space.{Space}
+use Rattle.hx_model.specs.Types.{RegionId, Space}
 use Rattle.hx_types.specs.Spaces.{IsAscending}
 use Rattle.hx_types.specs.Subspaces.{is_key_region}
 use Rattle.hx_types.specs.Words.{same_region}

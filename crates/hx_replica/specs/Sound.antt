@@ -1,12 +1,6 @@
 -- What a server holds of its space after so many entries, and what it then posts.
 use Rattle.std.specs.Prelude.{◌≡◌, ℕ, ◌+◌, ◌≤◌, true, ⊤}
-use Rattle.hx_types.specs.declared.ids.RegionId.{RegionId}
-use Rattle.hx_types.specs.declared.ids.ServerId.{ServerId}
-use Rattle.hx_types.specs.declared.spaces.Space.{Space}
-use Rattle.hx_types.specs.declared.traces.Input.{Input}
-use Rattle.hx_types.specs.declared.updates.Update.{Update}
-use Rattle.hx_types.specs.declared.ids.Actor.TheVariants.{Server}
-use Rattle.hx_types.specs.declared.traces.Input.TheVariants.{Tick, Halt, Deliver}
+use Rattle.hx_model.specs.Types.{Deliver, Halt, Input, RegionId, Server, ServerId, Space, Tick, Update}
 use Rattle.hx_types.specs.Posts.{Bounds, IsSoundKept, IsSoundPost, IsSoundUpdate, has_place_in}
 use Rattle.hx_types.specs.Spaces.{IsConfigOf, IsRegionOf, IsServerOf, IsSpace}
 use Rattle.hx_types.specs.Words.{IsIn, post}

@@ -1,8 +1,6 @@
 -- A server of which nothing but its number and configuration matters, and a replica of it.
 use Rattle.std.specs.Prelude.{true, false, List, []}
-use Rattle.hx_types.specs.declared.configs.Config.{Config}
-use Rattle.hx_types.specs.declared.ids.RegionId.{RegionId}
-use Rattle.hx_types.specs.declared.ids.ServerId.{ServerId}
+use Rattle.hx_model.specs.Types.{Config, RegionId, ServerId}
 use Rattle.hx_model.specs.ServerSteps.{Replica as ReplicaState, ServerState}
 use Rattle.hx_model.specs.Slots.{KeyState}
 

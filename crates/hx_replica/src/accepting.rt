@@ -1,7 +1,7 @@
 ghost use Rattle.std.specs.Prelude.{◌≡◌, ◌≤◌, ◌<◌, ◌++◌, ◌∷◌, [], IfOk, OnOk, length, true};
 ghost use Rattle.std.specs.Borrow.{Bor};
 ghost use Rattle.std.specs.List.{All, flat_map};
-ghost use Rattle.hx_types.specs.declared.updates.Update.{Update as Updated};
+ghost use Rattle.hx_model.specs.Types.{Update as Updated};
 ghost use Rattle.hx_model.specs.Neighbours.{place_number};
 ghost use Rattle.hx_model.specs.ServerSteps.{passed_on};
 ghost use Rattle.hx_model.specs.Slots.{follows, offered, pending_of, taken, top_of, turns};

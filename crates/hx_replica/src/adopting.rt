@@ -1,7 +1,7 @@
 ghost use Rattle.std.specs.Prelude.{◌≡◌, ◌++◌, OnOk, length, true};
 ghost use Rattle.std.specs.List.{flat_map};
 ghost use Rattle.hx_types.specs.Subspaces.{region_count};
-ghost use Rattle.hx_types.specs.declared.ids.RegionId.{RegionId as Numbered};
+ghost use Rattle.hx_model.specs.Types.{RegionId as Numbered};
 ghost use Rattle.hx_model.specs.ServerSteps.{adopted_posts, is_active, listed_regions, replica_or_new, resumed_posts};
 ghost use Rattle.hx_replica.specs.Outputs.{context_seen};
 ghost use Rattle.hx_replica.specs.Replicas.{AreOrdered, AreReplicas, IsReplicaIn, view_of, views_of};

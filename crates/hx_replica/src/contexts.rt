@@ -1,6 +1,6 @@
 ghost use Rattle.std.specs.Prelude.{◌≡◌, ◌≤◌, ◌<◌, ◌^◌, ◌++◌, ◌∷◌, [], OnOk, IfOk, length, true};
 ghost use Rattle.std.specs.List.{flat_map};
-ghost use Rattle.hx_types.specs.declared.outcomes.Hop.TheVariants.{At};
+ghost use Rattle.hx_model.specs.Types.{At};
 ghost use Rattle.hx_types.specs.Words.{list_of};
 ghost use Rattle.hx_model.specs.Neighbours.{place_number};
 ghost use Rattle.hx_model.specs.ServerSteps.{ack_to, doubt_in, next_at, passed_on, prev_at, reply, update_to};

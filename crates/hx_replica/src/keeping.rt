@@ -1,6 +1,6 @@
 ghost use Rattle.std.specs.Prelude.{◌≡◌, ◌<◌, length, map};
 ghost use Rattle.hx_types.specs.Words.{list_of, when_some};
-ghost use Rattle.hx_types.specs.declared.ids.RegionId.{RegionId as Numbered};
+ghost use Rattle.hx_model.specs.Types.{RegionId as Numbered};
 ghost use Rattle.hx_model.specs.ServerSteps.{tail_acks, listed_regions, replica_or_new, with_replica};
 ghost use Rattle.hx_model.specs.Slots.{Acknowledge, Forget, KeyState, moved, moved_all, pending_of};
 ghost use Rattle.std.specs.Prelude.{slice_get, Some, true, []};

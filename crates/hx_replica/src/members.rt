@@ -2,7 +2,7 @@ ghost use Rattle.std.specs.Prelude.{◌≡◌, ◌&&◌, None, if◌then◌else�
 ghost use Rattle.std.specs.Option.{option_map};
 ghost use Rattle.hx_types.specs.Configs.{joiner_for, joiner_in};
 ghost use Rattle.hx_types.specs.Words.{first_of_list, same_server};
-ghost use Rattle.hx_types.specs.declared.configs.Member.{Member as Listed};
+ghost use Rattle.hx_model.specs.Types.{Member as Listed};
 
 use hx_types::{Config, Member, RegionId, ServerId, any_ready};
 

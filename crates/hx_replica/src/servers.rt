@@ -1,9 +1,7 @@
 ghost use Rattle.std.specs.Prelude.{◌≡◌, ◌<◌, ◌≤◌, IfOk, IfNone, IfSome, IsSomeAnd, OnOk, Some, None, false, is_some, length, map, slice_get, ℕ, ◌+◌, ◌++◌};
 ghost use Rattle.std.specs.List.{All};
 ghost use Rattle.std.specs.Option.{option_map};
-ghost use Rattle.hx_types.specs.declared.messages.PostId.{PostId};
-ghost use Rattle.hx_types.specs.declared.traces.Input.{Input as Taken};
-ghost use Rattle.hx_types.specs.declared.traces.Input.TheVariants.{Deliver};
+ghost use Rattle.hx_model.specs.Types.{Deliver, Input as Taken, PostId};
 ghost use Rattle.hx_types.specs.Configs.{first_config};
 ghost use Rattle.hx_types.specs.Effects.{key_of};
 ghost use Rattle.hx_types.specs.Posted.{NameOnly};

@@ -3,8 +3,7 @@ ghost use Rattle.std.specs.Borrow.{Bor};
 ghost use Rattle.std.specs.List.{All, flat_map, list_any, prefix_len};
 ghost use Rattle.hx_model.specs.ServerSteps.{passed_on};
 ghost use Rattle.hx_model.specs.Slots.{pending_of};
-ghost use Rattle.hx_types.specs.declared.ids.Version.{Version as Numbered};
-ghost use Rattle.hx_types.specs.declared.updates.Update.{Update as Updated};
+ghost use Rattle.hx_model.specs.Types.{Update as Updated, Version as Numbered};
 ghost use Rattle.hx_replica.specs.Outputs.{IsHere, tail_version, ended_count, seen, settled_among, settles, context_seen, told_of};
 
 use crate::contexts::{SlotContext, post_commit, post_update};

@@ -2,7 +2,7 @@ ghost use Rattle.std.specs.Prelude.{◌≡◌, ◌≤◌, ◌<◌, ◌^◌, ◌+
 ghost use Rattle.std.specs.List.{All};
 ghost use Rattle.std.specs.Option.{option_copied};
 ghost use Rattle.hx_types.specs.Spaces.{IsSpace};
-ghost use Rattle.hx_types.specs.declared.updates.Place.{Place};
+ghost use Rattle.hx_model.specs.Types.{Place};
 ghost use Rattle.hx_types.specs.declared.outcomes.Decision.TheVariants as a_decision;
 ghost use Rattle.hx_model.specs.Leading.{decide, stuck_of};
 ghost use Rattle.hx_model.specs.Regions.{key_region};

@@ -1,11 +1,9 @@
 -- A report of two spaces, by computing.
 use Rattle.std.specs.Prelude.{◌≡◌, ℕ, false, [], ◌∷◌, codes, pos}
 use Rattle.std.specs.Fmt.{digits}
-use Rattle.hx_types.specs.declared.traces.Script.{Script}
-use Rattle.hx_types.specs.declared.spaces.Space.{Space}
+use Rattle.hx_model.specs.Types.{Put, Script, Space}
 use Rattle.hx_types.specs.declared.spaces.Kind.TheVariants as a_kind
 use Rattle.hx_types.specs.declared.values.Value.TheVariants as a_value
-use Rattle.hx_types.specs.declared.calls.Op.TheVariants.{Put}
 use Rattle.hx_model.specs.Schedule.{scheduled}
 use Rattle.hx_print.specs.Printing.{add_text, axes_text, axis_text, bounds_text, caller_text, cput_text, int_line, key_line, named_text, next_axis_text, next_number_text, numbers_text, op_text, quoted, range_text, servers_line, space_line, space_text, string_line, subspace_line, tolerate_line, value_text}
 use Rattle.hx_report.specs.BundleReporting.{SpaceReport, block_text, bundle_report_text}

@@ -1,7 +1,7 @@
 -- The lines of drivers, by computing.
 use Rattle.std.specs.Prelude.{◌≡◌, ℕ, [], ◌∷◌, codes}
 use Rattle.std.specs.Fmt.{digits}
-use Rattle.hx_types.specs.declared.totals.Totals.{Totals}
+use Rattle.hx_model.specs.Types.{Totals}
 use Rattle.hx_report.specs.Driving.{driver_line, drivers_text, totals_text}
 use Rattle.hx_report.specs.Tracing.{field_text}
 use Rattle.std.proofs.Common.{refl}

@@ -4,7 +4,7 @@ use Rattle.std.specs.Prelude.{OnOk}
 use Rattle.std.specs.List.{All, slice_range}
 use Rattle.std.proofs.lemmas.List.{take-append-le, drop-append-le, take_all}
 use Rattle.std.proofs.Math.Seq.{drop-append_seam}
-use Rattle.hx_types.specs.declared.spaces.Space.{Space}
+use Rattle.hx_model.specs.Types.{Space}
 use Rattle.hx_report.specs.declared.printed_rows.PrintedRow.{PrintedRow}
 use Rattle.hx_report.specs.PrintedRows.{IsLine}
 use Rattle.hx_report.specs.Reporting.{row_line}

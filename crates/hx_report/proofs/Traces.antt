@@ -1,13 +1,10 @@
 -- The lines of traces, by computing.
 use Rattle.std.specs.Prelude.{◌≡◌, true, false, [], ◌∷◌, codes, None}
 use Rattle.std.specs.Fmt.{digits}
-use Rattle.hx_types.specs.declared.configs.Config.{Config}
-use Rattle.hx_types.specs.declared.traces.Script.{Script}
-use Rattle.hx_types.specs.declared.updates.Update.{Update}
+use Rattle.hx_model.specs.Types.{Config, Get, Put, Script, Update}
 use Rattle.hx_types.specs.declared.calls.Answer.TheVariants as an_answer
 use Rattle.hx_types.specs.declared.messages.Message.TheVariants as a_message
 use Rattle.hx_types.specs.declared.values.Value.TheVariants as a_value
-use Rattle.hx_types.specs.declared.calls.Op.TheVariants.{Put, Get}
 use Rattle.hx_model.specs.Schedule.{scheduled}
 use Rattle.hx_print.specs.Printing.{actor_text, post_name}
 use Rattle.hx_report.specs.Tracing.{entries_text, entry_line, field_text, input_text, message_text, post_head, post_line, posts_text, reconfiguration_text, trace_text}

@@ -2,9 +2,7 @@
 use Rattle.std.specs.Prelude.{◌≡◌, ℕ, Bool, List, ◌++◌, codes, map}
 use Rattle.std.specs.List.{All, flat_map}
 use Rattle.hx_bundle.specs.declared.bundles.Bundle.{Bundle}
-use Rattle.hx_types.specs.declared.traces.Entry.{Entry}
-use Rattle.hx_types.specs.declared.traces.Script.{Script}
-use Rattle.hx_types.specs.declared.totals.Totals.{Totals}
+use Rattle.hx_model.specs.Types.{Entry, Script, Totals}
 use Rattle.hx_model.specs.Histories.{records_of}
 use Rattle.hx_print.specs.Printing.{space_text}
 use Rattle.hx_history.specs.declared.key_histories.KeyHistory.{KeyHistory}

@@ -1,7 +1,7 @@
 -- What each driver of a run did with the posts of its actors.
 use Rattle.std.specs.Prelude.{ℕ, ◌+◌, List, [], ◌∷◌, ◌++◌, codes}
 use Rattle.std.specs.Fmt.{decimal}
-use Rattle.hx_types.specs.declared.totals.Totals.{Totals}
+use Rattle.hx_model.specs.Types.{Totals}
 use Rattle.hx_report.specs.Tracing.{field_text}
 
 -- ` posts P deliver Q lose L twice T`

@@ -1,7 +1,7 @@
 -- Rows that were printed, each with its line.
 use Rattle.std.specs.Prelude.{◌≡◌, ◌≤◌, ℕ, List, length, slice_range}
 use Rattle.std.specs.List.{All}
-use Rattle.hx_types.specs.declared.spaces.Space.{Space}
+use Rattle.hx_model.specs.Types.{Space}
 use Rattle.hx_report.specs.declared.printed_rows.PrintedRow.{PrintedRow}
 use Rattle.hx_report.specs.declared.printed_rows.PrintedRows.{PrintedRows}
 use Rattle.hx_report.specs.Reporting.{row_line}

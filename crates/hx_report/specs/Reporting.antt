@@ -2,23 +2,8 @@
 use Rattle.std.specs.Prelude.{◌≡◌, ℕ, Bool, List, [], ◌∷◌, ◌++◌, map, reverse, length, codes, Option, None, Some}
 use Rattle.std.specs.List.{flat_map}
 use Rattle.std.specs.Fmt.{decimal}
-use Rattle.hx_types.specs.declared.calls.Answer.{Answer}
-use Rattle.hx_types.specs.declared.spaces.Attribute.{Attribute}
-use Rattle.hx_types.specs.declared.calls.Caller.{Caller}
-use Rattle.hx_types.specs.declared.configs.Config.{Config}
-use Rattle.hx_types.specs.declared.traces.Entry.{Entry}
-use Rattle.hx_types.specs.declared.ids.Epoch.{Epoch}
-use Rattle.hx_types.specs.declared.histories.Item.{Item}
-use Rattle.hx_types.specs.declared.traces.Note.{Note}
-use Rattle.hx_types.specs.declared.histories.Record.{Record}
-use Rattle.hx_types.specs.declared.ids.RegionId.{RegionId}
-use Rattle.hx_types.specs.declared.calls.Row.{Row}
-use Rattle.hx_types.specs.declared.traces.Script.{Script}
-use Rattle.hx_types.specs.declared.ids.ServerId.{ServerId}
-use Rattle.hx_types.specs.declared.spaces.Space.{Space}
-use Rattle.hx_types.specs.declared.totals.Totals.{Totals}
-use Rattle.hx_types.specs.declared.values.Value.{Value}
-use Rattle.hx_types.specs.declared.ids.Version.{Version}
+use Rattle.hx_model.specs.Types.{Answer, Attribute, Caller, Config, Entry, Epoch, Item, Note, Record, RegionId, Row, Script, ServerId, Space, Totals, Value}
+use Rattle.hx_model.specs.Types.{Version}
 use Rattle.hx_types.specs.declared.calls.Answer.TheVariants as an_answer
 use Rattle.hx_types.specs.declared.traces.Note.TheVariants as a_note
 use Rattle.hx_types.specs.Words.{when_some}

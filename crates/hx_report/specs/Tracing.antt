@@ -1,10 +1,7 @@
 -- The lines of a trace: each entry with its number and its input, and each of its posts with its receiver, its kind and its numbers; traces stand newest first.
 use Rattle.std.specs.Prelude.{ℕ, ◌+◌, Bool, true, false, List, [], ◌∷◌, ◌++◌, reverse, codes}
 use Rattle.std.specs.Fmt.{decimal}
-use Rattle.hx_types.specs.declared.traces.Entry.{Entry}
-use Rattle.hx_types.specs.declared.traces.Input.{Input}
-use Rattle.hx_types.specs.declared.messages.Message.{Message}
-use Rattle.hx_types.specs.declared.messages.Post.{Post}
+use Rattle.hx_model.specs.Types.{Entry, Input, Message, Post}
 use Rattle.hx_types.specs.declared.traces.Input.TheVariants as an_input
 use Rattle.hx_types.specs.declared.messages.Message.TheVariants as a_message
 use Rattle.hx_print.specs.Printing.{actor_text, post_name}

@@ -2,7 +2,7 @@
 
 ghost use Rattle.std.specs.Prelude.{◌≡◌, ◌++◌, ℕ, List, IfOk, IsTrue, OnOk};
 ghost use Rattle.std.specs.List.{All, flat_map};
-ghost use Rattle.hx_types.specs.declared.spaces.Space.{Space};
+ghost use Rattle.hx_model.specs.Types.{Space};
 ghost use Rattle.hx_report.specs.declared.printed_rows.PrintedRow.{PrintedRow};
 ghost use Rattle.hx_report.specs.PrintedRows.{IsLine, IsPrinted};
 ghost use Rattle.hx_report.specs.Reporting.{row_line, rows_lines};

@@ -6,11 +6,8 @@ use Rattle.std.specs.Option.{option_map}
 use Rattle.std.proofs.lemmas.Bool.{eq-eqb, ne_eqb}
 use Rattle.std.proofs.lemmas.List.{append_assoc, append-nil}
 use Rattle.std.proofs.lemmas.List.Elements.{All-head, All-tail}
-use Rattle.hx_types.specs.declared.calls.Answer.{Answer}
+use Rattle.hx_model.specs.Types.{Answer, Caller, Row, Space}
 use Rattle.hx_types.specs.declared.calls.Answer.TheVariants as an_answer
-use Rattle.hx_types.specs.declared.calls.Caller.{Caller}
-use Rattle.hx_types.specs.declared.calls.Row.{Row}
-use Rattle.hx_types.specs.declared.spaces.Space.{Space}
 use Rattle.hx_types.specs.Spaces.{IsSpace}
 use Rattle.hx_types.specs.Words.{text_below}
 use Rattle.hx_print.specs.Printing.{space_text}

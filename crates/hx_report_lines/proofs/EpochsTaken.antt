@@ -10,9 +10,7 @@ use Rattle.std.proofs.lemmas.List.{append_assoc, append-nil, length-append}
 use Rattle.std.proofs.lemmas.List.Elements.{All-cons, All-head, All-nil, All-tail}
 use Rattle.hx_lex.specs.Letters.{begins_with, is_digit}
 use Rattle.hx_lex.proofs.Lemmas.{and_left}
-use Rattle.hx_types.specs.declared.ids.RegionId.{RegionId}
-use Rattle.hx_types.specs.declared.ids.ServerId.{ServerId}
-use Rattle.hx_types.specs.declared.spaces.Space.{Space}
+use Rattle.hx_model.specs.Types.{RegionId, ServerId, Space}
 use Rattle.hx_types.specs.Spaces.{IsRegionOf, IsServerOf, IsSpace}
 use Rattle.hx_types.specs.Subspaces.{region_count}
 use Rattle.hx_law_texts.proofs.Lemmas.{decimal_digits}

@@ -7,8 +7,7 @@ use Rattle.std.proofs.lemmas.Bool.{ltb-true}
 use Rattle.std.proofs.lemmas.Slice.Eq.{bytes_eq-Decides}
 use Rattle.hx_lex.specs.Spelling.{IsText}
 use Rattle.hx_lex.proofs.Lemmas.{and_left, and_right}
-use Rattle.hx_types.specs.declared.spaces.Space.{Space}
-use Rattle.hx_types.specs.declared.values.Value.{Value}
+use Rattle.hx_model.specs.Types.{Space, Value}
 use Rattle.hx_types.specs.Spaces.{IsSpace, KeyFits}
 use Rattle.hx_report_lines.specs.declared.histories.ItemLine.{ItemLine}
 use Rattle.hx_report_lines.specs.Parts.{caller, if_same, item_answer, item_front, item_in, item_of, key_in, key_of, state_in, text_in}

@@ -9,10 +9,7 @@ use Rattle.std.proofs.lemmas.List.{append_assoc, append-nil}
 use Rattle.std.proofs.lemmas.Str.{is_utf8-from_IsUtf8}
 use Rattle.hx_lex.specs.Letters.{begins_with, is_digit}
 use Rattle.hx_lex.specs.Spelling.{IsText}
-use Rattle.hx_types.specs.declared.calls.Caller.{Caller}
-use Rattle.hx_types.specs.declared.spaces.Space.{Space}
-use Rattle.hx_types.specs.declared.totals.Totals.{Totals}
-use Rattle.hx_types.specs.declared.values.Value.{Value}
+use Rattle.hx_model.specs.Types.{Caller, Space, Totals, Value}
 use Rattle.hx_types.specs.Spaces.{IsSpace, KeyFits}
 use Rattle.hx_print.specs.Printing.{caller_text, quoted}
 use Rattle.hx_report.specs.Driving.{driver_line, totals_text}

@@ -7,12 +7,8 @@ use Rattle.std.proofs.lemmas.List.Concat.{flat_map-append}
 use Rattle.std.proofs.lemmas.List.Elements.{All-append, All-cons, All-head, All-nil, All-push, All-replicate, All-tail}
 use Rattle.std.proofs.lemmas.Str.{IsUtf8-nil}
 use Rattle.hx_lex.specs.Spelling.{IsText}
-use Rattle.hx_types.specs.declared.calls.Row.{Row}
-use Rattle.hx_types.specs.declared.spaces.Attribute.{Attribute}
-use Rattle.hx_types.specs.declared.spaces.Kind.{Kind}
+use Rattle.hx_model.specs.Types.{Attribute, Kind, Row, Space, Value}
 use Rattle.hx_types.specs.declared.spaces.Kind.TheVariants as a_kind
-use Rattle.hx_types.specs.declared.spaces.Space.{Space}
-use Rattle.hx_types.specs.declared.values.Value.{Value}
 use Rattle.hx_types.specs.Effects.{default_of}
 use Rattle.hx_types.specs.Spaces.{IsOfKind}
 use Rattle.hx_law_texts.specs.Sayable.{BoundsAreSayable, IsSayable}

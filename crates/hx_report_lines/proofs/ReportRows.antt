@@ -3,11 +3,9 @@ use Rattle.std.proofs.Common.{◌≡◌, ℕ, true, false, [], ◌∷◌, None, 
 use Rattle.std.specs.Prelude.{codes}
 use Rattle.std.proofs.lemmas.Fmt.{decimal_digit}
 use Rattle.hx_types.specs.declared.calls.Answer.TheVariants as an_answer
-use Rattle.hx_types.specs.declared.calls.Caller.{Caller}
+use Rattle.hx_model.specs.Types.{Caller, Row, Space}
 use Rattle.hx_types.specs.declared.calls.Op.TheVariants as ops
-use Rattle.hx_types.specs.declared.calls.Row.{Row}
 use Rattle.hx_types.specs.declared.spaces.Kind.TheVariants as a_kind
-use Rattle.hx_types.specs.declared.spaces.Space.{Space}
 use Rattle.hx_types.specs.declared.values.Value.TheVariants as a_value
 use Rattle.hx_print.specs.Printing.{caller_text, named_text, numbers_text, next_number_text, op_text, quoted, value_text}
 use Rattle.hx_report.specs.Reporting.{answer_lines, end_text, maybe_answer_lines, object_text, row_line, rows_lines, state_text, version_text}

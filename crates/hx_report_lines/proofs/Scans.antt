@@ -11,17 +11,9 @@ use Rattle.std.proofs.lemmas.List.Folds.{list_all-append}
 use Rattle.hx_lex.specs.Letters.{is_digit, is_word_part}
 use Rattle.hx_lex.specs.Spelling.{IsText}
 use Rattle.hx_lex.proofs.Lemmas.{and_left, and_right}
-use Rattle.hx_types.specs.declared.calls.Op.{Op}
+use Rattle.hx_model.specs.Types.{Assign, Attribute, Edit, EditKind, Equal, Op, Range, Space, Term, Value}
 use Rattle.hx_types.specs.declared.calls.Op.TheVariants as ops
-use Rattle.hx_types.specs.declared.spaces.Attribute.{Attribute}
-use Rattle.hx_types.specs.declared.spaces.Space.{Space}
-use Rattle.hx_types.specs.declared.values.Assign.{Assign}
-use Rattle.hx_types.specs.declared.values.Edit.{Edit}
-use Rattle.hx_types.specs.declared.values.EditKind.{EditKind}
 use Rattle.hx_types.specs.declared.values.EditKind.TheVariants as an_edit
-use Rattle.hx_types.specs.declared.values.Term.{Term}
-use Rattle.hx_types.specs.declared.values.Term.TheVariants.{Equal, Range}
-use Rattle.hx_types.specs.declared.values.Value.{Value}
 use Rattle.hx_types.specs.declared.values.Value.TheVariants as a_value
 use Rattle.hx_types.specs.Spaces.{Fits, IsKind, IsName, IsSpace}
 use Rattle.hx_types.specs.Words.{when_some}

@@ -8,12 +8,8 @@ use Rattle.std.proofs.lemmas.Fmt.{decimal_digit}
 use Rattle.std.proofs.lemmas.List.{append_assoc, append-nil, length-append}
 use Rattle.std.proofs.lemmas.List.Concat.{flat_map-append}
 use Rattle.std.proofs.lemmas.List.Elements.{All-cons, All-head, All-nil, All-tail}
-use Rattle.hx_types.specs.declared.spaces.Attribute.{Attribute}
-use Rattle.hx_types.specs.declared.spaces.Axis.{Axis}
-use Rattle.hx_types.specs.declared.spaces.Kind.{Kind}
+use Rattle.hx_model.specs.Types.{Attribute, Axis, Kind, Script, Space}
 use Rattle.hx_types.specs.declared.spaces.Kind.TheVariants as a_kind
-use Rattle.hx_types.specs.declared.spaces.Space.{Space}
-use Rattle.hx_types.specs.declared.traces.Script.{Script}
 use Rattle.hx_types.specs.Spaces.{ArePart, IsKind, IsName, IsSpace, IsSubspaceOf, NamesDiffer}
 use Rattle.hx_types.specs.Subspaces.{region_count, size_of, sizes_sum}
 use Rattle.hx_law_texts.specs.Sayable.{BoundsAreSayable}

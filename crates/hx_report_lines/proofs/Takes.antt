@@ -9,7 +9,7 @@ use Rattle.std.proofs.lemmas.List.{append_assoc, append-nil, drop_at, take_at}
 use Rattle.std.proofs.lemmas.Slice.Eq.{bytes_eq-Decides}
 use Rattle.hx_lex.specs.Letters.{begins_with, is_digit}
 use Rattle.hx_lex.specs.Numbers.{digits_len, value}
-use Rattle.hx_types.specs.declared.calls.Caller.{Caller}
+use Rattle.hx_model.specs.Types.{Caller}
 use Rattle.hx_print.specs.Printing.{caller_text}
 use Rattle.hx_law_texts.proofs.Lemmas.{decimal_digits, decimal_value, whole_run}
 use Rattle.hx_report_lines.specs.Parts.{caller, if_same}

@@ -9,12 +9,8 @@ use Rattle.std.proofs.lemmas.List.{append_assoc, append-nil, length-append}
 use Rattle.std.proofs.lemmas.List.Elements.{All-cons, All-head, All-nil, All-tail}
 use Rattle.std.proofs.lemmas.Str.{IsUtf8-nil}
 use Rattle.hx_lex.specs.Spelling.{IsText}
-use Rattle.hx_types.specs.declared.calls.Op.{Op}
+use Rattle.hx_model.specs.Types.{Assign, Attribute, Op, Space, Value}
 use Rattle.hx_types.specs.declared.calls.Op.TheVariants as ops
-use Rattle.hx_types.specs.declared.spaces.Attribute.{Attribute}
-use Rattle.hx_types.specs.declared.spaces.Space.{Space}
-use Rattle.hx_types.specs.declared.values.Assign.{Assign}
-use Rattle.hx_types.specs.declared.values.Value.{Value}
 use Rattle.hx_types.specs.Spaces.{AllDiffer, AssignFits, AssignsFit, Fits, IsMaybeObjectOf, IsObjectOf, IsOfKind, IsSpace, KeyFits}
 use Rattle.hx_types.specs.Words.{when_some}
 use Rattle.hx_print.specs.Printing.{assigns_text, name_of, named_text, op_text, quoted}

@@ -3,11 +3,8 @@ use Rattle.std.specs.Prelude.{ℕ, ◌+◌, ◌-◌, ◌≡◌, Bool, true, fals
 use Rattle.std.specs.List.{starts_with}
 use Rattle.std.specs.Option.{option_map}
 use Rattle.std.specs.Str.{bytes_eq}
-use Rattle.hx_types.specs.declared.calls.Answer.{Answer}
+use Rattle.hx_model.specs.Types.{Answer, Caller, Row, Space}
 use Rattle.hx_types.specs.declared.calls.Answer.TheVariants as an_answer
-use Rattle.hx_types.specs.declared.calls.Caller.{Caller}
-use Rattle.hx_types.specs.declared.calls.Row.{Row}
-use Rattle.hx_types.specs.declared.spaces.Space.{Space}
 use Rattle.hx_types.specs.Spaces.{IsSpace}
 use Rattle.hx_types.specs.Words.{text_below}
 use Rattle.hx_script.specs.Texts.{lines_of}

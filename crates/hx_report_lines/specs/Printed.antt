@@ -2,9 +2,7 @@
 use Rattle.std.specs.Prelude.{ℕ, List, ◌++◌, map, codes}
 use Rattle.std.specs.List.{flat_map}
 use Rattle.std.specs.Fmt.{decimal}
-use Rattle.hx_types.specs.declared.ids.RegionId.{RegionId}
-use Rattle.hx_types.specs.declared.ids.ServerId.{ServerId}
-use Rattle.hx_types.specs.declared.spaces.Space.{Space}
+use Rattle.hx_model.specs.Types.{RegionId, ServerId, Space}
 use Rattle.hx_print.specs.Printing.{caller_text, numbers_text, op_text, quoted, space_text}
 use Rattle.hx_report.specs.Driving.{driver_line}
 use Rattle.hx_report.specs.Reporting.{end_text, maybe_answer_lines, state_text}

@@ -2,7 +2,7 @@
 
 ghost use Rattle.std.specs.Prelude.{◌≡◌, ◌<◌, ◌+◌, ◌^◌, ◌++◌, length, map, IfOk};
 ghost use Rattle.std.specs.Str.{bytes_eq};
-ghost use Rattle.hx_types.specs.declared.values.Assign.{Assign};
+ghost use Rattle.hx_model.specs.Types.{Assign};
 ghost use Rattle.hx_types.specs.Spaces.{IsSpace};
 ghost use Rattle.hx_report_lines.specs.Readers.{Gives};
 ghost use Rattle.hx_report_lines.specs.Parts.{in_order, object_in, op_in, put_values, state_in, text_in, values_in};

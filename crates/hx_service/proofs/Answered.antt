@@ -6,23 +6,16 @@ use Rattle.std.proofs.lemmas.Bool.{eq-eqb}
 use Rattle.std.proofs.lemmas.List.{append-nil, append_assoc, length-append, reverse-append, reverse-reverse}
 use Rattle.std.proofs.lemmas.List.Elements.{filter-append}
 use mathlib.Core.List.{IsPrefix}
-use Rattle.hx_types.specs.declared.calls.Caller.{Caller}
-use Rattle.hx_types.specs.declared.calls.Op.{Op}
-use Rattle.hx_types.specs.declared.ids.SessionId.{SessionId}
-use Rattle.hx_types.specs.declared.traces.Entry.{Entry}
-use Rattle.hx_types.specs.declared.traces.Script.{Script}
+use Rattle.hx_model.specs.Types.{Caller, Entry, Op, Script, Session, SessionId}
 use Rattle.hx_types.specs.Fitting.{calls_of}
 use Rattle.hx_types.specs.Words.{IsIn, below}
 use Rattle.hx_model.specs.Histories.{CallEnd, note_of_end}
-use Rattle.hx_model.specs.Runs.{IsRun, session_of}
-use Rattle.hx_model.specs.Schedule.{next_entry, scheduled, with_entry}
+use Rattle.hx_model.specs.Runs.{IsRun, session_of, is_actor}
+use Rattle.hx_model.specs.Schedule.{next_entry, scheduled, with_entry, IsQuiet}
 use Rattle.hx_law_lemmas.proofs.Lemmas.{filter-in, in-append, in_right}
 use Rattle.hx_service.specs.declared.receipts.Receipt.{Receipt}
 use Rattle.hx_service.specs.Laws.{ended_count, numbers_to}
 use Rattle.hx_service.specs.Receipts.{IsFree, caller_of, is_by, receipts_by, receipts_now, receipts_of}
-use Rattle.hx_types.specs.declared.ids.Actor.TheVariants.{Session}
-use Rattle.hx_model.specs.Runs.{is_actor}
-use Rattle.hx_model.specs.Schedule.{IsQuiet}
 use Rattle.hx_law_growing.specs.Growing.{CallsGrow, with_call_of}
 use Rattle.hx_world.specs.Worlds.{WorldState}
 use Rattle.hx_service.specs.Services.{IsAnswered, IsDrained, IsUnanswered}

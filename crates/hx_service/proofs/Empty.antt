@@ -1,8 +1,7 @@
 -- A service at its start.
 use Rattle.std.proofs.Common.{◌≡◌, ℕ, zero, suc, ◌<◌, List, [], ◌++◌, length, Some, refl, sym, ap, ◌∙◌, subst, arith}
 use Rattle.std.specs.Prelude.{replicate, reverse, slice_get}
-use Rattle.hx_types.specs.declared.calls.Op.{Op}
-use Rattle.hx_types.specs.declared.traces.Script.{Script}
+use Rattle.hx_model.specs.Types.{Op, Script}
 use Rattle.hx_types.specs.Fitting.{calls_of, numbered}
 use Rattle.hx_types.specs.Words.{when_some}
 use Rattle.hx_law_growing.specs.Growing.{GrowsTo}

@@ -2,13 +2,11 @@
 use Rattle.std.proofs.Common.{◌≡◌, ℕ, ◌+◌, ◌-◌, ◌<◌, ◌≤◌, Bool, true, false, List, [], ◌∷◌, length, Option, Some, None, refl, sym, ap, ◌∙◌, arith, eqb}
 use Rattle.std.specs.Prelude.{reverse, slice_get}
 use Rattle.std.proofs.lemmas.Bool.{cond-false, cond-true, cond_both, eq-eqb, eqb-true}
-use Rattle.hx_types.specs.declared.calls.Caller.{Caller}
-use Rattle.hx_types.specs.declared.traces.Entry.{Entry}
+use Rattle.hx_model.specs.Types.{Caller, Entry, Note}
 use Rattle.hx_types.specs.Words.{first_some}
 use Rattle.hx_trace.proofs.Lemmas.{entry_is}
 use Rattle.hx_model.specs.Histories.{CallEnd, ends_in, is_session, note_of_end}
 use Rattle.hx_model.specs.Runs.{entry_at}
-use Rattle.hx_types.specs.declared.traces.Note.{Note}
 use Rattle.hx_types.specs.declared.traces.Note.TheVariants as a_note
 
 -- the entry of the end, and its note

@@ -4,11 +4,7 @@ use Rattle.std.specs.Prelude.{drop, slice_get, take, ◌≤◌}
 use Rattle.std.proofs.Math.Seq.{take-length}
 use Rattle.std.specs.List.{find}
 use Rattle.std.proofs.lemmas.Bool.{and_from, and_parts, cond_both, eq-eqb, eqb-true, true≢false}
-use Rattle.hx_types.specs.declared.calls.Answer.{Answer}
-use Rattle.hx_types.specs.declared.calls.Caller.{Caller}
-use Rattle.hx_types.specs.declared.ids.Version.{Version}
-use Rattle.hx_types.specs.declared.traces.Entry.{Entry}
-use Rattle.hx_types.specs.declared.traces.Script.{Script}
+use Rattle.hx_model.specs.Types.{Answer, Caller, Entry, Script, Version}
 use Rattle.hx_types.specs.Words.{IsIn}
 use Rattle.hx_law_lemmas.proofs.Lemmas.{in-find, in-map, in-slice_get, map-in}
 use Rattle.hx_model.specs.Histories.{CallEnd, note_of_end}

@@ -2,21 +2,14 @@
 use Rattle.std.proofs.Common.{◌≡◌, ℕ, ◌-◌, ◌<◌, ◌≤◌, zero, suc, Bool, true, false, List, [], ◌∷◌, length, cond, Option, Some, None, refl, sym, ap, ◌∙◌, subst, arith, eqb}
 use Rattle.std.specs.Prelude.{IsSome, is_none, slice_get}
 use Rattle.std.proofs.lemmas.Bool.{and_from, and_parts, eq-eqb, eqb-true, true≢false}
-use Rattle.hx_types.specs.declared.calls.Op.{Op}
-use Rattle.hx_types.specs.declared.ids.Actor.{Actor}
-use Rattle.hx_types.specs.declared.ids.SessionId.{SessionId}
-use Rattle.hx_types.specs.declared.traces.Entry.{Entry}
-use Rattle.hx_types.specs.declared.traces.Script.{Script}
-use Rattle.hx_types.specs.declared.ids.Actor.TheVariants.{Coordinator, Server, Session}
+use Rattle.hx_model.specs.Types.{Actor, Coordinator, Entry, Op, Script, Server, Session, SessionId}
 use Rattle.hx_types.specs.Fitting.{calls_of, numbered}
 use Rattle.hx_types.specs.Words.{IsIn, same_session}
-use Rattle.hx_model.specs.Histories.{CallEnd, note_of_end}
-use Rattle.hx_model.specs.Runs.{IsRun, session_after, session_of}
+use Rattle.hx_model.specs.Histories.{CallEnd, note_of_end, begin_of}
+use Rattle.hx_model.specs.Runs.{IsRun, session_after, session_of, is_actor}
 use Rattle.hx_model.specs.SessionSteps.{SessionState, session_step}
 use Rattle.hx_law_growing.proofs.Lemmas.{Within, steps, numbered_from_1, same_session as one_session}
 use Rattle.hx_law_lemmas.proofs.Lemmas.{in-filter, in-map, ended_at}
-use Rattle.hx_model.specs.Histories.{begin_of}
-use Rattle.hx_model.specs.Runs.{is_actor}
 use Rattle.hx_service.specs.declared.progress.Progress.{Progress}
 use Rattle.hx_service.specs.Booking.{AreProgress, session_at}
 use Rattle.hx_service.specs.Progress.{is_resting, progress_of}

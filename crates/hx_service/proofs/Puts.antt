@@ -3,17 +3,9 @@ use Rattle.std.proofs.Common.{◌≡◌, ℕ, ◌+◌, ◌<◌, ◌≤◌, inl, 
 use Rattle.std.specs.Prelude.{IfErr, IfOk, Result}
 use Rattle.std.specs.List.{All}
 use Rattle.std.proofs.lemmas.List.{append-nil, append_assoc, length-append}
-use Rattle.hx_types.specs.declared.calls.Answer.{Answer}
+use Rattle.hx_model.specs.Types.{Answer, Assign, Op, Row, Search, Session, SessionId, Space, Term}
 use Rattle.hx_types.specs.declared.calls.Answer.TheVariants as an_answer
-use Rattle.hx_types.specs.declared.calls.Op.{Op}
-use Rattle.hx_types.specs.declared.calls.Op.TheVariants.{Search}
-use Rattle.hx_types.specs.declared.calls.Row.{Row}
-use Rattle.hx_types.specs.declared.ids.Actor.TheVariants.{Session}
-use Rattle.hx_types.specs.declared.ids.SessionId.{SessionId}
 use Rattle.hx_types.specs.declared.limits.TheConstants.{MOST_CALLS}
-use Rattle.hx_types.specs.declared.spaces.Space.{Space}
-use Rattle.hx_types.specs.declared.values.Assign.{Assign}
-use Rattle.hx_types.specs.declared.values.Term.{Term}
 use Rattle.hx_types.specs.Fitting.{IsScript, is_done}
 use Rattle.hx_types.specs.Spaces.{AssignsFit, Fits, IsRowOf}
 use Rattle.hx_types.specs.Words.{when_some}

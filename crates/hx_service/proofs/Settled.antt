@@ -2,8 +2,7 @@
 use Rattle.std.proofs.Common.{◌≡◌, ℕ, suc, ◌+◌, Bool, true, false, List, ◌∷◌, length, Option, Some, None, refl, sym, ap, ◌∙◌, subst, arith}
 use Rattle.std.specs.Prelude.{is_some, reverse}
 use Rattle.std.proofs.lemmas.List.{length-reverse}
-use Rattle.hx_types.specs.declared.traces.Entry.{Entry}
-use Rattle.hx_types.specs.declared.traces.Script.{Script}
+use Rattle.hx_model.specs.Types.{Entry, Script}
 use Rattle.hx_model.specs.Runs.{IsRun}
 use Rattle.hx_model.specs.Schedule.{IsQuiet, next_entry, with_entry}
 use Rattle.hx_law_growing.specs.Serving.{IsServed, SchedulesServe}

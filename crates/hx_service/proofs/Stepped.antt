@@ -2,8 +2,7 @@
 use Rattle.std.proofs.Common.{◌≡◌, ℕ, zero, suc, ◌≤◌, List, ◌∷◌, length, Option, Some, None, sym, ap, ◌∙◌, arith}
 use Rattle.std.specs.Prelude.{reverse}
 use Rattle.std.proofs.lemmas.List.{reverse-reverse}
-use Rattle.hx_types.specs.declared.traces.Entry.{Entry}
-use Rattle.hx_types.specs.declared.traces.Script.{Script}
+use Rattle.hx_model.specs.Types.{Entry, Script}
 use Rattle.hx_model.specs.Schedule.{next_entry, scheduled, with_entry}
 use Rattle.hx_world.specs.Worlds.{DrainFails, IsPartOf}
 use Rattle.hx_world.specs.declared.ends.DrainError.{DrainError}

@@ -1,11 +1,7 @@
 -- What a service keeps of its receipts and of how far its sessions are. Traces stand here newest first.
 use Rattle.std.specs.Prelude.{◌≡◌, ℕ, ◌+◌, ◌<◌, Bool, ◌&&◌, ◌==◌, List, [], ◌∷◌, ◌++◌, length, map, slice_get, unwrap_or, Some}
-use Rattle.hx_types.specs.declared.calls.Caller.{Caller}
-use Rattle.hx_types.specs.declared.ids.SessionId.{SessionId}
-use Rattle.hx_types.specs.declared.traces.Entry.{Entry}
-use Rattle.hx_types.specs.declared.traces.Note.{Note}
+use Rattle.hx_model.specs.Types.{Caller, Entry, Note, Script, SessionId}
 use Rattle.hx_types.specs.declared.traces.Note.TheVariants as a_note
-use Rattle.hx_types.specs.declared.traces.Script.{Script}
 use Rattle.hx_law_growing.specs.Serving.{IsServed}
 use Rattle.hx_service.specs.declared.progress.Progress.{Progress}
 use Rattle.hx_service.specs.declared.receipts.Booked.{Booked}

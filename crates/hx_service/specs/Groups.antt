@@ -1,14 +1,8 @@
 -- A group: one search, and then a conditional put for each of its rows.
-use Rattle.std.specs.Prelude.{◌≡◌, ◌≢◌, ◌⊎◌, ℕ, ◌+◌, not, List, [], ◌∷◌, ◌++◌, length, map}
+use Rattle.std.specs.Prelude.{◌≡◌, ◌≢◌, ◌⊎◌, ℕ, ◌+◌, not, List, [], ◌∷◌, ◌++◌, length, map, Err}
 use Rattle.std.specs.List.{filter}
 use mathlib.Core.List.{IsPrefix}
-use Rattle.hx_types.specs.declared.calls.Op.{Op}
-use Rattle.hx_types.specs.declared.calls.Op.TheVariants.{Cput, Search}
-use Rattle.hx_types.specs.declared.calls.Row.{Row}
-use Rattle.hx_types.specs.declared.ids.SessionId.{SessionId}
-use Rattle.hx_types.specs.declared.values.Assign.{Assign}
-use Rattle.hx_types.specs.declared.values.Term.{Term}
-use Rattle.hx_types.specs.declared.values.Value.{Value}
+use Rattle.hx_model.specs.Types.{Assign, Cput, Op, Row, Search, SessionId, Term, Value}
 use Rattle.hx_types.specs.Fitting.{calls_of, is_done}
 use Rattle.hx_types.specs.Words.{when_some}
 use Rattle.hx_model.specs.Schedule.{IsQuiet}
@@ -19,7 +13,6 @@ use Rattle.hx_service.specs.declared.putting.Grouped.{Grouped}
 use Rattle.hx_service.specs.declared.receipts.Receipt.{Receipt}
 use Rattle.hx_service.specs.Receipts.{IsFree, receipts_by}
 use Rattle.hx_service.specs.Services.{Calls, Grows, ServiceState, newest}
-use Rattle.std.specs.Prelude.{Err}
 
 -- the tests for these values, of the attributes behind those before
 abbrev pub tests_from : ℕ → List Value → List Assign

@@ -1,9 +1,6 @@
 -- What holds of the receipts of every run; traces stand newest first.
 use Rattle.std.specs.Prelude.{◌≡◌, ◌↔◌, ℕ, ◌+◌, ◌-◌, false, List, length, map, if◌then◌else◌, None, Some}
-use Rattle.hx_types.specs.declared.calls.Caller.{Caller}
-use Rattle.hx_types.specs.declared.ids.SessionId.{SessionId}
-use Rattle.hx_types.specs.declared.traces.Entry.{Entry}
-use Rattle.hx_types.specs.declared.traces.Script.{Script}
+use Rattle.hx_model.specs.Types.{Caller, Entry, Script, SessionId}
 use Rattle.hx_types.specs.Fitting.{calls_of}
 use Rattle.hx_types.specs.Words.{IsIn, below}
 use Rattle.hx_model.specs.Histories.{CallEnd, begin_of, note_of_end}

@@ -1,8 +1,6 @@
 -- How far a session's calls are, by the notes of a trace; traces stand newest first.
 use Rattle.std.specs.Prelude.{ℕ, ◌+◌, Bool, ◌&&◌, ◌==◌, is_none, List, [], ◌∷◌, length, if◌then◌else◌, None, Some}
-use Rattle.hx_types.specs.declared.ids.SessionId.{SessionId}
-use Rattle.hx_types.specs.declared.traces.Entry.{Entry}
-use Rattle.hx_types.specs.declared.traces.Note.{Note}
+use Rattle.hx_model.specs.Types.{Entry, Note, SessionId}
 use Rattle.hx_types.specs.declared.traces.Note.TheVariants as a_note
 use Rattle.hx_model.specs.Histories.{is_session}
 use Rattle.hx_service.specs.declared.progress.Progress.{Progress}

@@ -1,9 +1,6 @@
 -- The puts of a group, without its search.
 use Rattle.std.specs.Prelude.{◌≡◌, ◌<◌, true, List, ◌∷◌, ◌++◌, length, map}
-use Rattle.hx_types.specs.declared.calls.Row.{Row}
-use Rattle.hx_types.specs.declared.ids.Actor.TheVariants.{Session}
-use Rattle.hx_types.specs.declared.ids.SessionId.{SessionId}
-use Rattle.hx_types.specs.declared.values.Assign.{Assign}
+use Rattle.hx_model.specs.Types.{Assign, Row, Session, SessionId}
 use Rattle.hx_types.specs.Spaces.{AssignsFit}
 use Rattle.hx_model.specs.Runs.{is_actor}
 use Rattle.hx_model.specs.Schedule.{IsQuiet}

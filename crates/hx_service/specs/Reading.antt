@@ -1,8 +1,6 @@
 -- How receipts are read: each names the entry that ended its call, and the version and the answer lie in that entry's note.
 use Rattle.std.specs.Prelude.{◌≡◌, ℕ, List, map, Some}
-use Rattle.hx_types.specs.declared.calls.Answer.{Answer}
-use Rattle.hx_types.specs.declared.ids.Version.{Version}
-use Rattle.hx_types.specs.declared.traces.Entry.{Entry}
+use Rattle.hx_model.specs.Types.{Answer, Entry, Version}
 use Rattle.std.specs.Borrow.{Bor}
 use Rattle.hx_model.specs.Histories.{CallEnd, note_of_end}
 use Rattle.hx_service.specs.declared.receipts.Booked.{Booked}

@@ -1,16 +1,8 @@
 -- The receipts of a trace: one for each note of a call's end, in the order of these notes. Traces stand newest first, receipts oldest first.
 use Rattle.std.specs.Prelude.{◌≡◌, ℕ, ◌+◌, Bool, List, [], ◌∷◌, ◌++◌, length, IsSome, unwrap_or, Some}
 use Rattle.std.specs.List.{filter}
-use Rattle.hx_types.specs.declared.calls.Answer.{Answer}
-use Rattle.hx_types.specs.declared.calls.Caller.{Caller}
-use Rattle.hx_types.specs.declared.ids.Actor.{Actor}
-use Rattle.hx_types.specs.declared.ids.Actor.TheVariants.{Session}
-use Rattle.hx_types.specs.declared.ids.SessionId.{SessionId}
-use Rattle.hx_types.specs.declared.ids.Version.{Version}
-use Rattle.hx_types.specs.declared.traces.Entry.{Entry}
-use Rattle.hx_types.specs.declared.traces.Note.{Note}
+use Rattle.hx_model.specs.Types.{Actor, Answer, Caller, Entry, Note, Script, Session, SessionId, Version}
 use Rattle.hx_types.specs.declared.traces.Note.TheVariants as a_note
-use Rattle.hx_types.specs.declared.traces.Script.{Script}
 use Rattle.hx_types.specs.Fitting.{call_of, calls_of}
 use Rattle.hx_types.specs.Words.{same_session}
 use Rattle.hx_model.specs.Histories.{begin_of, note_of_end}

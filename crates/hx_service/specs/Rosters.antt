@@ -1,8 +1,6 @@
 -- A service that follows a plan.
 use Rattle.std.specs.Prelude.{◌≡◌, ◌⊎◌, Some, None, Option, Result, Ok, Err}
-use Rattle.hx_types.specs.declared.calls.Op.{Op}
-use Rattle.hx_types.specs.declared.ids.SessionId.{SessionId}
-use Rattle.hx_types.specs.declared.traces.Script.{Script}
+use Rattle.hx_model.specs.Types.{Op, Script, SessionId}
 use Rattle.hx_types.specs.Fitting.{IsScript, call_of, calls_of}
 use Rattle.hx_law_growing.specs.Growing.{GrowsTo}
 use Rattle.hx_service.specs.declared.errors.ServiceError.{ServiceError}

@@ -1,12 +1,8 @@
 -- A service as contracts see it, and what its calls leave and answer.
 use Rattle.std.specs.Prelude.{◌≡◌, ◌⊎◌, ◌<◌, ℕ, List, [], ◌∷◌, ◌++◌, length, replicate, reverse, IsSome, None, Result, Ok, Err}
 use mathlib.Core.List.{IsPrefix}
-use Rattle.hx_types.specs.declared.calls.Op.{Op}
-use Rattle.hx_types.specs.declared.ids.Actor.{Actor}
-use Rattle.hx_types.specs.declared.ids.SessionId.{SessionId}
+use Rattle.hx_model.specs.Types.{Actor, Entry, Op, Script, SessionId}
 use Rattle.hx_types.specs.declared.limits.TheConstants.{MOST_CALLS}
-use Rattle.hx_types.specs.declared.traces.Entry.{Entry}
-use Rattle.hx_types.specs.declared.traces.Script.{Script}
 use Rattle.hx_model.specs.Histories.{note_of_end}
 use Rattle.hx_model.specs.Schedule.{IsQuiet, next_entry, scheduled}
 use Rattle.hx_law_growing.specs.Growing.{GrowsTo, calls_in, with_call_of}

@@ -1,8 +1,6 @@
 -- A call that asks nothing of its caller, and why it is refused.
 use Rattle.std.specs.Prelude.{◌≡◌, ◌⊎◌, ℕ, true, false, List, Result, Ok, Err}
-use Rattle.hx_types.specs.declared.calls.Op.{Op}
-use Rattle.hx_types.specs.declared.ids.Actor.TheVariants.{Session}
-use Rattle.hx_types.specs.declared.ids.SessionId.{SessionId}
+use Rattle.hx_model.specs.Types.{Op, Session, SessionId}
 use Rattle.hx_types.specs.Spaces.{Fits}
 use Rattle.hx_model.specs.Runs.{is_actor}
 use Rattle.hx_service.specs.declared.errors.ServiceError.TheVariants as an_error

@@ -1,5 +1,5 @@
 ghost use Rattle.std.specs.Prelude.{◌≡◌, ◌<◌, ◌≤◌, true, false, List, length, reverse, sum_by};
-ghost use Rattle.hx_types.specs.declared.calls.Op.{Op};
+ghost use Rattle.hx_model.specs.Types.{Op};
 ghost use Rattle.hx_types.specs.declared.limits.TheConstants.{MOST_CALLS};
 ghost use Rattle.hx_types.specs.Fitting.{IsScript};
 ghost use Rattle.hx_model.specs.Runs.{IsRun};

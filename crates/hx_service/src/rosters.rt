@@ -1,5 +1,5 @@
 ghost use Rattle.std.specs.Prelude.{◌≡◌, ◌↔◌, ◌+◌, ℕ, [], IfErr, IfOk, IsErrOf, None, Ok, OnOk, Some, length, true};
-ghost use Rattle.hx_types.specs.declared.ids.Actor.{Actor};
+ghost use Rattle.hx_model.specs.Types.{Actor};
 ghost use Rattle.hx_types.specs.declared.ids.Actor.TheVariants as an_actor;
 ghost use Rattle.hx_types.specs.Fitting.{IsScript, calls_of};
 ghost use Rattle.hx_model.specs.Runs.{is_actor};

@@ -1,10 +1,7 @@
 -- What is made of sending a call, in the step that sends it.
 use Rattle.std.proofs.Common.{◌≡◌, ℕ, List, [], ◌∷◌, map, None, refl, ap, sym, subst}
-use Rattle.hx_types.specs.declared.calls.Op.{Op}
-use Rattle.hx_types.specs.declared.ids.RegionId.{RegionId}
-use Rattle.hx_types.specs.declared.outcomes.Planned.{Planned}
+use Rattle.hx_model.specs.Types.{Op, Planned, RegionId, Term}
 use Rattle.hx_types.specs.declared.outcomes.Planned.TheVariants as a_plan
-use Rattle.hx_types.specs.declared.values.Term.{Term}
 use Rattle.hx_model.specs.SessionSteps.{Part as PartSeen, SessionState, ask_regions}
 use Rattle.hx_session.specs.declared.prepared.Change.{Change}
 use Rattle.hx_session.specs.declared.sending.Sender.{Sender}

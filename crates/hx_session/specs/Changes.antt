@@ -1,16 +1,7 @@
 -- What a step makes of a session, and a step that is ready to be made.
 use Rattle.std.specs.Prelude.{◌≡◌, ℕ, Bool, false, ◌||◌, is_some, List, [], map, if◌then◌else◌, slice_set, unwrap_or, None, Some}
 use Rattle.std.specs.List.{flat_map}
-use Rattle.hx_types.specs.declared.calls.Answer.{Answer}
-use Rattle.hx_types.specs.declared.calls.Op.{Op}
-use Rattle.hx_types.specs.declared.calls.Row.{Row}
-use Rattle.hx_types.specs.declared.configs.Config.{Config}
-use Rattle.hx_types.specs.declared.ids.RegionId.{RegionId}
-use Rattle.hx_types.specs.declared.ids.Version.{Version}
-use Rattle.hx_types.specs.declared.spaces.Space.{Space}
-use Rattle.hx_types.specs.declared.values.Term.{Term}
-use Rattle.hx_types.specs.declared.messages.Post.{Post}
-use Rattle.hx_types.specs.declared.traces.Input.{Input}
+use Rattle.hx_model.specs.Types.{Answer, Config, Input, Op, Post, RegionId, Row, Space, Term, Version}
 use Rattle.hx_types.specs.Configs.{head_of}
 use Rattle.hx_types.specs.Words.{same_region, when_some}
 use Rattle.hx_model.specs.SessionSteps.{Part as PartSeen, SessionState, SessionStep, ask_to, awaits, call_under_way, ending, is_administrative, lacks_part, send, session_step, staying, with_part}

@@ -1,7 +1,7 @@
 -- What contracts see of a session, and what it keeps true.
 use Rattle.std.specs.Prelude.{◌≡◌, ◌≤◌, map, length}
 use Rattle.std.specs.List.{All}
-use Rattle.hx_types.specs.declared.spaces.Space.{Space}
+use Rattle.hx_model.specs.Types.{Space}
 use Rattle.hx_types.specs.Spaces.{Fits, IsAscending, IsConfigOf}
 use Rattle.hx_model.specs.SessionSteps.{Part as PartSeen, SessionState}
 use Rattle.hx_session.specs.declared.sessions.Session.TheInside.{Inside}

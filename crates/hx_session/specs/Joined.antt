@@ -1,6 +1,6 @@
 -- The rows of parts, and their keys.
 use Rattle.std.specs.Prelude.{ℕ, List, []}
-use Rattle.hx_types.specs.declared.calls.Row.{Row}
+use Rattle.hx_model.specs.Types.{Row}
 use Rattle.hx_types.specs.Words.{when_some}
 use Rattle.hx_model.specs.SessionSteps.{Part}
 

@@ -1,6 +1,6 @@
 -- The kinds of calls.
 use Rattle.std.specs.Prelude.{Bool}
-use Rattle.hx_types.specs.declared.calls.Op.{Op}
+use Rattle.hx_model.specs.Types.{Op}
 use Rattle.hx_model.specs.SessionSteps.{is_administrative, is_key_call, is_search}
 use Rattle.hx_session.specs.declared.kinds.CallKind.{CallKind}
 use Rattle.hx_session.specs.declared.kinds.CallKind.TheVariants.{OnKey, Search, Administrative}

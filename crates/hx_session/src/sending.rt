@@ -1,5 +1,5 @@
 ghost use Rattle.std.specs.Prelude.{◌≡◌, ◌++◌, ◌∷◌, [], ℕ, List, IfOk, OnErr, OnOk, None};
-ghost use Rattle.hx_types.specs.declared.calls.Op.{Op as Operation};
+ghost use Rattle.hx_model.specs.Types.{Op as Operation};
 ghost use Rattle.hx_types.specs.Configs.{head_of};
 ghost use Rattle.hx_model.specs.Planning.{plan_of};
 ghost use Rattle.hx_model.specs.SessionSteps.{Part as PartSeen, ask_regions, ask_to, call_to, lost_answer, send, send_to, to_coordinator};

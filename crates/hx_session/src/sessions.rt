@@ -3,7 +3,7 @@ ghost use Rattle.std.specs.List.{All};
 ghost use Rattle.std.specs.Option.{option_copied};
 ghost use Rattle.hx_types.specs.Configs.{first_config};
 ghost use Rattle.hx_types.specs.Fitting.{numbered};
-ghost use Rattle.hx_types.specs.declared.messages.PostId.{PostId};
+ghost use Rattle.hx_model.specs.Types.{PostId};
 ghost use Rattle.hx_types.specs.declared.limits.TheConstants.{MOST_CALLS};
 ghost use Rattle.hx_types.specs.declared.traces.Input.TheVariants as an_input;
 ghost use Rattle.hx_types.specs.Spaces.{Fits, IsSpace};

@@ -4,7 +4,7 @@ use Rattle.std.specs.List.{AllByRecursion, filter, find, list_any, position}
 use Rattle.std.proofs.lemmas.Bool.{cases_eq, cond_both, cond-false, cond-true, eq-eqb, eqb-false, eqb-true, false≢true, false_from_ne_true, lt-ltb, ltb-true, ne_eqb, not-true, or_cases, or_left, or_right}
 use Rattle.std.proofs.lemmas.List.{take-append-drop}
 use Rattle.std.proofs.lemmas.List.Folds.{list_any-append, list_any_at}
-use Rattle.hx_types.specs.declared.updates.Update.{Update}
+use Rattle.hx_model.specs.Types.{Update}
 use Rattle.hx_types.specs.Words.{provided}
 use Rattle.hx_model.specs.Slots.{Commit, KeyState, Move, commits, moved_all}
 use Rattle.hx_slot.specs.declared.updates.AcceptedUpdate.{AcceptedUpdate}

@@ -6,14 +6,7 @@ use Rattle.std.specs.Option.{IfSome}
 use Rattle.std.specs.declared.alloc.Global.{Global}
 use Rattle.std.proofs.lemmas.Bool.{cond_both, cond-false, lt-leb}
 use Rattle.std.proofs.lemmas.List.Elements.{All-from_recursion, recursion_from_All, All-weaker}
-use Rattle.hx_types.specs.declared.calls.Answer.{Answer}
-use Rattle.hx_types.specs.declared.ids.RegionId.{RegionId}
-use Rattle.hx_types.specs.declared.ids.SessionId.{SessionId}
-use Rattle.hx_types.specs.declared.ids.Version.{Version}
-use Rattle.hx_types.specs.declared.snapshots.Kept.{Kept}
-use Rattle.hx_types.specs.declared.snapshots.Mark.{Mark}
-use Rattle.hx_types.specs.declared.snapshots.Touch.{Touch}
-use Rattle.hx_types.specs.declared.updates.Update.{Update}
+use Rattle.hx_model.specs.Types.{Answer, Kept, Mark, RegionId, SessionId, Touch, Update, Version}
 use Rattle.hx_types.specs.Words.{provided}
 use Rattle.hx_model.specs.Places.{touched_in}
 use Rattle.hx_model.specs.Slots.{Acknowledge, Forget, Hold, KeyState, Move, Take, acknowledged, is_pending, kept_of, kept_row, latest_of, mark_among, mark_of, marks_after, moved, moved_all, object_in, object_of, pending_of, settled, top_above, top_of, touches_after, touches_of, waits_below}

@@ -3,10 +3,8 @@ use Rattle.std.proofs.Common.{◌≡◌, ℕ, suc, ◌+◌, ◌<◌, ◌≤◌, 
 use Rattle.std.specs.List.{All, AllByRecursion}
 use Rattle.std.specs.Option.{option_map}
 use Rattle.std.proofs.lemmas.Bool.{cond-false, cond-true, le-leb, lt-leb}
-use Rattle.hx_types.specs.declared.ids.RegionId.{RegionId}
+use Rattle.hx_model.specs.Types.{Place, RegionId, Update}
 use Rattle.hx_types.specs.declared.outcomes.Offer.TheVariants.{Accepted, Known, Early}
-use Rattle.hx_types.specs.declared.updates.Place.{Place}
-use Rattle.hx_types.specs.declared.updates.Update.{Update}
 use Rattle.hx_types.specs.Words.{same_region, when_some}
 use Rattle.hx_model.specs.Neighbours.{place_number}
 use Rattle.hx_model.specs.Slots.{Hold, KeyState, Move, Take, follows, moved, offer_answer, offered, place_in, taken, top_of, turns}

@@ -1,8 +1,6 @@
 -- A kept state of a space is one that a slot can be made of.
 use Rattle.std.proofs.Common.{ℕ, Option, Some, None}
-use Rattle.hx_types.specs.declared.calls.Row.{Row}
-use Rattle.hx_types.specs.declared.snapshots.Kept.{Kept}
-use Rattle.hx_types.specs.declared.spaces.Space.{Space}
+use Rattle.hx_model.specs.Types.{Kept, Row, Space}
 use Rattle.hx_types.specs.Spaces.{IsKeptOf, IsMaybeRowUpTo}
 use Rattle.hx_slot.specs.States.{IsOrderly, IsRowUpTo}
 

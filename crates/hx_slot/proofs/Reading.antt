@@ -4,13 +4,7 @@ use Rattle.std.specs.List.{All, AllByRecursion}
 use Rattle.std.specs.Option.{IfSome}
 use Rattle.std.proofs.lemmas.List.{length-drop, length-map}
 use Rattle.std.proofs.lemmas.List.Elements.{All-from_recursion, All-weaker, recursion_from_All}
-use Rattle.hx_types.specs.declared.calls.Answer.{Answer}
-use Rattle.hx_types.specs.declared.ids.RegionId.{RegionId}
-use Rattle.hx_types.specs.declared.ids.SessionId.{SessionId}
-use Rattle.hx_types.specs.declared.ids.Version.{Version}
-use Rattle.hx_types.specs.declared.snapshots.Mark.{Mark}
-use Rattle.hx_types.specs.declared.snapshots.Touch.{Touch}
-use Rattle.hx_types.specs.declared.updates.Update.{Update}
+use Rattle.hx_model.specs.Types.{Answer, Mark, RegionId, SessionId, Touch, Update, Version}
 use Rattle.hx_model.specs.Places.{touched_in}
 use Rattle.hx_model.specs.Slots.{kept_row, latest_of, mark_among, mark_of, object_in, object_of, pending_of, top_of, touches_of}
 use Rattle.hx_slot.specs.declared.slots.Slot.TheInside.{Inside}

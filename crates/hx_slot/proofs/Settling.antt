@@ -6,9 +6,8 @@ use Rattle.std.proofs.lemmas.Bool.{cond-false, cond-true, eqb-true}
 use Rattle.std.proofs.lemmas.List.Quantifiers.{position-Some}
 use Rattle.std.proofs.Math.Seq.{take-add}
 use Rattle.std.proofs.lemmas.List.{drop-drop, drop-set-add, get_or-drop, length-drop}
-use Rattle.hx_types.specs.declared.ids.Version.{Version}
+use Rattle.hx_model.specs.Types.{Update, Version}
 use Rattle.hx_types.specs.declared.outcomes.Acked.TheVariants as an_ack
-use Rattle.hx_types.specs.declared.updates.Update.{Update}
 use Rattle.hx_model.specs.Slots.{Acknowledge, Forget, KeyState, Move, ack_answer, commits, is_pending, moved, moved_all, pending_of, settled, waits_below}
 use Rattle.hx_slot.specs.declared.updates.PlacedUpdate.{PlacedUpdate}
 use Rattle.hx_slot.specs.declared.ack_order.AckOrder.{AckOrder}

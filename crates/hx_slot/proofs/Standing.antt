@@ -1,7 +1,6 @@
 -- A slot goes on standing for the whole list of the definitions.
 use Rattle.std.proofs.Common.{◌≡◌, ℕ, sym, subst}
-use Rattle.hx_types.specs.declared.ids.RegionId.{RegionId}
-use Rattle.hx_types.specs.declared.updates.Update.{Update}
+use Rattle.hx_model.specs.Types.{RegionId, Update}
 use Rattle.hx_model.specs.Slots.{Acknowledge, Forget, KeyState, acknowledged, moved, moved_all, offered, settled}
 use Rattle.hx_law_folds.specs.Folding.{IsAfter, StandsFor, folded}
 use Rattle.hx_law_folds.proofs.Lemmas.{later-of, stands-acknowledged, stands-forgotten, stands-marked, stands-offered, stands-settled}

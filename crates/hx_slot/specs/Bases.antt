@@ -1,6 +1,6 @@
 -- What the folded updates left: an update more, and room for its mark and its touches.
 use Rattle.std.specs.Prelude.{◌≡◌, ℕ, ◌+◌, ◌≤◌, Bool, true, false, List, length, vec_capacity, vec_len}
-use Rattle.hx_types.specs.declared.snapshots.Kept.{Kept}
+use Rattle.hx_model.specs.Types.{Kept}
 use Rattle.hx_model.specs.Slots.{mark_by, with_mark, with_touches}
 use Rattle.hx_slot.specs.declared.bases.Base.{Base}
 use Rattle.hx_slot.specs.declared.updates.AcceptedUpdate.{AcceptedUpdate}

@@ -1,8 +1,7 @@
 -- What a slot keeps, and what contracts see of it.
 use Rattle.std.specs.Prelude.{◌≡◌, ℕ, ◌+◌, ◌*◌, ◌^◌, ◌<◌, ◌≤◌, true, List, [], map, length, take, drop, vec_capacity, vec_len}
 use Rattle.std.specs.List.{AllByRecursion}
-use Rattle.hx_types.specs.declared.ids.RegionId.{RegionId}
-use Rattle.hx_types.specs.declared.updates.Update.{Update}
+use Rattle.hx_model.specs.Types.{RegionId, Update}
 use Rattle.hx_types.specs.Words.{provided}
 use Rattle.hx_law_folds.specs.Folding.{folded}
 use Rattle.hx_slot.specs.declared.updates.PlacedUpdate.{PlacedUpdate}

@@ -1,11 +1,7 @@
 -- The newest call of each session, and the last touch of each region.
 use Rattle.std.specs.Prelude.{◌≡◌, ℕ, zero, suc, ◌<◌, ⊤, Bool, List, [], ◌∷◌, map, if◌then◌else◌, nat_lt, Option, None, Some}
 use Rattle.std.specs.List.{list_any}
-use Rattle.hx_types.specs.declared.ids.RegionId.{RegionId}
-use Rattle.hx_types.specs.declared.ids.SessionId.{SessionId}
-use Rattle.hx_types.specs.declared.snapshots.Mark.{Mark}
-use Rattle.hx_types.specs.declared.snapshots.Touch.{Touch}
-use Rattle.hx_types.specs.declared.updates.Place.{Place}
+use Rattle.hx_model.specs.Types.{Mark, Place, RegionId, SessionId, Touch}
 use Rattle.hx_types.specs.Spaces.{IsAscending}
 use Rattle.hx_types.specs.Words.{same_region, same_session}
 use Rattle.hx_model.specs.Slots.{mark_by, with_mark, with_touches}

@@ -9,11 +9,7 @@ ghost use Rattle.hx_model.specs.Slots.{Acknowledge, Forget, Hold, KeyState, Take
 ghost use Rattle.hx_slot.specs.Updates.{IsHeld, row_seen};
 ghost use Rattle.hx_slot.specs.Rooms.{IsGrown};
 ghost use Rattle.hx_slot.specs.States.{HasFewPlaces, IsHeldUp, IsLater, IsOrderly, IsPlacedIn, IsSettledInto, accepted_count, call_at, call_seen, committed_count, committed_state, object_at, object_seen};
-ghost use Rattle.hx_types.specs.declared.calls.Answer.{Answer};
-ghost use Rattle.hx_types.specs.declared.ids.Version.{Version};
-ghost use Rattle.hx_types.specs.declared.updates.Place.{Place};
-ghost use Rattle.hx_types.specs.declared.snapshots.Touch.{Touch as Touched};
-ghost use Rattle.hx_types.specs.declared.updates.Update.{Update};
+ghost use Rattle.hx_model.specs.Types.{Answer, Place, Touch as Touched, Update, Version};
 
 use crate::ack_order::AckOrder;
 use crate::acks::{

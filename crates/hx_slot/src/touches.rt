@@ -6,8 +6,7 @@ ghost use Rattle.hx_model.specs.Places.{touched_in};
 ghost use Rattle.hx_model.specs.Slots.{with_touch, with_touches};
 ghost use Rattle.hx_slot.specs.MarksAndTouches.{AscendByRegion, IsAt, IsGap, touch_among, touched_over, touches_over};
 ghost use Rattle.hx_types.specs.Words.{provided};
-ghost use Rattle.hx_types.specs.declared.ids.Version.{Version};
-ghost use Rattle.hx_types.specs.declared.updates.Place.{Place};
+ghost use Rattle.hx_model.specs.Types.{Place, Version};
 
 use crate::rooms::copy_all;
 use crate::updates::AcceptedUpdate;

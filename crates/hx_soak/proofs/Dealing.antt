@@ -4,7 +4,7 @@ use Rattle.std.specs.List.{filter}
 use Rattle.std.proofs.lemmas.Bool.{cond-true, cond-false}
 use Rattle.std.proofs.lemmas.List.{append-nil, map-append}
 use Rattle.std.proofs.lemmas.List.Elements.{filter-append}
-use Rattle.hx_types.specs.declared.calls.Op.{Op}
+use Rattle.hx_model.specs.Types.{Op}
 use Rattle.hx_types.specs.Words.{below}
 use Rattle.hx_soak.specs.Calling.{call_drawn}
 use Rattle.hx_soak.specs.Drawing.{draw_of, next_state, state_after}

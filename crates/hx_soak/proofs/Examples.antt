@@ -2,8 +2,7 @@
 use Rattle.std.proofs.Common.{◌≡◌, [], ◌∷◌, refl}
 use Rattle.std.specs.Prelude.{codes, pos}
 use Rattle.std.specs.Fmt.{digits}
-use Rattle.hx_types.specs.declared.calls.Op.TheVariants.{Put, Del, Cput, Search}
-use Rattle.hx_types.specs.declared.values.Term.TheVariants.{Range}
+use Rattle.hx_model.specs.Types.{Cput, Del, Put, Range, Search}
 use Rattle.hx_types.specs.declared.values.Value.TheVariants as a_value
 use Rattle.hx_soak.specs.Drawing.{draw_of}
 use Rattle.hx_soak.specs.Soaking.{calls_drawn, script_drawn, soak}

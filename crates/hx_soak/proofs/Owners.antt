@@ -4,7 +4,7 @@ use Rattle.std.specs.Prelude.{codes, nat_lt, slice_get}
 use Rattle.std.specs.Fmt.{decimal, digits}
 use Rattle.std.proofs.lemmas.Bool.{cond_both}
 use Rattle.std.proofs.lemmas.Option.{same_Some}
-use Rattle.hx_types.specs.declared.calls.Op.{Op}
+use Rattle.hx_model.specs.Types.{Op}
 use Rattle.hx_types.specs.Effects.{key_of}
 use Rattle.hx_types.specs.Fitting.{numbered}
 use Rattle.hx_types.specs.Words.{IsIn, when_some}

@@ -1,11 +1,7 @@
 -- The call that a draw stands for: which one and of what is told by the bits of the draw.
 use Rattle.std.specs.Prelude.{ℕ, ◌+◌, ◌/◌, ◌%◌, ◌^◌, List, [], ◌∷◌, ◌++◌, codes, if◌then◌else◌, nat_lt, ◌==◌, pos}
 use Rattle.std.specs.Fmt.{decimal}
-use Rattle.hx_types.specs.declared.calls.Op.{Op}
-use Rattle.hx_types.specs.declared.values.Assign.{Assign}
-use Rattle.hx_types.specs.declared.values.Term.{Term}
-use Rattle.hx_types.specs.declared.calls.Op.TheVariants.{Put, Get, Del, Cput, Search}
-use Rattle.hx_types.specs.declared.values.Term.TheVariants.{Range}
+use Rattle.hx_model.specs.Types.{Assign, Cput, Del, Get, Op, Put, Range, Search, Term}
 use Rattle.hx_types.specs.declared.values.Value.TheVariants as a_value
 
 -- `sSkK`: one of the 64 keys of a session

@@ -1,10 +1,7 @@
 -- The script of a seed: calls dealt out in turn to four sessions, on a space of its own.
 use Rattle.std.specs.Prelude.{ℕ, ◌+◌, ◌%◌, List, [], ◌∷◌, map, codes, ◌==◌, pos}
 use Rattle.std.specs.List.{filter}
-use Rattle.hx_types.specs.declared.calls.Op.{Op}
-use Rattle.hx_types.specs.declared.spaces.Attribute.{Attribute}
-use Rattle.hx_types.specs.declared.spaces.Space.{Space}
-use Rattle.hx_types.specs.declared.traces.Script.{Script}
+use Rattle.hx_model.specs.Types.{Attribute, Op, Script, Space}
 use Rattle.hx_types.specs.declared.spaces.Kind.TheVariants as a_kind
 use Rattle.hx_types.specs.Words.{below}
 use Rattle.hx_soak.specs.Calling.{call_drawn}

@@ -2,10 +2,7 @@
 use Rattle.std.specs.Prelude.{ℕ, Bool, false, ◌&&◌, List, reverse, is_some, Option}
 use Rattle.std.specs.List.{count_by, flat_map}
 use Rattle.std.specs.Option.{option_map}
-use Rattle.hx_types.specs.declared.calls.Answer.{Answer}
-use Rattle.hx_types.specs.declared.histories.Item.{Item}
-use Rattle.hx_types.specs.declared.histories.Record.{Record}
-use Rattle.hx_types.specs.declared.values.Value.{Value}
+use Rattle.hx_model.specs.Types.{Answer, Item, Record, Value}
 use Rattle.hx_types.specs.Words.{list_of, when_some}
 use Rattle.hx_types.specs.Fitting.{is_cmp_fail, is_done, is_found, is_not_found, is_rows}
 use Rattle.hx_model.specs.Legal.{object_now}

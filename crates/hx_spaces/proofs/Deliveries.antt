@@ -3,9 +3,7 @@ use Rattle.std.proofs.Common.{◌≡◌, ℕ, ◌+◌, ◌<◌, ◌≤◌, Bool,
 use Rattle.std.proofs.lemmas.Bool.{false≢true}
 use Rattle.std.proofs.lemmas.List.{reverse-reverse}
 use Rattle.std.specs.Prelude.{slice_get, slice_set, reverse, is_some, MatchOption, Option, Some, None, Result, Ok, Err, IfOk, IfErr, OnErr}
-use Rattle.hx_types.specs.declared.messages.PostId.{PostId}
-use Rattle.hx_types.specs.declared.traces.Entry.{Entry}
-use Rattle.hx_types.specs.declared.traces.Script.{Script}
+use Rattle.hx_model.specs.Types.{Entry, PostId, Script}
 use Rattle.hx_types.specs.Words.{when_some}
 use Rattle.hx_model.specs.Schedule.{Next}
 use Rattle.hx_world.specs.Worlds.{WorldState}

@@ -5,8 +5,7 @@ use Rattle.std.proofs.lemmas.List.{length-reverse, reverse-append}
 use Rattle.std.proofs.lemmas.List.Elements.{All-cons, All-nil, All-set}
 use Rattle.std.specs.Prelude.{◌==◌, IfSome, if◌then◌else◌, reverse, slice_get, slice_set, take, Option, Some, None}
 use Rattle.std.specs.List.{All}
-use Rattle.hx_types.specs.declared.ids.SessionId.{SessionId}
-use Rattle.hx_types.specs.declared.traces.Script.{Script}
+use Rattle.hx_model.specs.Types.{Script, SessionId}
 use Rattle.hx_types.specs.Words.{first_of_list, when_some}
 use Rattle.hx_model.specs.Runs.{session_of}
 use Rattle.hx_model.specs.Schedule.{Next, entry_by}

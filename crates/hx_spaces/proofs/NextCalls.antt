@@ -1,9 +1,7 @@
 -- Whose turn it is, and that it was taken.
 use Rattle.std.proofs.Common.{◌≡◌, ℕ, ◌+◌, ◌<◌, ◌≤◌, Bool, true, false, ◌||◌, List, [], ◌∷◌, length, map, drop, refl, sym, ap, ◌∙◌, arith}
 use Rattle.std.specs.Prelude.{if◌then◌else◌, IfErr, OnOk, Option, Some, None, Result, Ok, Err, reverse, slice_get, slice_set}
-use Rattle.hx_types.specs.declared.ids.Actor.{Actor}
-use Rattle.hx_types.specs.declared.ids.Actor.TheVariants.{Coordinator, Server, Session}
-use Rattle.hx_types.specs.declared.ids.SessionId.{SessionId}
+use Rattle.hx_model.specs.Types.{Actor, Coordinator, Server, Session, SessionId}
 use Rattle.hx_types.specs.Words.{when_some}
 use Rattle.hx_model.specs.Runs.{session_of}
 use Rattle.hx_model.specs.Schedule.{Next}

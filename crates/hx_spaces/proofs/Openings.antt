@@ -4,8 +4,7 @@ use Rattle.std.proofs.lemmas.List.{append-nil, append_assoc, reverse-reverse}
 use Rattle.std.proofs.lemmas.List.Elements.{All-map, All-push}
 use Rattle.std.specs.Prelude.{replicate, reverse, slice_get, Some, Result, Ok, Err, IfOk}
 use Rattle.std.specs.List.{All}
-use Rattle.hx_types.specs.declared.errors.Memory.{Memory}
-use Rattle.hx_types.specs.declared.traces.Entry.{Entry}
+use Rattle.hx_model.specs.Types.{Entry, Memory}
 use Rattle.hx_types.specs.Fitting.{IsScript}
 use Rattle.hx_model.specs.Runs.{IsRun}
 use Rattle.hx_world.specs.Worlds.{HasFewEntries, WorldState}

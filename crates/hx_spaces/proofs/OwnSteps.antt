@@ -2,7 +2,7 @@
 use Rattle.std.proofs.Common.{◌≡◌, ℕ, ◌+◌, ◌<◌, ◌^◌, Bool, true, false, List, [], ◌∷◌, ◌++◌, length, map, refl, sym, ap, ◌∙◌, subst}
 use Rattle.std.specs.Prelude.{IfSome, IsSomeAnd, is_none, slice_get, slice_index_or, Option, Some, None}
 use Rattle.std.specs.List.{All}
-use Rattle.hx_types.specs.declared.traces.Step.{Step}
+use Rattle.hx_model.specs.Types.{Step}
 use Rattle.hx_model.specs.Schedule as a_fault
 use Rattle.hx_model.specs.Schedule.{StepFault}
 use Rattle.hx_world.specs.Worlds.{IsStepOf, WorldState}

@@ -5,9 +5,7 @@ use Rattle.std.proofs.lemmas.Option.{get_or_from_slice_get}
 use Rattle.std.proofs.lemmas.List.Sums.{get_or-le-sum_by}
 use Rattle.std.specs.Prelude.{◌==◌, IfSome, if◌then◌else◌, nat_lt, slice_get, slice_index_or, take, Option, Some, None}
 use Rattle.std.specs.List.{All, AllZip, list_any}
-use Rattle.hx_types.specs.declared.calls.Op.{Op}
-use Rattle.hx_types.specs.declared.ids.Actor.TheVariants.{Session}
-use Rattle.hx_types.specs.declared.traces.Script.{Script}
+use Rattle.hx_model.specs.Types.{Op, Script, Session}
 use Rattle.hx_types.specs.Fitting.{IsScript, numbered}
 use Rattle.hx_types.specs.Words.{when_some}
 use Rattle.hx_model.specs.Runs.{is_actor, session_of}

@@ -4,13 +4,7 @@ use Rattle.std.proofs.lemmas.Bool.{and_from, eqb-true, le-leb, lt-ltb}
 use Rattle.std.specs.Option.{option_map}
 use Rattle.std.specs.Prelude.{◌==◌, IfErr, IsSomeAnd, OnOk, if◌then◌else◌, is_none, Option, Some, None, Result, Ok, Err, reverse, slice_get, slice_set}
 use Rattle.std.specs.List.{All}
-use Rattle.hx_types.specs.declared.ids.Actor.{Actor}
-use Rattle.hx_types.specs.declared.ids.Actor.TheVariants.{Coordinator, Server, Session}
-use Rattle.hx_types.specs.declared.messages.Post.{Post}
-use Rattle.hx_types.specs.declared.traces.Entry.{Entry}
-use Rattle.hx_types.specs.declared.traces.Input.TheVariants.{Halt, Tick}
-use Rattle.hx_types.specs.declared.traces.Script.{Script}
-use Rattle.hx_types.specs.declared.traces.Step.{Step}
+use Rattle.hx_model.specs.Types.{Actor, Coordinator, Entry, Halt, Post, Script, Server, Session, Step, Tick}
 use Rattle.hx_types.specs.declared.traces.Step.TheVariants as a_step
 use Rattle.hx_types.specs.Words.{first_some, when_some}
 use Rattle.hx_model.specs.Runs.{is_actor, post_named}

@@ -1,8 +1,6 @@
 -- In which order the calls of a session begin, whatever their spaces.
 use Rattle.std.specs.Prelude.{◌≡◌, ℕ, false, List, [], ◌∷◌, IfSome, drop, slice_get, slice_set, Some, ⊤}
-use Rattle.hx_types.specs.declared.ids.SessionId.{SessionId}
-use Rattle.hx_types.specs.declared.ids.Actor.TheVariants.{Session}
-use Rattle.hx_types.specs.declared.traces.Entry.{Entry}
+use Rattle.hx_model.specs.Types.{Entry, Session, SessionId}
 use Rattle.hx_types.specs.declared.traces.Note.TheVariants.{Began}
 use Rattle.hx_types.specs.Words.{IsIn, first_of_list, when_some}
 use Rattle.hx_world.specs.Worlds.{WorldState}

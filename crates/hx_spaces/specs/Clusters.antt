@@ -1,7 +1,7 @@
 -- What a cluster keeps, and what its runs are.
 use Rattle.std.specs.Prelude.{◌≡◌, ℕ, ◌<◌, List, length, map, reverse, take, slice_get, IfSome, Some}
 use Rattle.std.specs.List.{All}
-use Rattle.hx_types.specs.declared.traces.Entry.{Entry}
+use Rattle.hx_model.specs.Types.{Entry}
 use Rattle.hx_types.specs.Fitting.{IsScript}
 use Rattle.hx_model.specs.Runs.{IsRun, session_of}
 use Rattle.hx_world.specs.Worlds.{HasFewEntries, WorldState}

@@ -1,10 +1,7 @@
 -- The course of a bundle: a run of each space's script, and the space of each entry in the order in which they were made; the newest entry stands first in both.
 use Rattle.std.specs.Prelude.{◌≡◌, ℕ, zero, suc, ◌+◌, Bool, List, [], ◌∷◌, map, reverse, slice_get, slice_set, if◌then◌else◌, Option, None, Some}
 use Rattle.std.specs.List.{list_any}
-use Rattle.hx_types.specs.declared.ids.SessionId.{SessionId}
-use Rattle.hx_types.specs.declared.ids.Actor.TheVariants.{Session}
-use Rattle.hx_types.specs.declared.traces.Input.TheVariants.{Tick}
-use Rattle.hx_types.specs.declared.traces.Script.{Script}
+use Rattle.hx_model.specs.Types.{Script, Session, SessionId, Tick}
 use Rattle.hx_types.specs.Words.{first_some, when_some}
 use Rattle.hx_model.specs.Runs.{session_of}
 use Rattle.hx_model.specs.Schedule.{Next, entry_by}

@@ -1,6 +1,6 @@
 -- What a drain does to the course of a bundle.
 use Rattle.std.specs.Prelude.{◌≡◌, ℕ, ◌+◌, ◌<◌, ◌≤◌, Bool, true, List, length, is_some, slice_get, IsSome, Option, Some, ⊤}
-use Rattle.hx_types.specs.declared.ids.Actor.{Actor}
+use Rattle.hx_model.specs.Types.{Actor}
 use Rattle.hx_model.specs.Schedule.{is_worn}
 use Rattle.hx_world.specs.Worlds.{WorldState}
 use Rattle.hx_world.specs.declared.ends.DrainError.{DrainError}

@@ -1,10 +1,7 @@
 -- Steps of a bundle, each taken in its space.
 use Rattle.std.specs.Prelude.{◌≡◌, ℕ, ◌-◌, Bool, false, ◌==◌, List, [], ◌∷◌, slice_get, IsSomeAnd, if◌then◌else◌, Option, None, Some, ⊤}
 use Rattle.std.specs.Option.{option_map}
-use Rattle.hx_types.specs.declared.ids.Actor.{Actor}
-use Rattle.hx_types.specs.declared.ids.Actor.TheVariants.{Coordinator, Server, Session}
-use Rattle.hx_types.specs.declared.traces.Script.{Script}
-use Rattle.hx_types.specs.declared.traces.Step.{Step}
+use Rattle.hx_model.specs.Types.{Actor, Coordinator, Script, Server, Session, Step}
 use Rattle.hx_types.specs.declared.traces.Step.TheVariants as a_step
 use Rattle.hx_types.specs.Words.{first_some, when_some}
 use Rattle.hx_model.specs.Runs.{session_of}

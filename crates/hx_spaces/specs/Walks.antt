@@ -1,8 +1,7 @@
 -- What a look at the worlds finds, and what one entry leaves.
 use Rattle.std.specs.Prelude.{◌≡◌, ℕ, ◌≤◌, Bool, true, false, List, length, slice_get, Option, None, Some}
 use Rattle.std.specs.List.{All}
-use Rattle.hx_types.specs.declared.ids.Actor.TheVariants.{Session}
-use Rattle.hx_types.specs.declared.traces.Step.{Step}
+use Rattle.hx_model.specs.Types.{Session, Step}
 use Rattle.hx_types.specs.Words.{when_some}
 use Rattle.hx_model.specs.Runs.{is_actor, session_of}
 use Rattle.hx_model.specs.Schedule.{Next, fault_of, is_idle, step_input}

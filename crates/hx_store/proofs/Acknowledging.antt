@@ -2,7 +2,7 @@
 use Rattle.std.proofs.Common.{◌≡◌, ℕ, ◌+◌, ◌<◌, ◌≤◌, true, List, [], ◌∷◌, drop, length, get_or, ap, sym, ◌∙◌, subst, arith, add-one, drop-cons}
 use Rattle.std.proofs.lemmas.List.{drop_all}
 use Rattle.std.proofs.lemmas.List.Elements.{All-head, All-tail}
-use Rattle.hx_types.specs.declared.ids.Version.{Version}
+use Rattle.hx_model.specs.Types.{Version}
 use Rattle.hx_model.specs.Slots.{Acknowledge, KeyState, is_pending, moved, moved_all}
 use Rattle.hx_slot.specs.States.{SlotState}
 use Rattle.hx_store.specs.Stores.{ArePending, acknowledging}

@@ -6,8 +6,7 @@ use Rattle.std.specs.Option.{IsSomeAnd}
 use Rattle.std.proofs.lemmas.Bool.{cases_eq, false≢true}
 use Rattle.std.proofs.lemmas.Option.{same_Some}
 use Rattle.indexmap.specs.IndexMap.{set_value_at}
-use Rattle.hx_types.specs.declared.calls.Row.{Row}
-use Rattle.hx_types.specs.declared.ids.RegionId.{RegionId}
+use Rattle.hx_model.specs.Types.{RegionId, Row}
 use Rattle.hx_types.specs.Words.{same_text, when_some}
 use Rattle.hx_model.specs.Slots.{KeyState, object_of}
 use Rattle.hx_slot.specs.States.{SlotState}

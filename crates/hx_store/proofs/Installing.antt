@@ -3,7 +3,7 @@ use Rattle.std.proofs.Common.{◌≡◌, ℕ, zero, suc, ◌+◌, ◌<◌, Bool,
 use Rattle.std.specs.List.{AllByRecursion, list_any, slice_get}
 use Rattle.std.proofs.lemmas.Bool.{false≢true, false_from_ne_true, or_cases, or_left, or_right}
 use Rattle.std.proofs.lemmas.List.{append_assoc, map_push}
-use Rattle.hx_types.specs.declared.snapshots.Kept.{Kept}
+use Rattle.hx_model.specs.Types.{Kept}
 use Rattle.hx_types.specs.Words.{same_text, text_below, when_some}
 use Rattle.hx_model.proofs.Lemmas.{eq_of_same_text, same_text_self}
 use Rattle.hx_model.specs.ServerSteps.{state_from}

@@ -8,9 +8,7 @@ use Rattle.hx_index.proofs.Lemmas.{less-differs, slots-exact, slots-total}
 use Rattle.std.proofs.lemmas.Bool.{and_right, cond-false, cond-true, cond_both, eq-eqb, eqb-true, false≢true, false_from_ne_true, ltb-true, or_left, or_right}
 use Rattle.std.proofs.lemmas.List.Elements.{filter-append}
 use Rattle.std.proofs.lemmas.List.{length-append}
-use Rattle.hx_types.specs.declared.calls.Row.{Row}
-use Rattle.hx_types.specs.declared.ids.RegionId.{RegionId}
-use Rattle.hx_types.specs.declared.values.Term.{Term}
+use Rattle.hx_model.specs.Types.{RegionId, Row, Term}
 use Rattle.hx_types.specs.Spaces.{attribute_of}
 use Rattle.hx_types.specs.Words.{list_of, when_some}
 use Rattle.hx_model.specs.Matching.{matches, term_holds}

@@ -1,10 +1,7 @@
 -- Moves of a slot leave its key and kind; acknowledgements leave what is pending.
 use Rattle.std.proofs.Common.{◌≡◌, ℕ, List, [], ◌∷◌, ◌++◌, refl, ap, sym, ◌∙◌}
-use Rattle.hx_types.specs.declared.snapshots.Kept.{Kept}
+use Rattle.hx_model.specs.Types.{Kept, RegionId, Update, Version}
 use Rattle.hx_law_folds.specs.Folding.{folded}
-use Rattle.hx_types.specs.declared.ids.RegionId.{RegionId}
-use Rattle.hx_types.specs.declared.ids.Version.{Version}
-use Rattle.hx_types.specs.declared.updates.Update.{Update}
 use Rattle.hx_model.specs.Slots.{Acknowledge, Commit, Forget, Hold, KeyState, Move, Take, moved, moved_all, offered, settled}
 use Rattle.hx_store.specs.Stores.{accepted, acknowledging}
 

@@ -4,15 +4,14 @@ use Rattle.std.specs.List.{AllByRecursion, list_any, slice_get}
 use Rattle.std.proofs.lemmas.Bool.{cases_eq, cond_both, cond-false, cond-true, eq-eqb, eqb-true, false≢true, false_from_ne_true, ne_eqb, or_cases, or_left, or_right}
 use Rattle.std.proofs.lemmas.Option.{same_Some}
 use Rattle.indexmap.specs.IndexMap.{set_value_at}
-use Rattle.hx_types.specs.declared.ids.RegionId.{RegionId}
+use Rattle.hx_model.specs.Types.{RegionId}
 use Rattle.hx_types.specs.Words.{same_text, text_below, when_some}
 use Rattle.hx_model.proofs.Lemmas.{eq_of_same_text, same_text_self}
 use Rattle.hx_model.specs.Slots.{KeyState, new_state, state_among, with_state}
 use Rattle.hx_law_folds.specs.Folding.{KeysAscend}
 use Rattle.hx_law_folds.proofs.Lemmas.{above, below-differs, below-trans}
-use Rattle.hx_store.specs.Slots.{StoreSlot}
+use Rattle.hx_store.specs.Slots.{StoreSlot, Entry}
 use Rattle.hx_store.specs.Invariant.{IsSplit, IsStoreSlot, KeysApart, is_listed, is_place, key_in, state_in, states_in}
-use Rattle.hx_store.specs.Slots.{Entry}
 use Rattle.hx_store.specs.Stores.{has_slot}
 use Rattle.hx_store.proofs.Lists.{all-at, set-elsewhere, set-here}
 

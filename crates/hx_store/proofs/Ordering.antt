@@ -4,7 +4,7 @@ use Rattle.std.specs.List.{AllByRecursion, filter, slice_get}
 use Rattle.std.proofs.lemmas.Bool.{cases_eq, cond_both, eq-eqb, eqb-true, false≢true, false_from_ne_true, lt-ltb, ltb-true, ne_eqb, or_cases, or_left, or_right}
 use Rattle.indexmap.specs.IndexMap.{set_value_at}
 use Rattle.hx_model.specs.Slots.{KeyState}
-use Rattle.hx_types.specs.declared.ids.RegionId.{RegionId}
+use Rattle.hx_model.specs.Types.{RegionId}
 use Rattle.hx_types.specs.Words.{same_text, text_below, when_some}
 use Rattle.hx_law_folds.proofs.Lemmas.{above, below-trans}
 use Rattle.hx_index.specs.Orders.{stands_in}

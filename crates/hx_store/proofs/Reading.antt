@@ -3,9 +3,7 @@ use Rattle.std.proofs.Common.{◌≡◌, ℕ, zero, suc, ◌+◌, ◌==◌, nat_
 use Rattle.std.specs.List.{All, AllByRecursion, filter, slice_get}
 use Rattle.std.proofs.lemmas.Bool.{cond-true, cond-false, lt-ltb, ne_eqb}
 use Rattle.std.proofs.lemmas.List.Elements.{All-push, filter-append}
-use Rattle.hx_types.specs.declared.ids.RegionId.{RegionId}
-use Rattle.hx_types.specs.declared.snapshots.Kept.{Kept}
-use Rattle.hx_types.specs.declared.updates.Update.{Update}
+use Rattle.hx_model.specs.Types.{Kept, RegionId, Update}
 use Rattle.hx_types.specs.Words.{list_of, same_text, text_below}
 use Rattle.hx_law_folds.specs.Folding.{KeptsAscend, KeysAscend}
 use Rattle.hx_model.specs.ServerSteps.{state_from}

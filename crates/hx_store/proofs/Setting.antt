@@ -5,13 +5,12 @@ use Rattle.std.proofs.lemmas.Bool.{cases_eq, cond_both, eq-eqb, false≢true, fa
 use Rattle.std.proofs.lemmas.Option.{same_Some}
 use Rattle.std.proofs.lemmas.List.Edits.{length-insert}
 use Rattle.indexmap.specs.IndexMap.{set_value_at}
-use Rattle.hx_types.specs.declared.ids.RegionId.{RegionId}
+use Rattle.hx_model.specs.Types.{RegionId}
 use Rattle.hx_types.specs.Words.{same_text, when_some}
 use Rattle.hx_law_folds.specs.Folding.{KeysAscend}
 use Rattle.hx_model.specs.Slots.{KeyState, new_state, state_among, with_state}
-use Rattle.hx_store.specs.Slots.{StoreSlot}
+use Rattle.hx_store.specs.Slots.{StoreSlot, Entry}
 use Rattle.hx_store.specs.Invariant.{IsSplit, IsStore, IsStoreSlot, KeysApart, is_listed, is_place, listed_count, room_of, rooms_in, state_in, states_in}
-use Rattle.hx_store.specs.Slots.{Entry}
 use Rattle.hx_store.specs.Stores.{KeepsRooms, Room, UsesRoom}
 use Rattle.hx_store.proofs.Lists.{all-among, all-at, at-front, set-elsewhere, set-here, set-length}
 use Rattle.hx_store.proofs.Order.{ascend-with, found-place, inserted, listed-there, replaced}

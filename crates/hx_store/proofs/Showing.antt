@@ -5,15 +5,14 @@ use Rattle.std.specs.Option.{IsSomeAnd, option_map}
 use Rattle.std.proofs.lemmas.Bool.{cond_both, false≢true, false_from_ne_true, or_left, or_right}
 use Rattle.std.proofs.lemmas.Option.{same_Some}
 use Rattle.indexmap.specs.IndexMap.{set_value_at}
-use Rattle.hx_types.specs.declared.ids.RegionId.{RegionId}
+use Rattle.hx_model.specs.Types.{RegionId}
 use Rattle.hx_types.specs.Words.{same_text, text_below, when_some}
 use Rattle.hx_model.proofs.Lemmas.{same_text_self}
 use Rattle.hx_law_folds.specs.Folding.{KeysAscend}
 use Rattle.hx_law_folds.proofs.Lemmas.{among-key}
 use Rattle.hx_model.specs.Slots.{KeyState, new_state, state_among, with_state}
-use Rattle.hx_store.specs.Slots.{StoreSlot}
+use Rattle.hx_store.specs.Slots.{StoreSlot, Entry}
 use Rattle.hx_store.specs.Invariant.{AscendAt, HasMoved, IsAdded, IsListedAt, IsSplit, IsStore, IsStoreSlot, is_listed, key_in, room_of, rooms_in, state_in, states_in, stored_at}
-use Rattle.hx_store.specs.Slots.{Entry}
 use Rattle.hx_store.specs.Stores.{IsPlace, KeepsOtherRooms, KeepsRooms, Room, StoreState, UsesRoom, after_step, has_room, has_slot, key_at, no_moves, spare_at, state_at}
 use Rattle.hx_store.proofs.Lists.{all-at, at-end, at-map, at-within, length-of-map, within-at}
 use Rattle.hx_store.proofs.Order.{found-with, has-place, listed-there, with-again}

@@ -1,7 +1,7 @@
 -- An index of the kept objects of slots that is brought up to date when a search asks: the rows by which it has the slots, and which
 -- slots may have another object since.
 use Rattle.std.specs.Prelude.{◌≡◌, ℕ, ◌+◌, ◌^◌, ◌<◌, ◌≤◌, ◌==◌, Bool, true, false, List, [], ◌∷◌, length, is_some, if◌then◌else◌, slice_get, Option, None}
-use Rattle.hx_types.specs.declared.calls.Row.{Row}
+use Rattle.hx_model.specs.Types.{Row}
 use Rattle.hx_types.specs.Words.{when_some}
 use Rattle.hx_model.specs.Slots.{object_of}
 use Rattle.hx_slot.specs.States.{SlotState}

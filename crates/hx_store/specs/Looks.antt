@@ -1,8 +1,7 @@
 -- How many looks at objects a search takes at most.
 use Rattle.std.specs.Prelude.{ℕ, ◌+◌, ◌*◌, Bool, ◌&&◌, List, [], ◌∷◌, length, nat_lt, if◌then◌else◌, min}
 use Rattle.std.specs.List.{filter}
-use Rattle.hx_types.specs.declared.calls.Row.{Row}
-use Rattle.hx_types.specs.declared.values.Term.{Term}
+use Rattle.hx_model.specs.Types.{Row, Term}
 use Rattle.hx_types.specs.Spaces.{attribute_of}
 use Rattle.hx_model.specs.Matching.{term_holds}
 use Rattle.hx_index.specs.Looks.{digits_of}

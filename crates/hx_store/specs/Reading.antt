@@ -2,13 +2,11 @@
 use Rattle.std.specs.Prelude.{◌≡◌, ℕ, true, ⊤, Bool, List, [], ◌∷◌, map}
 use Rattle.std.specs.List.{AllByRecursion}
 use Rattle.std.specs.Option.{IfSome}
-use Rattle.hx_types.specs.declared.calls.Row.{Row}
-use Rattle.hx_types.specs.declared.snapshots.Kept.{Kept}
+use Rattle.hx_model.specs.Types.{Kept, RegionId, Row}
 use Rattle.hx_types.specs.Words.{list_of, text_below, when_some}
 use Rattle.hx_law_folds.specs.Folding.{KeysAscend}
 use Rattle.hx_model.specs.ServerSteps.{state_from}
 use Rattle.hx_model.specs.Slots.{KeyState, new_state, object_of, snapshot_of, state_among}
-use Rattle.hx_types.specs.declared.ids.RegionId.{RegionId}
 use Rattle.hx_slot.specs.States.{SlotState, committed_state}
 
 -- the committed state, where something is committed

@@ -1,8 +1,7 @@
 -- The slots of a store by the places of their keys, and the index of their kept objects.
 use Rattle.std.specs.Prelude.{◌≡◌, ℕ, ◌+◌, ◌≤◌, Bool, List, [], ◌∷◌, length, slice_get, Option, None, Some}
 use Rattle.std.specs.List.{slice_set}
-use Rattle.hx_types.specs.declared.calls.Row.{Row}
-use Rattle.hx_types.specs.declared.ids.RegionId.{RegionId}
+use Rattle.hx_model.specs.Types.{RegionId, Row}
 use Rattle.hx_types.specs.Words.{when_some}
 use Rattle.hx_model.specs.Slots.{KeyState, object_of}
 use Rattle.hx_slot.specs.States.{SlotState}

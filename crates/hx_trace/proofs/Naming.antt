@@ -5,10 +5,7 @@ use Rattle.std.specs.Prelude.{IfSome, MatchOption, slice_get, reverse, unwrap_or
 use Rattle.std.specs.List.{AllByRecursion}
 use Rattle.std.specs.Option.{option_map}
 use Rattle.hx_types.specs.Words.{when_some}
-use Rattle.hx_types.specs.declared.messages.Post.{Post}
-use Rattle.hx_types.specs.declared.messages.PostId.{PostId}
-use Rattle.hx_types.specs.declared.traces.Entry.{Entry}
-use Rattle.hx_types.specs.declared.traces.Note.{Note}
+use Rattle.hx_model.specs.Types.{Entry, Note, Post, PostId}
 use Rattle.hx_model.specs.Runs.{post_named}
 use Rattle.hx_trace.specs.declared.heads.Head.{Head}
 use Rattle.hx_trace.specs.declared.heads.Taken.{Taken}

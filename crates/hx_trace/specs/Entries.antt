@@ -1,10 +1,7 @@
 -- What an entry of a trace says, as the trace lends it.
 use Rattle.std.specs.Prelude.{List, [], ◌∷◌, Option, None, Some}
-use Rattle.hx_types.specs.declared.traces.Entry.{Entry}
-use Rattle.hx_types.specs.declared.traces.Input.{Input}
-use Rattle.hx_types.specs.declared.traces.Note.{Note}
+use Rattle.hx_model.specs.Types.{Deliver, Entry, Halt, Input, Note, Tick}
 use Rattle.hx_types.specs.Words.{when_some}
-use Rattle.hx_types.specs.declared.traces.Input.TheVariants.{Tick, Halt, Deliver}
 use Rattle.hx_trace.specs.declared.entries.EntryRef.{EntryRef}
 use Rattle.hx_trace.specs.declared.entries.InputRef.{InputRef}
 use Rattle.hx_trace.specs.declared.entries.InputRef.TheVariants as a_ref

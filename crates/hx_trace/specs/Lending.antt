@@ -1,7 +1,7 @@
 -- A trace lends itself to grow.
 use Rattle.std.specs.Prelude.{List}
 use Rattle.std.specs.Borrow.{Lends, MutBor, Fml}
-use Rattle.hx_types.specs.declared.traces.Entry.{Entry}
+use Rattle.hx_model.specs.Types.{Entry}
 use Rattle.hx_trace.specs.contracts.growing.GrowingTrace as growing
 use Rattle.hx_trace.specs.contracts.traces.Trace as trace
 use Rattle.hx_trace.specs.Rooms.{Growth}

@@ -2,12 +2,7 @@
 -- each entry that was put at the end, and the posts and notes of these one after another. Those that are kept whole lie apart.
 use Rattle.std.specs.Prelude.{◌≡◌, ◌⊎◌, ℕ, ◌+◌, ◌<◌, ◌≤◌, ◌^◌, ◌++◌, List, length, map, slice_get, slice_range, Option, None, Some, vec_capacity, ⊤}
 use Rattle.std.specs.List.{AllByRecursion}
-use Rattle.hx_types.specs.declared.messages.Post.{Post}
-use Rattle.hx_types.specs.declared.messages.PostId.{PostId}
-use Rattle.hx_types.specs.declared.traces.Entry.{Entry}
-use Rattle.hx_types.specs.declared.traces.Input.{Input}
-use Rattle.hx_types.specs.declared.traces.Note.{Note}
-use Rattle.hx_types.specs.declared.traces.Input.TheVariants.{Tick, Halt, Deliver}
+use Rattle.hx_model.specs.Types.{Deliver, Entry, Halt, Input, Note, Post, PostId, Tick}
 use Rattle.hx_types.specs.Words.{when_some}
 use Rattle.hx_trace.specs.declared.heads.Head.{Head}
 use Rattle.hx_trace.specs.declared.heads.Span.{Span}

@@ -1,8 +1,6 @@
 -- A trace that grows, and the room that it has.
 use Rattle.std.specs.Prelude.{◌≡◌, ℕ, ◌<◌, ◌≤◌, List, Option, None, Some, length, reverse, slice_get, ⊤}
-use Rattle.hx_types.specs.declared.messages.Post.{Post}
-use Rattle.hx_types.specs.declared.messages.PostId.{PostId}
-use Rattle.hx_types.specs.declared.traces.Entry.{Entry}
+use Rattle.hx_model.specs.Types.{Entry, Post, PostId}
 use Rattle.hx_model.specs.Runs.{post_named}
 use Rattle.hx_trace.specs.declared.heads.Room.{Room}
 use Rattle.hx_trace.specs.declared.lists.Lists.{Lists}

@@ -1,8 +1,6 @@
 -- The entries of parts, one at each turn.
 use Rattle.std.specs.Prelude.{◌≡◌, ℕ, ◌<◌, List, [], length, nat_lt, slice_index_or}
-use Rattle.hx_types.specs.declared.ids.Actor.TheVariants.{Coordinator}
-use Rattle.hx_types.specs.declared.traces.Entry.{Entry}
-use Rattle.hx_types.specs.declared.traces.Input.TheVariants.{Tick}
+use Rattle.hx_model.specs.Types.{Coordinator, Entry, Tick}
 use Rattle.hx_clock.specs.declared.parts.Stamped.{Stamped}
 use Rattle.hx_clock.specs.Parts.{stamped}
 use Rattle.hx_trace.specs.declared.turns.Turn.{Turn}

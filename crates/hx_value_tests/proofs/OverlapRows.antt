@@ -2,10 +2,7 @@
 use Rattle.std.specs.Prelude.{◌≤◌, List, [], ◌∷◌}
 use Rattle.std.proofs.Common.{◌≡◌, true, false, inl, inr, refl, ap, sym, subst, ◌∙◌, arith}
 use Rattle.std.proofs.lemmas.Bool.{false≢true}
-use Rattle.hx_types.specs.declared.ids.Version.{Version}
-use Rattle.hx_types.specs.declared.messages.Post.{Post}
-use Rattle.hx_types.specs.declared.updates.Update.{Update}
-use Rattle.hx_types.specs.declared.ids.Actor.TheVariants.{Coordinator, Server}
+use Rattle.hx_model.specs.Types.{Coordinator, Post, Server, Update, Version}
 use Rattle.hx_types.specs.declared.messages.Message.TheVariants as a_message
 use Rattle.hx_types.specs.Words.{IsIn, post}
 use Rattle.hx_model.specs.Hearing.{hears_ack, hears_update}

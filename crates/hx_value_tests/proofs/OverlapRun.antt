@@ -3,16 +3,7 @@ use Rattle.std.specs.Prelude.{List, [], ◌∷◌, length, Some}
 use Rattle.std.proofs.Common.{◌≡◌, true, refl, arith}
 use Rattle.std.proofs.lemmas.List.Elements.{All-from_recursion}
 use Rattle.std.specs.List.{All}
-use Rattle.hx_types.specs.declared.calls.Op.{Op}
-use Rattle.hx_types.specs.declared.configs.Config.{Config}
-use Rattle.hx_types.specs.declared.messages.Message.{Message}
-use Rattle.hx_types.specs.declared.messages.Post.{Post}
-use Rattle.hx_types.specs.declared.messages.PostId.{PostId}
-use Rattle.hx_types.specs.declared.traces.Entry.{Entry}
-use Rattle.hx_types.specs.declared.traces.Script.{Script}
-use Rattle.hx_types.specs.declared.traces.Step.{Step}
-use Rattle.hx_types.specs.declared.calls.Op.TheVariants.{Stop}
-use Rattle.hx_types.specs.declared.ids.Actor.TheVariants.{Server}
+use Rattle.hx_model.specs.Types.{Config, Entry, Message, Op, Post, PostId, Script, Server, Step, Stop}
 use Rattle.hx_types.specs.declared.messages.Message.TheVariants as a_message
 use Rattle.hx_types.specs.Fitting.{IsScript}
 use Rattle.hx_types.specs.Spaces.{Fits}

@@ -1,9 +1,8 @@
 -- What the laws on chains give of a snapshot under way, in a run of which all is computed.
 use Rattle.std.specs.Prelude.{◌≤◌, ℕ, List, [], ◌∷◌, length, None, Some}
 use Rattle.std.proofs.Common.{◌≡◌, true, inl, inr, refl, ap, sym, subst, ◌∙◌, arith}
-use Rattle.hx_types.specs.declared.updates.Update.{Update}
+use Rattle.hx_model.specs.Types.{Server, Update}
 use Rattle.hx_types.specs.declared.calls.Answer.TheVariants as an_answer
-use Rattle.hx_types.specs.declared.ids.Actor.TheVariants.{Server}
 use Rattle.hx_types.specs.Words.{IsIn}
 use Rattle.hx_model.specs.Histories.{line_of}
 use Rattle.hx_model.specs.Holders.{IsPrefix, snap_state}

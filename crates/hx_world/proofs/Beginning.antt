@@ -2,8 +2,7 @@
 use Rattle.std.proofs.Common.{◌≡◌, ℕ, ◌+◌, ◌<◌, List, [], length, Option, Some, sym, ap, ◌∙◌, subst, arith, add-one, get_or}
 use Rattle.std.specs.Prelude.{slice_get}
 use Rattle.std.specs.List.{All}
-use Rattle.hx_types.specs.declared.calls.Op.{Op}
-use Rattle.hx_types.specs.declared.traces.Script.{Script}
+use Rattle.hx_model.specs.Types.{Op, Script}
 use Rattle.hx_types.specs.Fitting.{IsScript, calls_of, numbered}
 use Rattle.hx_types.specs.Spaces.{Fits}
 use Rattle.hx_types.specs.Words.{when_some}

@@ -1,11 +1,7 @@
 -- What an actor hears is the delivery of a post of the trace.
 use Rattle.std.proofs.Common.{◌≡◌, ℕ, List, Some, sym, ap, ◌∙◌, subst}
 use Rattle.std.specs.Prelude.{reverse}
-use Rattle.hx_types.specs.declared.messages.Post.{Post}
-use Rattle.hx_types.specs.declared.messages.PostId.{PostId}
-use Rattle.hx_types.specs.declared.traces.Entry.{Entry}
-use Rattle.hx_types.specs.declared.traces.Input.{Input}
-use Rattle.hx_types.specs.declared.traces.Input.TheVariants.{Deliver}
+use Rattle.hx_model.specs.Types.{Deliver, Entry, Input, Post, PostId}
 use Rattle.hx_model.specs.Runs.{post_named}
 use Rattle.hx_model.specs.Schedule.{without_delivered}
 use Rattle.hx_trace.specs.Lists.{delivery}

@@ -1,9 +1,7 @@
 -- The names of an entry's posts.
 use Rattle.std.proofs.Common.{◌≡◌, ℕ, zero, suc, ◌+◌, List, [], ◌∷◌, ◌++◌, length, refl, sym, ap, subst, arith, add-zero, add-one, append_assoc}
 use Rattle.std.proofs.lemmas.List.{length-append}
-use Rattle.hx_types.specs.declared.messages.Post.{Post}
-use Rattle.hx_types.specs.declared.messages.PostId.{PostId}
-use Rattle.hx_types.specs.declared.traces.Entry.{Entry}
+use Rattle.hx_model.specs.Types.{Entry, Post, PostId}
 use Rattle.hx_model.specs.Schedule.{names_from}
 use Rattle.hx_world.specs.Filing.{names_counted}
 

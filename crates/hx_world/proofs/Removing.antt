@@ -3,7 +3,7 @@ use Rattle.std.proofs.Common.{◌≡◌, ℕ, zero, suc, ◌<◌, ◌≤◌, inl
 use Rattle.std.specs.Prelude.{slice_get}
 use Rattle.std.specs.List.Sorted.{IsPartitionedBy}
 use Rattle.std.proofs.lemmas.Bool.{cond-true, cond-false, cases_Bool, eqb-true, eq-eqb, ne_eqb, and_parts, and_left, and_right, false≢true}
-use Rattle.hx_types.specs.declared.messages.PostId.{PostId}
+use Rattle.hx_model.specs.Types.{PostId}
 use Rattle.hx_types.specs.Words.{IsIn, when_some}
 use Rattle.hx_model.specs.Schedule.{same_name}
 use Rattle.hx_law_lemmas.proofs.Lemmas.{in-slice_get}

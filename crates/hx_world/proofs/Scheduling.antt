@@ -3,18 +3,8 @@ use Rattle.std.proofs.Common.{◌≡◌, ℕ, zero, suc, ◌+◌, ◌<◌, inl, 
 use Rattle.std.specs.Prelude.{⊤, reverse, is_some, IsSomeAnd, MatchOption}
 use Rattle.std.specs.Option.{option_map}
 use Rattle.std.proofs.lemmas.Bool.{cond-true, cond-false, cases_eq, and_from, and_parts, and_right, le-leb, lt-ltb, ltb-true, not-true}
-use Rattle.hx_types.specs.declared.calls.Op.{Op}
-use Rattle.hx_types.specs.declared.messages.Post.{Post}
-use Rattle.hx_types.specs.declared.messages.PostId.{PostId}
-use Rattle.hx_types.specs.declared.ids.Actor.{Actor}
-use Rattle.hx_types.specs.declared.ids.SessionId.{SessionId}
-use Rattle.hx_types.specs.declared.spaces.Space.{Space}
-use Rattle.hx_types.specs.declared.traces.Entry.{Entry}
-use Rattle.hx_types.specs.declared.traces.Script.{Script}
-use Rattle.hx_types.specs.declared.traces.Step.{Step}
+use Rattle.hx_model.specs.Types.{Actor, Entry, Op, Post, PostId, Script, Session, SessionId, Space, Step, Tick}
 use Rattle.hx_types.specs.declared.traces.Step.TheVariants as a_step
-use Rattle.hx_types.specs.declared.ids.Actor.TheVariants.{Session}
-use Rattle.hx_types.specs.declared.traces.Input.TheVariants.{Tick}
 use Rattle.hx_types.specs.Fitting.{numbered}
 use Rattle.hx_types.specs.Words.{below, first_some, when_some}
 use Rattle.hx_model.specs.Runs.{is_empty, does_something, session_of}

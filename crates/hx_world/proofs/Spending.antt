@@ -1,8 +1,7 @@
 -- Drains: the entries that the schedule makes one after another.
 use Rattle.std.proofs.Common.{◌≡◌, ℕ, zero, suc, ◌+◌, ◌-◌, ◌≤◌, false, List, Option, Some, None, refl, sym, ◌∙◌, arith, add-one, add-zero}
 use Rattle.std.specs.Prelude.{is_some}
-use Rattle.hx_types.specs.declared.traces.Entry.{Entry}
-use Rattle.hx_types.specs.declared.traces.Script.{Script}
+use Rattle.hx_model.specs.Types.{Entry, Script}
 use Rattle.hx_model.specs.Schedule.{next_entry, scheduled, with_entry}
 use Rattle.hx_world.specs.declared.ends.Drained.TheVariants.{Quiet}
 use Rattle.hx_world.specs.Worlds.{Advances, Drains}

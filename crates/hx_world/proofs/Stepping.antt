@@ -2,17 +2,9 @@
 use Rattle.std.proofs.Common.{◌≡◌, true, false, Bool, List, Option, None, Some, cond, sym, ap, ◌∙◌, subst}
 use Rattle.std.specs.Option.{option_map}
 use Rattle.std.proofs.lemmas.Bool.{false≢true}
-use Rattle.hx_types.specs.declared.messages.Post.{Post}
-use Rattle.hx_types.specs.declared.messages.PostId.{PostId}
-use Rattle.hx_types.specs.declared.ids.Actor.{Actor}
-use Rattle.hx_types.specs.declared.ids.Actor.TheVariants.{Server}
-use Rattle.hx_types.specs.declared.ids.ServerId.{ServerId}
-use Rattle.hx_types.specs.declared.traces.Entry.{Entry}
-use Rattle.hx_types.specs.declared.traces.Script.{Script}
+use Rattle.hx_model.specs.Types.{Actor, Deliver, Entry, Halt, Input, Post, PostId, Script, Server, ServerId, Tick}
 use Rattle.hx_types.specs.declared.traces.Step.TheVariants as a_step
-use Rattle.hx_types.specs.declared.traces.Input.TheVariants.{Tick, Halt, Deliver}
 use Rattle.hx_types.specs.Words.{first_some, when_some}
-use Rattle.hx_types.specs.declared.traces.Input.{Input}
 use Rattle.hx_model.specs.Runs.{MayTake, has_halted, made_of, does_something, post_named}
 use Rattle.hx_model.specs.Schedule as model
 use Rattle.hx_model.specs.Schedule.{StepFault, delivery_of, entry_by, fault_of, idle_fault, is_worn, halted_fault, with_entry, worn_fault}

@@ -4,19 +4,9 @@ use Rattle.std.proofs.lemmas.Bool.{and_from, and_parts, lt-ltb, le-leb, ltb-true
 use Rattle.std.specs.Prelude.{IsTrue}
 use Rattle.std.specs.List.{AllByRecursion}
 use Rattle.std.proofs.lemmas.List.Elements.{All-weaker, recursion_from_All}
-use Rattle.hx_types.specs.declared.messages.Message.{Message}
-use Rattle.hx_types.specs.declared.messages.Post.{Post}
-use Rattle.hx_types.specs.declared.messages.PostId.{PostId}
-use Rattle.hx_types.specs.declared.ids.Actor.{Actor}
-use Rattle.hx_types.specs.declared.ids.ServerId.{ServerId}
-use Rattle.hx_types.specs.declared.ids.SessionId.{SessionId}
-use Rattle.hx_types.specs.declared.traces.Entry.{Entry}
-use Rattle.hx_types.specs.declared.traces.Input.{Input}
-use Rattle.hx_types.specs.declared.traces.Script.{Script}
-use Rattle.hx_types.specs.declared.updates.Update.{Update}
+use Rattle.hx_model.specs.Types.{Actor, Coordinator, Deliver, Entry, Halt, Input, Message, Post, PostId, Script, Server, ServerId, Session, SessionId, Space}
+use Rattle.hx_model.specs.Types.{Tick, Update}
 use Rattle.hx_types.specs.declared.messages.Message.TheVariants as a_message
-use Rattle.hx_types.specs.declared.ids.Actor.TheVariants.{Coordinator, Server, Session}
-use Rattle.hx_types.specs.declared.traces.Input.TheVariants.{Tick, Halt, Deliver}
 use Rattle.hx_types.specs.Posts.{ActorExists, Bounds, IsSessionOf, IsSoundMessage, IsSoundPost, IsSoundUpdate, has_place_in}
 use Rattle.hx_types.specs.Spaces.{IsServerOf}
 use Rattle.hx_types.specs.Words.{IsIn, post}
@@ -27,7 +17,6 @@ use Rattle.hx_replica.specs.Servers as server
 use Rattle.hx_session.specs.Sessions as session
 use Rattle.hx_coord.specs.Coordinators as coordinator
 use Rattle.hx_law_posts.proofs.Lemmas.{KeptSound, kept-run}
-use Rattle.hx_types.specs.declared.spaces.Space.{Space}
 use Rattle.hx_types.specs.Subspaces.{is_key_region}
 use Rattle.hx_model.specs.Slots.{top_of}
 use Rattle.hx_law_folds.specs.Folding.{InputFits, IsAfter, IsReplicaOf, IsServerOf as AreInOrder, IsSlotIn, MessageFits, folded, folded_replica, folded_server}

@@ -1,6 +1,6 @@
 -- The coordinator of a world before and after one of its entries.
 use Rattle.std.specs.Prelude.{◌≡◌, ◌+◌}
-use Rattle.hx_types.specs.declared.traces.Input.{Input}
+use Rattle.hx_model.specs.Types.{Input}
 use Rattle.hx_model.specs.CoordinatorSteps.{coordinator_step}
 use Rattle.hx_world.specs.declared.coordinators.CountedCoordinator.{CountedCoordinator}
 

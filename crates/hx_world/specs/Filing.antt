@@ -1,12 +1,6 @@
 -- How entries and the names of the posts that wait are kept.
 use Rattle.std.specs.Prelude.{◌≡◌, ℕ, zero, suc, ◌+◌, List, [], ◌∷◌, ◌++◌, length, reverse}
-use Rattle.hx_types.specs.declared.ids.Actor.{Actor}
-use Rattle.hx_types.specs.declared.messages.Post.{Post}
-use Rattle.hx_types.specs.declared.messages.PostId.{PostId}
-use Rattle.hx_types.specs.declared.traces.Entry.{Entry}
-use Rattle.hx_types.specs.declared.traces.Input.{Input}
-use Rattle.hx_types.specs.declared.traces.Note.{Note}
-use Rattle.hx_types.specs.declared.traces.Input.TheVariants.{Tick}
+use Rattle.hx_model.specs.Types.{Actor, Entry, Input, Note, Post, PostId, Tick}
 use Rattle.hx_model.specs.Runs.{post_named}
 use Rattle.hx_model.specs.Schedule.{names_from, without_delivered}
 use Rattle.hx_trace.specs.Lists.{delivery}

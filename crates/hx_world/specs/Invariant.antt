@@ -1,13 +1,7 @@
 -- What a world keeps: its fields are the states that the definitions fold from its trace.
 use Rattle.std.specs.Prelude.{◌≡◌, ℕ, ◌+◌, List, length, reverse, slice_get, Some}
 use Rattle.std.specs.List.{filter}
-use Rattle.hx_types.specs.declared.messages.Post.{Post}
-use Rattle.hx_types.specs.declared.messages.PostId.{PostId}
-use Rattle.hx_types.specs.declared.ids.ServerId.{ServerId}
-use Rattle.hx_types.specs.declared.ids.SessionId.{SessionId}
-use Rattle.hx_types.specs.declared.traces.Entry.{Entry}
-use Rattle.hx_types.specs.declared.traces.Script.{Script}
-use Rattle.hx_types.specs.declared.ids.Actor.TheVariants.{Coordinator, Server, Session}
+use Rattle.hx_model.specs.Types.{Coordinator, Entry, Post, PostId, Script, Server, ServerId, Session, SessionId}
 use Rattle.hx_types.specs.Fitting.{IsScript}
 use Rattle.hx_types.specs.Words.{IsIn}
 use Rattle.hx_model.specs.Runs.{IsRun, coordinator_of, post_named, server_of, session_of}

@@ -1,10 +1,6 @@
 -- What a world can be asked to do next, apart from its schedule: its first delivery, and the next call of a session; traces stand here newest first.
 use Rattle.std.specs.Prelude.{◌≡◌, Bool, true, false, List, ◌∷◌, Option, None, Some, ⊤}
-use Rattle.hx_types.specs.declared.ids.SessionId.{SessionId}
-use Rattle.hx_types.specs.declared.ids.Actor.TheVariants.{Session}
-use Rattle.hx_types.specs.declared.traces.Entry.{Entry}
-use Rattle.hx_types.specs.declared.traces.Input.TheVariants.{Tick}
-use Rattle.hx_types.specs.declared.traces.Script.{Script}
+use Rattle.hx_model.specs.Types.{Entry, Script, Session, SessionId, Tick}
 use Rattle.hx_model.specs.Schedule.{Next, entry_by, first_delivery, is_worn, undelivered}
 use Rattle.hx_world.specs.declared.ends.DrainError.{DrainError}
 use Rattle.hx_world.specs.declared.ends.DrainError.TheVariants.{Memory, Worn}

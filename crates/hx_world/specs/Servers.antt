@@ -1,6 +1,6 @@
 -- A server of a world before and after one of its entries.
 use Rattle.std.specs.Prelude.{◌≡◌, ◌+◌}
-use Rattle.hx_types.specs.declared.traces.Input.{Input}
+use Rattle.hx_model.specs.Types.{Input}
 use Rattle.hx_model.specs.ServerSteps.{server_step}
 use Rattle.hx_law_folds.specs.Folding.{folded_server}
 use Rattle.hx_world.specs.declared.servers.CountedServer.{CountedServer}

@@ -1,7 +1,6 @@
 -- A session of a world before and after one of its entries.
 use Rattle.std.specs.Prelude.{◌≡◌, ◌+◌}
-use Rattle.hx_types.specs.declared.calls.Op.{Op}
-use Rattle.hx_types.specs.declared.traces.Input.{Input}
+use Rattle.hx_model.specs.Types.{Input, Op}
 use Rattle.hx_session.specs.Sessions.{with_call}
 use Rattle.hx_model.specs.SessionSteps.{session_step}
 use Rattle.hx_world.specs.declared.sessions.CountedSession.{CountedSession}

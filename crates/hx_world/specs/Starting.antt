@@ -1,7 +1,6 @@
 -- The actors before the first entry.
 use Rattle.std.specs.Prelude.{◌≡◌, ℕ, length}
-use Rattle.hx_types.specs.declared.spaces.Space.{Space}
-use Rattle.hx_types.specs.declared.traces.Script.{Script}
+use Rattle.hx_model.specs.Types.{Script, Space}
 use Rattle.hx_types.specs.Fitting.{calls_of}
 use Rattle.hx_model.specs.CoordinatorSteps.{coordinator_at_start}
 use Rattle.hx_model.specs.ServerSteps.{server_at_start}

@@ -1,9 +1,6 @@
 -- One entry of one actor: when it may be made, and what it leaves.
 use Rattle.std.specs.Prelude.{◌≡◌, ℕ, ◌<◌, ◌≤◌, true, false, List, ◌∷◌, Bool, ⊤}
-use Rattle.hx_types.specs.declared.ids.Actor.{Actor}
-use Rattle.hx_types.specs.declared.traces.Entry.{Entry}
-use Rattle.hx_types.specs.declared.traces.Input.{Input}
-use Rattle.hx_types.specs.declared.traces.Script.{Script}
+use Rattle.hx_model.specs.Types.{Actor, Entry, Input, Script}
 use Rattle.hx_model.specs.Runs.{has_halted, made_of, does_something}
 use Rattle.hx_model.specs.Schedule.{entry_by, is_worn}
 use Rattle.hx_world.specs.declared.ends.StepError.{StepError}

@@ -1,5 +1,5 @@
 use Rattle.std.proofs.Common.{◌≡◌, true, ◌∷◌, sym, subst}
-use Rattle.hx_types.specs.declared.traces.Entry.{Entry}
+use Rattle.hx_model.specs.Types.{Entry}
 use Rattle.hx_law_threads.specs.Pacing.{IsPaced}
 use Rattle.hx_law_drivers.specs.Crews.{doubled_by, lost_by}
 use Rattle.hx_law_drivers.specs.Laws.{IsDue, MayComeNext}

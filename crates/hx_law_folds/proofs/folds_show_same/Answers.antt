@@ -1,5 +1,5 @@
 -- A slot shows, answers and decides the same without its past.
-use Rattle.hx_types.specs.declared.ids.RegionId.{RegionId}
+use Rattle.hx_model.specs.Types.{RegionId}
 use Rattle.hx_model.specs.Slots.{KeyState}
 use Rattle.hx_law_folds.specs.Folding.{IsSlotOf, folded}
 use Rattle.hx_law_folds.specs.Laws.{AnswerSame}

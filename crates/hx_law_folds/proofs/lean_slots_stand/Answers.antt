@@ -1,6 +1,6 @@
 -- What a slot without a past shows, answers and does is that of each slot for which it stands.
 use Rattle.std.proofs.Common.{◌∙◌}
-use Rattle.hx_types.specs.declared.ids.RegionId.{RegionId}
+use Rattle.hx_model.specs.Types.{RegionId}
 use Rattle.hx_model.specs.Slots.{KeyState}
 use Rattle.hx_law_folds.specs.Folding.{StandsFor}
 use Rattle.hx_law_folds.specs.Laws.{Stand}

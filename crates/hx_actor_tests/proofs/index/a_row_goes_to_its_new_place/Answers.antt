@@ -1,5 +1,5 @@
 use Rattle.std.proofs.Common.{◌≡◌, ℕ, [], ◌∷◌, None, Option, Some, length, ap, sym, subst, ◌∙◌, arith}
-use Rattle.hx_types.specs.declared.calls.Row.{Row}
+use Rattle.hx_model.specs.Types.{Row}
 use Rattle.hx_index.specs.Looks.{ViewState}
 use Rattle.hx_index.specs.Orders.{IsIndexOf, rows_at, rows_with}
 use Rattle.hx_index.proofs.Lemmas.{first-changes, first-comes, second-comes, without-length}

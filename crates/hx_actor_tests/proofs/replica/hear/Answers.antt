@@ -1,7 +1,5 @@
 use Rattle.std.proofs.Common.{subst, sym}
-use Rattle.hx_types.specs.declared.ids.Actor.TheVariants.{Session}
-use Rattle.hx_types.specs.declared.messages.Message.{Message}
-use Rattle.hx_types.specs.declared.traces.Input.TheVariants.{Deliver}
+use Rattle.hx_model.specs.Types.{Deliver, Message, Session}
 use Rattle.hx_replica.specs.Servers.{CanTake}
 use Rattle.hx_actor_tests.proofs.replica.hear.Goals as goal
 

@@ -1,6 +1,6 @@
 use Rattle.std.proofs.Common.{ap, arith, subst, sym, ◌∙◌}
 use Rattle.std.proofs.lemmas.Result.{IfOk-weaker}
-use Rattle.hx_types.specs.declared.spaces.Space.{Space}
+use Rattle.hx_model.specs.Types.{Space}
 use Rattle.hx_types.specs.Spaces.{IsServerOf, IsSpace}
 use Rattle.hx_model.specs.ServerSteps.{server_at_start}
 use Rattle.hx_replica.specs.Examples.{first}

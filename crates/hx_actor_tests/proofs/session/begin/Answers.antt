@@ -1,5 +1,5 @@
 use Rattle.std.proofs.Common.{ap, ◌∙◌}
-use Rattle.hx_types.specs.declared.traces.Input.TheVariants.{Tick}
+use Rattle.hx_model.specs.Types.{Tick}
 use Rattle.hx_model.specs.SessionSteps.{SessionState}
 use Rattle.hx_actor_tests.proofs.Replies.{keeps_id}
 use Rattle.hx_actor_tests.proofs.session.begin.Goals as goal

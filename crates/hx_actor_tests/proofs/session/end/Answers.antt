@@ -1,5 +1,4 @@
-use Rattle.hx_types.specs.declared.ids.Actor.TheVariants.{Server}
-use Rattle.hx_types.specs.declared.traces.Input.TheVariants.{Deliver}
+use Rattle.hx_model.specs.Types.{Deliver, Server}
 use Rattle.hx_actor_tests.proofs.Replies.{done, reply_is_sound}
 use Rattle.hx_actor_tests.proofs.session.end.Goals as goal
 

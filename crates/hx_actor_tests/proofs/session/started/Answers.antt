@@ -1,5 +1,5 @@
 use Rattle.std.proofs.Common.{[], ◌∷◌, ◌∙◌}
-use Rattle.hx_types.specs.declared.calls.Op.TheVariants.{Put}
+use Rattle.hx_model.specs.Types.{Put}
 use Rattle.hx_actor_tests.proofs.Books.{calls_fit, few_calls, space_is}
 use Rattle.hx_actor_tests.proofs.session.started.Goals as goal
 

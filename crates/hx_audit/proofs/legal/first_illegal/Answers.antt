@@ -1,7 +1,7 @@
 use Rattle.std.proofs.Common.{List, reverse, take, subst, ◌∙◌}
 use Rattle.std.specs.List.{slice_get}
 use Rattle.std.specs.Option.{IfSome}
-use Rattle.hx_types.specs.declared.histories.Item.{Item}
+use Rattle.hx_model.specs.Types.{Item}
 use Rattle.hx_model.specs.Legal.{IsEffect, object_now}
 use Rattle.hx_audit.specs.Walking.{IsFirstNot}
 use Rattle.hx_audit.proofs.Effects.{faults}

@@ -1,6 +1,6 @@
 use Rattle.std.proofs.Common.{◌≡◌, Option, Some, ap, sym, subst, ◌∙◌, arith}
 use Rattle.std.specs.List.{slice_get}
-use Rattle.hx_types.specs.declared.calls.Row.{Row}
+use Rattle.hx_model.specs.Types.{Row}
 use Rattle.hx_audit.specs.Clauses.{IsRowOf, row_above}
 use Rattle.hx_audit.specs.Finished.{finished_view}
 use Rattle.hx_audit.specs.Told.{account_of}

@@ -1,7 +1,7 @@
 -- What stood there, the subspaces before, and this one.
 use Rattle.std.proofs.Common.{◌++◌, List, map, ap, ◌∙◌, arith}
 use Rattle.std.specs.Option.{option_copied}
-use Rattle.hx_types.specs.declared.updates.Place.{Place}
+use Rattle.hx_model.specs.Types.{Place}
 use Rattle.hx_model.specs.Slots.{touches_of}
 use Rattle.hx_chain.specs.Crossing.{crossed, place_for}
 use Rattle.hx_chain.proofs.Subspaces.{places_next}

@@ -1,5 +1,5 @@
 use Rattle.std.proofs.Common.{◌≡◌, take}
-use Rattle.hx_types.specs.declared.configs.Config.{Config}
+use Rattle.hx_model.specs.Types.{Config}
 use Rattle.hx_model.specs.CoordinatorSteps.{stops_answered}
 use Rattle.hx_coord.proofs.stops.stops_answered.Given as goal
 

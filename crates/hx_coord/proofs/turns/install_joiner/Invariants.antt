@@ -1,5 +1,5 @@
 use Rattle.std.proofs.Common.{◌≡◌, ◌++◌, map, take}
-use Rattle.hx_types.specs.declared.configs.Member.{Member}
+use Rattle.hx_model.specs.Types.{Member}
 use Rattle.hx_types.specs.declared.messages.Message.TheVariants as a_message
 use Rattle.hx_model.specs.CoordinatorSteps.{to_server}
 use Rattle.hx_coord.proofs.turns.install_joiner.Given as goal

@@ -1,9 +1,8 @@
-use Rattle.std.proofs.Common.{◌<◌, length, refl, sym, subst}
+use Rattle.std.proofs.Common.{◌<◌, length, refl, sym, subst, List}
 use Rattle.hx_types.specs.declared.limits.TheConstants.{MOST_ENTRIES}
 use Rattle.hx_clock.specs.declared.parts.Stamped.{Stamped}
 use Rattle.hx_machine.specs.Machines.{entry_in}
 use Rattle.hx_desk.specs.Told.{told_by}
-use Rattle.std.proofs.Common.{List}
 use Rattle.hx_desk.proofs.Same.{desk-kept, desk-told, ready-same, room-same, turn-after, turn-same}
 use Rattle.hx_desk.proofs.entering.settle.Goals as goal
 

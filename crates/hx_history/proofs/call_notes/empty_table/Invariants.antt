@@ -1,5 +1,5 @@
 use Rattle.std.proofs.Common.{◌≡◌, List, map, length, replicate, take}
-use Rattle.hx_types.specs.declared.calls.Op.{Op}
+use Rattle.hx_model.specs.Types.{Op}
 use Rattle.hx_history.specs.Calls.{no_notes}
 use Rattle.hx_history.proofs.call_notes.empty_table.Given as goal
 

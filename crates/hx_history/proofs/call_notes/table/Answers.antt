@@ -2,7 +2,7 @@ use Rattle.std.proofs.Common.{◌≡◌, ◌+◌, ◌<◌, Global, List, Vec, So
 use Rattle.std.proofs.lemmas.Option.{get_or_from_slice_get}
 use Rattle.std.specs.Option.{option_map}
 use Rattle.std.specs.Prelude.{slice_get}
-use Rattle.hx_types.specs.declared.traces.Entry.{Entry}
+use Rattle.hx_model.specs.Types.{Entry}
 use Rattle.hx_types.specs.Fitting.{call_of}
 use Rattle.hx_trace.specs.Entries.{entry_seen}
 use Rattle.hx_history.specs.declared.call_notes.CallNotes.{CallNotes}

@@ -1,6 +1,6 @@
 use Rattle.std.proofs.Common.{◌≡◌, filter, not, take}
 use Rattle.std.specs.Borrow.{Bor}
-use Rattle.hx_types.specs.declared.updates.Update.{Update}
+use Rattle.hx_model.specs.Types.{Update}
 use Rattle.hx_types.specs.Fitting.{is_refused}
 use Rattle.hx_history.proofs.lines.writes_of.Given as goal
 

@@ -1,5 +1,5 @@
 use Rattle.std.proofs.Common.{List, ◌++◌, None, map, reverse, take, ap, sym, ◌∙◌, ◌<◌, length, arith}
-use Rattle.hx_types.specs.declared.histories.Item.{Item}
+use Rattle.hx_model.specs.Types.{Item}
 use Rattle.hx_history.specs.declared.items.ItemRef.{ItemRef}
 use Rattle.hx_model.specs.Histories.{write_item}
 use Rattle.hx_history.specs.Events.{item_on, item_view, read_view, told, updates_at, version_in}

@@ -3,7 +3,7 @@ use Rattle.std.proofs.lemmas.List.Kept.{IsNonDecreasingBy-filter}
 use Rattle.std.specs.Borrow.{Bor}
 use Rattle.std.specs.List.{filter}
 use Rattle.std.specs.List.Sorted.{IsNonDecreasingBy}
-use Rattle.hx_types.specs.declared.updates.Update.{Update}
+use Rattle.hx_model.specs.Types.{Update}
 use Rattle.hx_types.specs.Fitting.{is_refused}
 use Rattle.hx_history.specs.Events.{version_at}
 use Rattle.hx_history.proofs.placing.history_from.Goals as goal

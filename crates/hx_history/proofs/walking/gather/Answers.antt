@@ -1,8 +1,7 @@
 use Rattle.std.proofs.Common.{◌≡◌, ◌+◌, ◌++◌, ◌<◌, Global, List, Vec, map, length, get_or, take, sym, ap, ◌∙◌, arith, append-nil, refl}
 use Rattle.std.specs.List.{flat_map}
 use Rattle.std.specs.Option.{option_map}
-use Rattle.hx_types.specs.declared.traces.Entry.{Entry}
-use Rattle.hx_types.specs.declared.traces.Note.{Note}
+use Rattle.hx_model.specs.Types.{Entry, Note}
 use Rattle.hx_types.specs.Fitting.{call_of}
 use Rattle.hx_trace.specs.Entries.{entry_seen}
 use Rattle.hx_history.specs.declared.call_notes.CallNotes.{CallNotes}

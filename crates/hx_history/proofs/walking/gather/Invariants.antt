@@ -1,7 +1,6 @@
 use Rattle.std.proofs.Common.{◌≡◌, [], false, map, reverse, take}
 use Rattle.std.specs.Option.{option_map}
-use Rattle.hx_types.specs.declared.calls.Caller.{Caller}
-use Rattle.hx_types.specs.declared.calls.Op.{Op}
+use Rattle.hx_model.specs.Types.{Caller, Op}
 use Rattle.hx_types.specs.Fitting.{call_of}
 use Rattle.hx_history.specs.Calls.{notes_of, shape, span_in}
 use Rattle.hx_history.specs.Events.{event_view, events_of}

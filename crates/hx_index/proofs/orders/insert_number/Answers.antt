@@ -1,6 +1,6 @@
 use Rattle.std.proofs.Common.{ℕ, Option, Some, sym, subst, ap, ◌∙◌, arith}
 use Rattle.std.specs.List.Sorted.{IsStrictlySortedBy}
-use Rattle.hx_types.specs.declared.calls.Row.{Row}
+use Rattle.hx_model.specs.Types.{Row}
 use Rattle.hx_index.specs.Invariant.{IsSplit, stands_before}
 use Rattle.hx_index.specs.Orders.{IsOrder, compare_at, rows_at, rows_with, without}
 use Rattle.hx_index.proofs.Inserting.{split-within}

@@ -1,6 +1,6 @@
 use Rattle.std.proofs.Common.{ℕ, Some, sym, subst, ◌<◌, length, ap, ◌∙◌, arith, is_some, Option}
 use Rattle.std.specs.List.Sorted.{IsStrictlySortedBy}
-use Rattle.hx_types.specs.declared.calls.Row.{Row}
+use Rattle.hx_model.specs.Types.{Row}
 use Rattle.hx_index.specs.Invariant.{IsSplit, stands_before}
 use Rattle.hx_index.specs.Orders.{IsOrder, compare_at, rows_at, rows_with, rows_without}
 use Rattle.hx_index.proofs.Inserting.{within-at}

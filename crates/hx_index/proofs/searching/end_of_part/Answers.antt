@@ -1,5 +1,5 @@
 use Rattle.std.proofs.Common.{◌≡◌, ◌+◌, ◌-◌, ◌/◌, Bool, ℕ, Option, slice_index_or, ap, sym, ◌∙◌, true, false, arith}
-use Rattle.hx_types.specs.declared.calls.Row.{Row}
+use Rattle.hx_model.specs.Types.{Row}
 use Rattle.hx_index.specs.Invariant.{is_part}
 use Rattle.hx_index.specs.Sides.{side_at}
 use Rattle.hx_index.proofs.Halving.{between-above, between-below, half-digits, raised-least, raised-most}

@@ -1,6 +1,6 @@
 -- One more term leaves the cells that it allows too.
 use Rattle.std.proofs.Common.{subst}
-use Rattle.hx_types.specs.declared.values.Term.{Term}
+use Rattle.hx_model.specs.Types.{Term}
 use Rattle.hx_model.specs.Regions.{allows}
 use Rattle.hx_region.specs.Ranges.{AreThose}
 use Rattle.hx_region.proofs.Meetings.{terms_more}

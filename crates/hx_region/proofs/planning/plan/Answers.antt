@@ -1,6 +1,6 @@
 -- The first subspace without a lost region is the plan's; where each has one there is none.
 use Rattle.std.proofs.Common.{ap, ◌∙◌}
-use Rattle.hx_types.specs.declared.ids.RegionId.{RegionId}
+use Rattle.hx_model.specs.Types.{RegionId}
 use Rattle.hx_types.specs.declared.outcomes.Planned.TheVariants as a_plan
 use Rattle.hx_model.specs.Planning.{lowest_lost}
 use Rattle.hx_region.proofs.Trying.{counts_made, plan_found, plan_lost}

@@ -1,5 +1,5 @@
 use Rattle.std.proofs.Common.{◌≡◌, [], map, take}
-use Rattle.hx_types.specs.declared.traces.Script.{Script}
+use Rattle.hx_model.specs.Types.{Script}
 use Rattle.hx_replay.proofs.answering.empty_traces.Given as goal
 
 abbrev pub invariant-loop-script : goal.invariant-loop-script

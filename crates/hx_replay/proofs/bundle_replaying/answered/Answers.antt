@@ -1,9 +1,7 @@
 -- The laws over every run, at the run of each space.
 use Rattle.std.proofs.Common.{◌∙◌, List, [], ap, length, map}
 use Rattle.std.proofs.lemmas.List.Elements.{recursion_from_All}
-use Rattle.hx_types.specs.declared.totals.Totals.{Totals}
-use Rattle.hx_types.specs.declared.traces.Entry.{Entry}
-use Rattle.hx_types.specs.declared.traces.Script.{Script}
+use Rattle.hx_model.specs.Types.{Entry, Script, Totals}
 use Rattle.hx_types.specs.Fitting.{IsScript}
 use Rattle.hx_replay.proofs.Coursing.{reported, traces_count}
 use Rattle.hx_replay.proofs.Lawful.{AreLaws, are_lawful}

@@ -1,5 +1,5 @@
 use Rattle.std.proofs.Common.{◌≡◌, ◌++◌, [], drop, map}
-use Rattle.hx_types.specs.declared.traces.Script.{Script}
+use Rattle.hx_model.specs.Types.{Script}
 use Rattle.hx_replay.proofs.bundle_replaying.no_totals.Given as goal
 
 abbrev pub invariant-loop-script : goal.invariant-loop-script

@@ -1,6 +1,6 @@
 -- Usage is told exactly where the words say no command; and what a worn actor's outcome tells.
 use Rattle.std.proofs.Common.{◌≡◌, ◌⊎◌, ℕ, List, Option, refl, subst, inl, inr, sym, ◌∙◌}
-use Rattle.hx_types.specs.declared.ids.Actor.{Actor}
+use Rattle.hx_model.specs.Types.{Actor}
 use Rattle.hx_replay.specs.Causes.{IsCause}
 use Rattle.hx_replay.specs.declared.outcomes.Outcome.{Outcome}
 use Rattle.hx_replay.specs.declared.outcomes.Outcome.TheVariants.{Fine, Usage, Refused, Worn, WriteFault}

@@ -1,6 +1,6 @@
 use Rattle.std.proofs.Common.{◌≡◌, ℕ, [], length, map, reverse}
 use Rattle.std.specs.List.{AllByRecursion}
-use Rattle.hx_types.specs.declared.traces.Step.{Step}
+use Rattle.hx_model.specs.Types.{Step}
 use Rattle.hx_world.specs.Worlds.{IsStepOf}
 use Rattle.hx_model.specs.Schedule.{stepped}
 use Rattle.hx_replay.specs.Steps.{stop_of}

@@ -1,5 +1,5 @@
 use Rattle.std.specs.Borrow.{Bor}
-use Rattle.hx_types.specs.declared.updates.Update.{Update}
+use Rattle.hx_model.specs.Types.{Update}
 use Rattle.hx_model.specs.ServerSteps.{passed_on}
 use Rattle.hx_replica.specs.Outputs.{tail_version, context_seen}
 use Rattle.hx_replica.proofs.Turns.{at_item}

@@ -1,9 +1,7 @@
 use Rattle.std.proofs.Common.{◌++◌, List, ap, append_assoc, refl, ◌∙◌}
 use Rattle.std.specs.Borrow.{Bor}
 use Rattle.std.specs.List.{flat_map}
-use Rattle.hx_types.specs.declared.messages.Post.{Post}
-use Rattle.hx_types.specs.declared.ids.Version.{Version}
-use Rattle.hx_types.specs.declared.updates.Update.{Update}
+use Rattle.hx_model.specs.Types.{Post, Update, Version}
 use Rattle.hx_model.specs.ServerSteps.{passed_on}
 use Rattle.hx_replica.specs.Outputs.{tail_version, settled_among, context_seen, told_of}
 use Rattle.hx_replica.proofs.Offers.{acceptance}

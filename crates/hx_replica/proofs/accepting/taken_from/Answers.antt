@@ -1,6 +1,6 @@
 use Rattle.std.proofs.Common.{◌∷◌, ◌-◌, ◌+◌, length, subst, sym, arith, List}
 use Rattle.std.specs.Borrow.{Bor}
-use Rattle.hx_types.specs.declared.updates.Update.{Update}
+use Rattle.hx_model.specs.Types.{Update}
 use Rattle.hx_model.specs.Slots.{taken, turns}
 use Rattle.hx_replica.proofs.Turns.{IsTaking, no_more, one_left, one_more}
 use Rattle.hx_replica.proofs.accepting.taken_from.Goals as goal

@@ -1,6 +1,6 @@
 use Rattle.std.proofs.Common.{◌≡◌, ◌++◌, ap, arith, length, sym, ◌∙◌}
 use Rattle.std.specs.List.{flat_map}
-use Rattle.hx_types.specs.declared.ids.RegionId.{RegionId}
+use Rattle.hx_model.specs.Types.{RegionId}
 use Rattle.hx_types.specs.Configs.{lists}
 use Rattle.hx_types.specs.Subspaces.{region_count}
 use Rattle.hx_replica.specs.Replicas.{views_of}

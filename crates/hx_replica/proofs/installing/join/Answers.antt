@@ -1,5 +1,5 @@
 use Rattle.std.proofs.Common.{◌++◌, ap, ◌∙◌}
-use Rattle.hx_types.specs.declared.ids.RegionId.{RegionId}
+use Rattle.hx_model.specs.Types.{RegionId}
 use Rattle.hx_law_folds.specs.Folding.{folded}
 use Rattle.hx_model.specs.Slots.{moved_all, settled}
 use Rattle.hx_store.specs.Stores.{acknowledging}

@@ -1,5 +1,5 @@
 use Rattle.std.proofs.Common.{◌≡◌, ◌+◌, List, Some, ap, drop, slice_get, subst, sym, ◌∙◌}
-use Rattle.hx_types.specs.declared.updates.Update.{Update}
+use Rattle.hx_model.specs.Types.{Update}
 use Rattle.hx_model.specs.ServerSteps.{offered_all}
 use Rattle.hx_model.specs.Slots.{moved_all}
 use Rattle.hx_replica.specs.Installing.{of_key}

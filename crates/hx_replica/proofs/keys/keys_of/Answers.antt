@@ -1,6 +1,6 @@
 use Rattle.std.proofs.Common.{List, ℕ, ap, sym, ◌∙◌}
 use Rattle.std.specs.Borrow.{Bor}
-use Rattle.hx_types.specs.declared.updates.Update.{Update}
+use Rattle.hx_model.specs.Types.{Update}
 use Rattle.hx_model.specs.ServerSteps.{with_key}
 use Rattle.hx_replica.specs.Installing.{texts}
 use Rattle.hx_replica.proofs.KeyOrder.{put_keys, put_none, put_one}

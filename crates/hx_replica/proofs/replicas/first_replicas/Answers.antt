@@ -1,5 +1,5 @@
 use Rattle.std.proofs.Common.{◌++◌, ◌∷◌, [], Global, Vec, true, ap, sym, ◌∙◌}
-use Rattle.hx_types.specs.declared.ids.RegionId.{RegionId}
+use Rattle.hx_model.specs.Types.{RegionId}
 use Rattle.hx_types.specs.Configs.{lists}
 use Rattle.hx_store.specs.Stores.{StoreState}
 use Rattle.hx_replica.specs.declared.replicas.Replica.{Replica}

@@ -1,5 +1,5 @@
 use Rattle.std.proofs.Common.{◌≡◌, map}
-use Rattle.hx_types.specs.declared.ids.RegionId.{RegionId}
+use Rattle.hx_model.specs.Types.{RegionId}
 use Rattle.hx_types.specs.Configs.{lists}
 use Rattle.hx_replica.specs.Replicas.{new_replica}
 use Rattle.hx_replica.proofs.Starting.{passing}

@@ -1,6 +1,6 @@
 use Rattle.std.proofs.Common.{◌++◌, ◌≤◌, List, ap, sym, ◌∙◌, length, subst, take}
 use Rattle.std.specs.List.{flat_map}
-use Rattle.hx_types.specs.declared.ids.Version.{Version}
+use Rattle.hx_model.specs.Types.{Version}
 use Rattle.hx_model.specs.Slots.{pending_of}
 use Rattle.hx_replica.specs.Outputs.{tail_version, ended_count, context_seen, told_of}
 use Rattle.hx_replica.proofs.Committing.{ended_within}

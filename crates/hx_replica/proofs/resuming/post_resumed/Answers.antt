@@ -1,8 +1,6 @@
-use Rattle.std.proofs.Common.{◌++◌, List, ap, sym, ◌∙◌, subst}
-use Rattle.std.proofs.Common.{drop}
+use Rattle.std.proofs.Common.{◌++◌, List, ap, sym, ◌∙◌, subst, drop}
 use Rattle.std.proofs.lemmas.Result.{on_ok_weaker}
-use Rattle.hx_types.specs.declared.ids.RegionId.{RegionId}
-use Rattle.hx_types.specs.declared.ids.Version.{Version}
+use Rattle.hx_model.specs.Types.{RegionId, Version}
 use Rattle.hx_law_folds.specs.Folding.{IsSlotOf}
 use Rattle.hx_model.specs.Slots.{pending_of}
 use Rattle.hx_replica.specs.Adopting.{doubts_among}

@@ -1,7 +1,6 @@
 use Rattle.std.proofs.Common.{◌==◌, ap, sym, ◌∙◌, arith}
 use Rattle.std.specs.List.{list_any}
-use Rattle.hx_types.specs.declared.ids.Version.{Version}
-use Rattle.hx_types.specs.declared.updates.Update.{Update}
+use Rattle.hx_model.specs.Types.{Update, Version}
 use Rattle.hx_model.specs.Slots.{pending_of}
 use Rattle.hx_replica.proofs.Committing.{all_ended, none_ended, one_ended}
 use Rattle.hx_replica.proofs.Walking.{none_within}

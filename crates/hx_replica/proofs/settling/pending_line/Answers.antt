@@ -2,7 +2,7 @@ use Rattle.std.proofs.Common.{◌≡◌, sym, subst, List, take, ◌+◌}
 use Rattle.std.specs.Borrow.{Bor}
 use Rattle.std.specs.List.{All}
 use Rattle.std.proofs.lemmas.List.Elements.{All-push}
-use Rattle.hx_types.specs.declared.updates.Update.{Update}
+use Rattle.hx_model.specs.Types.{Update}
 use Rattle.hx_model.specs.Slots.{pending_of}
 use Rattle.hx_replica.specs.Outputs.{IsHere, seen}
 use Rattle.hx_replica.proofs.Turns.{seen_next}

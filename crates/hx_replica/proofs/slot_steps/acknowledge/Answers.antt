@@ -1,6 +1,6 @@
 use Rattle.std.proofs.Common.{◌≤◌, ◌++◌, List, ℕ, ap, length, subst, sym, take, ◌∙◌}
 use Rattle.std.specs.List.{flat_map}
-use Rattle.hx_types.specs.declared.messages.Post.{Post}
+use Rattle.hx_model.specs.Types.{Post}
 use Rattle.hx_model.specs.Slots.{pending_of}
 use Rattle.hx_replica.specs.Outputs.{context_seen, told_of}
 use Rattle.hx_replica.proofs.Acked.{ack_told, ack_within}

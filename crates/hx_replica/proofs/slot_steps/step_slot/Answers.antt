@@ -1,5 +1,5 @@
 use Rattle.std.proofs.Common.{ap, ◌∙◌}
-use Rattle.hx_types.specs.declared.messages.Message.{Message}
+use Rattle.hx_model.specs.Types.{Message}
 use Rattle.hx_replica.specs.Outputs.{context_seen, notes_of, slot_step_of}
 use Rattle.hx_replica.proofs.Hearing.{quiet_ack, quiet_update}
 use Rattle.hx_replica.proofs.Planning.{always, nothing_more}

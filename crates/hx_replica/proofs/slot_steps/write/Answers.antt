@@ -1,6 +1,6 @@
 use Rattle.std.proofs.Common.{◌≡◌, ◌≤◌, ◌++◌, OnOk, List, sym, ◌∙◌, subst, ℕ}
 use Rattle.std.proofs.lemmas.Result.{IfOk-weaker}
-use Rattle.hx_types.specs.declared.outcomes.Decision.{Decision}
+use Rattle.hx_model.specs.Types.{Decision}
 use Rattle.hx_types.specs.declared.outcomes.Decision.TheVariants as a_decision
 use Rattle.hx_model.specs.Leading.{decide}
 use Rattle.hx_model.specs.ServerSteps.{decided}

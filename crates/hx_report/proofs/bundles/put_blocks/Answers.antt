@@ -1,5 +1,5 @@
 use Rattle.std.proofs.Common.{◌<◌, List, length, reverse, subst}
-use Rattle.hx_types.specs.declared.totals.Totals.{Totals}
+use Rattle.hx_model.specs.Types.{Totals}
 use Rattle.hx_report.specs.BundleReporting.{AddsBlock}
 use Rattle.hx_report.proofs.BlockTexts.{blocks_more}
 use Rattle.hx_report.proofs.bundles.put_blocks.Goals as goal

@@ -1,8 +1,7 @@
 use Rattle.std.proofs.Common.{◌++◌, ◌<◌, ℕ, Global, List, Vec, length, sym, ap, ◌∙◌, arith, append-nil}
 use Rattle.std.specs.List.{flat_map}
 use Rattle.std.specs.Option.{option_map}
-use Rattle.hx_types.specs.declared.traces.Entry.{Entry}
-use Rattle.hx_types.specs.declared.traces.Note.{Note}
+use Rattle.hx_model.specs.Types.{Entry, Note}
 use Rattle.hx_trace.specs.Entries.{entry_seen}
 use Rattle.hx_trace.proofs.Lemmas.{noted_at, unnoted_at}
 use Rattle.hx_report.specs.Reporting.{entry_lines, note_lines}

@@ -1,6 +1,6 @@
 use Rattle.std.proofs.Common.{◌-◌, ℕ, List, length}
 use Rattle.std.specs.List.{All}
-use Rattle.hx_types.specs.declared.spaces.Space.{Space}
+use Rattle.hx_model.specs.Types.{Space}
 use Rattle.hx_report.specs.PrintedRows.{IsLine}
 use Rattle.hx_report.proofs.printed_rows.take_lower.Given as goal
 

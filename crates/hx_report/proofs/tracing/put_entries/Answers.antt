@@ -1,7 +1,7 @@
 use Rattle.std.proofs.Common.{◌≡◌, ℕ, ◌+◌, ◌<◌, ◌++◌, Global, List, Some, Vec, drop, length, ap, sym, ◌∙◌, arith}
 use Rattle.std.specs.Option.{option_map}
 use Rattle.std.specs.Prelude.{slice_get}
-use Rattle.hx_types.specs.declared.traces.Entry.{Entry}
+use Rattle.hx_model.specs.Types.{Entry}
 use Rattle.hx_trace.specs.Entries.{entry_seen}
 use Rattle.hx_report.specs.Tracing.{entries_text, posts_text}
 use Rattle.hx_report.proofs.EntryLines.{entry_more, not_past}

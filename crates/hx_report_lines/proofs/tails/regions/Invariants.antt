@@ -1,5 +1,5 @@
 use Rattle.std.proofs.Common.{◌≡◌, map, take}
-use Rattle.hx_types.specs.declared.ids.RegionId.{RegionId}
+use Rattle.hx_model.specs.Types.{RegionId}
 use Rattle.hx_report_lines.proofs.tails.regions.Given as goal
 
 abbrev pub invariant-loop-number : goal.invariant-loop-number

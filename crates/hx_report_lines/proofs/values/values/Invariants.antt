@@ -1,5 +1,5 @@
 use Rattle.std.proofs.Common.{◌≡◌, map, take}
-use Rattle.hx_types.specs.declared.values.Assign.{Assign}
+use Rattle.hx_model.specs.Types.{Assign}
 use Rattle.hx_report_lines.proofs.values.values.Given as goal
 
 abbrev pub invariant-loop-set : goal.invariant-loop-set

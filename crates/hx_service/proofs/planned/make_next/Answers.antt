@@ -1,6 +1,6 @@
 -- The next call of the plan fits, finds room, and keeps to the plan.
 use Rattle.std.proofs.Common.{◌≡◌, ◌≤◌, ◌<◌, Ok, Err, Some, inr, length, refl, sym, ap, ◌∙◌, subst, arith}
-use Rattle.hx_types.specs.declared.traces.Script.{Script}
+use Rattle.hx_model.specs.Types.{Script}
 use Rattle.hx_types.specs.declared.limits.TheConstants.{MOST_CALLS}
 use Rattle.hx_types.specs.Fitting.{calls_of}
 use Rattle.hx_types.specs.Spaces.{Fits}

@@ -1,6 +1,6 @@
 -- One row after the other is put and counted.
 use Rattle.std.proofs.Common.{◌∙◌, ◌∷◌, ap, refl, sym}
-use Rattle.hx_types.specs.declared.calls.Row.{Row}
+use Rattle.hx_model.specs.Types.{Row}
 use Rattle.hx_service.proofs.Made.{on}
 use Rattle.hx_service.proofs.Puts.{at-first, further, room, row-here}
 use Rattle.hx_service.proofs.putting.put_rows.Goals as goal

@@ -2,7 +2,7 @@ use Rattle.std.proofs.Common.{rules, ◌≡◌, [], List, IfOk, ap, map, sym, su
 use Rattle.std.specs.Cmp.Lexicographic.{slice_cmp}
 use Rattle.std.specs.List.Sorted.{IsSortedByKey}
 use Rattle.std.specs.Ordering.{nat_cmp}
-use Rattle.hx_types.specs.declared.calls.Row.{Row}
+use Rattle.hx_model.specs.Types.{Row}
 use Rattle.hx_model.specs.SessionSteps.{rows_joined, with_part}
 use Rattle.hx_session.specs.Changes.{part_seen}
 use Rattle.hx_session.specs.Joined.{row_key}

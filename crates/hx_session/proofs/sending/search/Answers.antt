@@ -1,6 +1,6 @@
 use Rattle.std.proofs.Common.{ap, sym, ◌∙◌}
 use Rattle.std.proofs.lemmas.Result.{IfOk-weaker}
-use Rattle.hx_types.specs.declared.spaces.Space.{Space}
+use Rattle.hx_model.specs.Types.{Space}
 use Rattle.hx_model.specs.Planning.{plan_of}
 use Rattle.hx_session.proofs.Sent.{asked_makes}
 use Rattle.hx_session.proofs.sending.search.Goals as goal

@@ -1,6 +1,6 @@
 use Rattle.std.proofs.Common.{◌≡◌, ◌++◌, sym, subst}
 use Rattle.std.proofs.lemmas.Result.{IfOk-weaker, on_ok_weaker}
-use Rattle.hx_types.specs.declared.calls.Op.{Op}
+use Rattle.hx_model.specs.Types.{Op}
 use Rattle.hx_model.specs.SessionSteps.{send}
 use Rattle.hx_session.specs.Changes.{Makes, sender_seen}
 use Rattle.hx_session.proofs.sending.send.Goals as goal

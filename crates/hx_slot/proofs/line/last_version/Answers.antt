@@ -1,5 +1,5 @@
 use Rattle.std.proofs.Common.{◌∙◌, ap, sym}
-use Rattle.hx_types.specs.declared.updates.Update.{Update}
+use Rattle.hx_model.specs.Types.{Update}
 use Rattle.hx_slot.proofs.Rows.{last_version-last}
 use Rattle.hx_slot.proofs.line.last_version.Goals as goal
 

@@ -1,6 +1,6 @@
 -- The last update of those that are left decides, or leaves it to those before it.
 use Rattle.std.proofs.Common.{◌∙◌, ap, sym}
-use Rattle.hx_types.specs.declared.updates.Update.{Update}
+use Rattle.hx_model.specs.Types.{Update}
 use Rattle.hx_slot.proofs.Rows.{removed, is_set, is_left}
 use Rattle.hx_slot.proofs.line.row_over.Goals as goal
 

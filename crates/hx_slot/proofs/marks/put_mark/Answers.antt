@@ -1,5 +1,5 @@
 use Rattle.std.proofs.Common.{◌≡◌, ◌<◌, ◌∙◌, List, ap, arith, get_or, length, set, subst}
-use Rattle.hx_types.specs.declared.snapshots.Mark.{Mark}
+use Rattle.hx_model.specs.Types.{Mark}
 use Rattle.hx_slot.proofs.Carrying.{mark-over_at}
 use Rattle.hx_slot.proofs.marks.put_mark.Goals as goal
 

@@ -1,8 +1,7 @@
 -- The last update of those that are left has a place there, or leaves it to those before it.
 use Rattle.std.proofs.Common.{ℕ, Option, ◌∙◌, ap, sym}
 use Rattle.std.specs.Option.{unwrap_or}
-use Rattle.hx_types.specs.declared.ids.Version.{Version}
-use Rattle.hx_types.specs.declared.updates.Update.{Update}
+use Rattle.hx_model.specs.Types.{Update, Version}
 use Rattle.hx_model.specs.Places.{touched_in}
 use Rattle.hx_slot.proofs.Regions.{has-read, number-or_zero, touched-among, touched-earlier, touched-here, touched-none}
 use Rattle.hx_slot.proofs.touches.last_touch.Goals as goal

@@ -1,5 +1,5 @@
 use Rattle.std.proofs.Common.{List, subst, ◌∙◌}
-use Rattle.hx_types.specs.declared.snapshots.Touch.{Touch}
+use Rattle.hx_model.specs.Types.{Touch}
 use Rattle.hx_slot.specs.MarksAndTouches.{IsAt, IsGap}
 use Rattle.hx_slot.proofs.Regions.{with_touch-at, with_touch-gap}
 use Rattle.hx_slot.proofs.touches.note_touch.Goals as goal

@@ -1,6 +1,6 @@
 use Rattle.std.proofs.Common.{rules}
 use Rattle.std.proofs.lemmas.List.Sorted.{answers_always}
-use Rattle.hx_types.specs.declared.snapshots.Touch.{Touch}
+use Rattle.hx_model.specs.Types.{Touch}
 use Rattle.hx_slot.proofs.Regions.{searched_region}
 use Rattle.hx_slot.proofs.touches.search.Goals as goal
 

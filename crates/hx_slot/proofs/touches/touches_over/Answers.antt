@@ -1,5 +1,5 @@
 use Rattle.std.proofs.Common.{◌∙◌, ap, subst, sym}
-use Rattle.hx_types.specs.declared.updates.Update.{Update}
+use Rattle.hx_model.specs.Types.{Update}
 use Rattle.hx_model.specs.Slots.{with_touches}
 use Rattle.hx_slot.specs.MarksAndTouches.{AscendByRegion}
 use Rattle.hx_slot.proofs.Carrying.{touches_over-more}

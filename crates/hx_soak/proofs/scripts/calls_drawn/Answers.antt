@@ -1,6 +1,6 @@
 use Rattle.std.proofs.Common.{ap, sym, ◌∙◌, List, ◌∷◌, [], ◌++◌}
 use Rattle.std.proofs.lemmas.Bool.{eq-eqb, ne_eqb}
-use Rattle.hx_types.specs.declared.calls.Op.{Op}
+use Rattle.hx_model.specs.Types.{Op}
 use Rattle.hx_soak.specs.Calling.{call_drawn}
 use Rattle.hx_soak.specs.Drawing.{draw_of, mixed, next_state}
 use Rattle.hx_soak.specs.Soaking.{session_at}

@@ -1,5 +1,5 @@
 use Rattle.std.proofs.Common.{List, [], ◌∷◌, ◌++◌, map, ap, subst, sym, ◌∙◌}
-use Rattle.hx_types.specs.declared.traces.Entry.{Entry}
+use Rattle.hx_model.specs.Types.{Entry}
 use Rattle.std.specs.List.{All}
 use Rattle.hx_world.specs.Worlds.{WorldState}
 use Rattle.hx_spaces.specs.Clusters.{IsRunOfSpace}

@@ -1,5 +1,5 @@
 use Rattle.std.proofs.Common.{◌++◌, ◌∷◌, [], ap, sym, ◌∙◌}
-use Rattle.hx_types.specs.declared.updates.Update.{Update}
+use Rattle.hx_model.specs.Types.{Update}
 use Rattle.hx_model.specs.Slots.{pending_of}
 use Rattle.hx_store.proofs.Lists.{more_of}
 use Rattle.hx_store.proofs.copying.add_pending.Goals as goal

@@ -1,5 +1,5 @@
 use Rattle.std.proofs.Common.{Option, subst, sym, ◌∙◌}
-use Rattle.hx_types.specs.declared.calls.Row.{Row}
+use Rattle.hx_model.specs.Types.{Row}
 use Rattle.hx_store.specs.Indexed.{IsKeptAs}
 use Rattle.hx_store.proofs.Following.{at-item, forgotten, in-none, in-room, in-some, replaced}
 use Rattle.hx_store.proofs.indexed.follow.Goals as goal

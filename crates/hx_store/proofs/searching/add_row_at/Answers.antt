@@ -1,5 +1,5 @@
 use Rattle.std.proofs.Common.{◌++◌, Option, append-nil, ap, sym, ◌∙◌}
-use Rattle.hx_types.specs.declared.calls.Row.{Row}
+use Rattle.hx_model.specs.Types.{Row}
 use Rattle.hx_types.specs.Words.{list_of}
 use Rattle.hx_store.proofs.Following.{rows-past}
 use Rattle.hx_store.proofs.searching.add_row_at.Goals as goal

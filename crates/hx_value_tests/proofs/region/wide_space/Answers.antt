@@ -1,6 +1,5 @@
 -- Its parts make a valid space.
-use Rattle.std.proofs.Common.{ap}
-use Rattle.std.proofs.Common.{length}
+use Rattle.std.proofs.Common.{ap, length}
 use Rattle.hx_region.proofs.Lemmas.{wide_is}
 use Rattle.hx_value_tests.proofs.region.wide_space.Goals as goal
 

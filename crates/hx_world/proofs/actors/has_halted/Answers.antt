@@ -1,6 +1,6 @@
 use Rattle.std.proofs.Common.{◌≡◌, ◌∙◌, ap, subst, sym, true}
 use Rattle.std.specs.Prelude.{reverse}
-use Rattle.hx_types.specs.declared.ids.Actor.{Actor}
+use Rattle.hx_model.specs.Types.{Actor}
 use Rattle.hx_model.specs.Runs.{has_halted, is_actor}
 use Rattle.hx_world.proofs.Turning.{halted_here}
 use Rattle.hx_world.proofs.actors.has_halted.Goals as goal

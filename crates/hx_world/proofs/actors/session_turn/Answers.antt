@@ -1,6 +1,6 @@
 use Rattle.std.proofs.Common.{◌-◌, refl, rules}
 use Rattle.std.specs.Vec.{with_item}
-use Rattle.hx_types.specs.declared.traces.Input.TheVariants.{Tick}
+use Rattle.hx_model.specs.Types.{Tick}
 use Rattle.hx_world.specs.declared.actors.Actors.{Actors}
 use Rattle.hx_world.proofs.Turning.{attended, not_attended, session_in, session_low, session_number, unattended}
 use Rattle.hx_world.proofs.actors.session_turn.Goals as goal

@@ -2,7 +2,7 @@ use Rattle.std.proofs.Common.{◌≡◌, None, Option, Some, sym, ap, ◌∙◌,
 use Rattle.std.proofs.lemmas.Bool.{false≢true}
 use Rattle.std.specs.Option.{option_copied}
 use Rattle.std.specs.Prelude.{IsSome, reverse}
-use Rattle.hx_types.specs.declared.messages.Post.{Post}
+use Rattle.hx_model.specs.Types.{Post}
 use Rattle.hx_model.specs.Runs.{MayTake, post_named}
 use Rattle.hx_world.specs.Filing.{heard}
 use Rattle.hx_world.proofs.Heard.{heard_is}

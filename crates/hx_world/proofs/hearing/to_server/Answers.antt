@@ -1,8 +1,7 @@
 use Rattle.std.proofs.Common.{◌-◌, ◌∙◌, List, refl, rules, sym, subst}
 use Rattle.std.specs.Prelude.{reverse}
 use Rattle.std.specs.Vec.{with_item}
-use Rattle.hx_types.specs.declared.ids.Actor.TheVariants.{Server}
-use Rattle.hx_types.specs.declared.traces.Entry.{Entry}
+use Rattle.hx_model.specs.Types.{Entry, Server}
 use Rattle.hx_model.specs.Runs.{MayTake}
 use Rattle.hx_replica.specs.Servers as server
 use Rattle.hx_world.specs.declared.actors.Actors.{Actors}

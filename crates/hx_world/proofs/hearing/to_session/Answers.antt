@@ -1,8 +1,7 @@
 use Rattle.std.proofs.Common.{◌-◌, ◌∙◌, List, refl, rules, sym, subst}
 use Rattle.std.specs.Prelude.{reverse}
 use Rattle.std.specs.Vec.{with_item}
-use Rattle.hx_types.specs.declared.ids.Actor.TheVariants.{Session}
-use Rattle.hx_types.specs.declared.traces.Entry.{Entry}
+use Rattle.hx_model.specs.Types.{Entry, Session}
 use Rattle.hx_model.specs.Runs.{MayTake}
 use Rattle.hx_session.specs.Sessions as session
 use Rattle.hx_world.specs.declared.actors.Actors.{Actors}

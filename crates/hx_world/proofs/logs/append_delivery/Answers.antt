@@ -1,5 +1,5 @@
 use Rattle.std.proofs.Common.{List, ◌++◌, ap}
-use Rattle.hx_types.specs.declared.messages.PostId.{PostId}
+use Rattle.hx_model.specs.Types.{PostId}
 use Rattle.hx_world.specs.Filing.{heard_entry}
 use Rattle.hx_world.specs.Names.{names_but}
 use Rattle.hx_world.proofs.Heard.{without_heard}

@@ -1,5 +1,5 @@
 use Rattle.std.proofs.Common.{List, ◌++◌, ap}
-use Rattle.hx_types.specs.declared.messages.PostId.{PostId}
+use Rattle.hx_model.specs.Types.{PostId}
 use Rattle.hx_model.specs.Schedule.{without_delivered}
 use Rattle.hx_world.proofs.Numbering.{names_at_last}
 use Rattle.hx_world.proofs.logs.append_entry.Goals as goal

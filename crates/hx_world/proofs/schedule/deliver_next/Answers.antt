@@ -1,7 +1,6 @@
 use Rattle.std.proofs.Common.{Option, rules, List, refl, sym, ap, ◌∙◌, subst}
 use Rattle.std.specs.Prelude.{IsSome, reverse}
-use Rattle.hx_types.specs.declared.messages.Post.{Post}
-use Rattle.hx_types.specs.declared.traces.Entry.{Entry}
+use Rattle.hx_model.specs.Types.{Entry, Post}
 use Rattle.hx_model.specs.Runs.{MayTake}
 use Rattle.hx_world.specs.Filing.{heard}
 use Rattle.hx_world.proofs.Delivering.{made_next, refused_next}

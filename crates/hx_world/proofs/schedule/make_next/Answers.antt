@@ -1,7 +1,6 @@
 use Rattle.std.proofs.Common.{rules, List, subst, sym, ◌∙◌, false}
 use Rattle.std.specs.Prelude.{reverse}
-use Rattle.hx_types.specs.declared.ids.Actor.TheVariants.{Session}
-use Rattle.hx_types.specs.declared.traces.Entry.{Entry}
+use Rattle.hx_model.specs.Types.{Entry, Session}
 use Rattle.hx_types.specs.declared.traces.Step.TheVariants as a_step
 use Rattle.hx_world.specs.declared.sessions.CountedSession.{CountedSession}
 use Rattle.hx_world.specs.Idle.{IsFirstIdle, IsNoneIdle}

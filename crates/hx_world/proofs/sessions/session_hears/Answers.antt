@@ -1,6 +1,5 @@
 use Rattle.std.proofs.Common.{ap, refl, sym, ◌∙◌}
-use Rattle.hx_types.specs.declared.traces.Input.{Input}
-use Rattle.hx_types.specs.declared.traces.Input.TheVariants.{Deliver}
+use Rattle.hx_model.specs.Types.{Deliver, Input}
 use Rattle.hx_model.specs.SessionSteps.{session_step}
 use Rattle.hx_world.proofs.Heard.{heard_is}
 use Rattle.hx_world.proofs.sessions.session_hears.Goals as goal

@@ -1,5 +1,5 @@
 use Rattle.std.proofs.Common.{refl}
-use Rattle.hx_types.specs.declared.traces.Input.TheVariants.{Tick}
+use Rattle.hx_model.specs.Types.{Tick}
 use Rattle.hx_world.proofs.sessions.session_ticks.Goals as goal
 
 pub returns-clause-taken : goal.returns-clause-taken

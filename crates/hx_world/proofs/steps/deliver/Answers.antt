@@ -1,7 +1,7 @@
 use Rattle.std.proofs.Common.{◌≡◌, Some, rules, sym, ap, ◌∙◌, subst}
 use Rattle.std.specs.Option.{option_copied}
 use Rattle.std.specs.Prelude.{reverse}
-use Rattle.hx_types.specs.declared.traces.Input.{Input}
+use Rattle.hx_model.specs.Types.{Input}
 use Rattle.hx_model.specs.Runs.{post_named}
 use Rattle.hx_world.specs.Turns.{HasNoTurn, HasTurn}
 use Rattle.hx_world.proofs.Stepping.{delivered, may_take, not_delivered, unsent}

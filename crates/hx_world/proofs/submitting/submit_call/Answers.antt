@@ -1,5 +1,5 @@
 use Rattle.std.proofs.Common.{◌+◌, ◌∙◌, ap, length, List}
-use Rattle.hx_types.specs.declared.calls.Op.{Op}
+use Rattle.hx_model.specs.Types.{Op}
 use Rattle.hx_world.proofs.Submitted.{few_own, fits_session, session_calls, world_with_call}
 use Rattle.hx_world.proofs.submitting.submit_call.Goals as goal
 

@@ -1,7 +1,7 @@
 use Rattle.std.proofs.Common.{rules, ◌∙◌, sym, arith}
 use Rattle.std.proofs.lemmas.List.Sorted.{IsPartitionPoint-from_clause}
 use Rattle.std.proofs.lemmas.Option.{slice_get_within}
-use Rattle.hx_types.specs.declared.messages.PostId.{PostId}
+use Rattle.hx_model.specs.Types.{PostId}
 use Rattle.hx_world.specs.Names.{is_before}
 use Rattle.hx_world.proofs.Removing.{absent, for_some, lower_first, removed, stands_there}
 use Rattle.hx_world.proofs.waiting.take_by_halving.Goals as goal

@@ -1,7 +1,7 @@
 -- All calls of a script with one session are those of the session.
 use Rattle.std.proofs.Common.{◌≡◌, ◌∙◌, List, [], ◌∷◌, length, ap, arith, slice_get}
 use Rattle.std.specs.Prelude.{sum_by}
-use Rattle.hx_types.specs.declared.calls.Op.{Op}
+use Rattle.hx_model.specs.Types.{Op}
 use Rattle.hx_types.specs.Words.{when_some}
 use Rattle.hx_world_tests.proofs.world.only_calls.Goals as goal
 

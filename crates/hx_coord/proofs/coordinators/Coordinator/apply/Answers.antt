@@ -1,6 +1,6 @@
 use Rattle.std.proofs.Common.{◌≡◌, ap, sym, subst, ◌∙◌}
 use Rattle.std.specs.Prelude.{unwrap_or}
-use Rattle.hx_types.specs.declared.configs.Config.{Config}
+use Rattle.hx_model.specs.Types.{Config}
 use Rattle.hx_model.specs.CoordinatorSteps.{CoordinatorState, coordinator_step}
 use Rattle.hx_coord.specs.Changes.{standing}
 use Rattle.hx_coord.specs.Coordinators.{IsCoordinatorOf}

@@ -1,5 +1,5 @@
 use Rattle.std.proofs.Common.{◌≡◌, ap, sym, subst, ◌∙◌}
-use Rattle.hx_types.specs.declared.configs.Config.{Config}
+use Rattle.hx_model.specs.Types.{Config}
 use Rattle.hx_types.specs.Configs.{first_config}
 use Rattle.hx_model.specs.CoordinatorSteps.{coordinator_at_start}
 use Rattle.hx_coord.specs.declared.agendas.Agenda.{Agenda}

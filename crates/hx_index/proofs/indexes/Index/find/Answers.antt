@@ -1,6 +1,6 @@
 use Rattle.std.proofs.Common.{ℕ, List, Option, eqb, ap, sym, subst, ◌∙◌, slice_range}
 use Rattle.std.specs.List.{IsDistinct, filter}
-use Rattle.hx_types.specs.declared.calls.Row.{Row}
+use Rattle.hx_model.specs.Types.{Row}
 use Rattle.hx_index.specs.Orders.{order_of, stands_in}
 use Rattle.hx_index.specs.Sides.{matches_at}
 use Rattle.hx_index.proofs.Matched.{all-matching, each-once, if-ok}

@@ -1,6 +1,6 @@
 use Rattle.std.proofs.Common.{◌≡◌, ◌-◌, ◌+◌, List, true, get_or, ap, sym, subst, ◌∙◌, refl, ltb, drop}
 use Rattle.std.proofs.lemmas.Bool.{cond_both}
-use Rattle.hx_types.specs.declared.values.Term.{Term}
+use Rattle.hx_model.specs.Types.{Term}
 use Rattle.hx_index.specs.declared.searching.Span.{Span}
 use Rattle.hx_index.specs.Invariant.{IsSpan}
 use Rattle.hx_index.specs.Searches.{is_indexed, least_run}

@@ -1,6 +1,6 @@
 use Rattle.std.proofs.Common.{true, false, ℕ, List, Option, ap, sym, subst, ◌∙◌, arith}
 use Rattle.hx_types.specs.Spaces.{attribute_of}
-use Rattle.hx_types.specs.declared.calls.Row.{Row}
+use Rattle.hx_model.specs.Types.{Row}
 use Rattle.hx_index.specs.Invariant.{IsEnd, is_part}
 use Rattle.hx_index.specs.Looks.{digits_of}
 use Rattle.hx_index.specs.Orders.{IsOrder, order_of}

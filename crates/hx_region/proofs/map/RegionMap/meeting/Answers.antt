@@ -1,6 +1,6 @@
 -- The rows are those of the subspace's axes, numbered on from its first region.
 use Rattle.std.proofs.Common.{◌<◌, sym, ap, ◌∙◌, subst, arith}
-use Rattle.hx_types.specs.declared.spaces.Space.{Space}
+use Rattle.hx_model.specs.Types.{Space}
 use Rattle.hx_types.specs.Spaces.{IsSpace}
 use Rattle.hx_types.specs.Subspaces.{axes_of, first_region, size_of}
 use Rattle.hx_region.specs.Spans.{subspace_count}

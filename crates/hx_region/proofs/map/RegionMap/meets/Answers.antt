@@ -1,9 +1,7 @@
 -- The region's own subspace is the first whose span ends behind it.
 use Rattle.std.proofs.Common.{◌≡◌, ◌+◌, ◌-◌, ◌<◌, ◌≤◌, false, List, sym, ap, ◌∙◌, subst, arith}
 use Rattle.std.proofs.lemmas.List.{drop_all}
-use Rattle.hx_types.specs.declared.spaces.Axis.{Axis}
-use Rattle.hx_types.specs.declared.spaces.Space.{Space}
-use Rattle.hx_types.specs.declared.values.Term.{Term}
+use Rattle.hx_model.specs.Types.{Axis, Space, Term}
 use Rattle.hx_types.specs.Subspaces.{axes_of, first_region, size_of, subspaces_of}
 use Rattle.hx_model.specs.Regions.{meets, meets_among, row_meets}
 use Rattle.hx_region.specs.declared.map.SubspaceSpan.{SubspaceSpan}

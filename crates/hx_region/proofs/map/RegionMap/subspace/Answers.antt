@@ -1,6 +1,6 @@
 -- The table has an entry for each subspace.
 use Rattle.std.proofs.Common.{◌≡◌, ◌<◌, sym, ap, ◌∙◌, subst, arith}
-use Rattle.hx_types.specs.declared.spaces.Space.{Space}
+use Rattle.hx_model.specs.Types.{Space}
 use Rattle.hx_types.specs.Subspaces.{axes_of, first_region}
 use Rattle.hx_region.specs.declared.map.SubspaceSpan.{SubspaceSpan}
 use Rattle.hx_region.specs.Spans.{subspace_count}

@@ -1,6 +1,5 @@
 use Rattle.std.proofs.Common.{◌≡◌, ◌++◌, IfOk, OnOk, List, subst, sym}
-use Rattle.hx_types.specs.declared.snapshots.Kept.{Kept}
-use Rattle.hx_types.specs.declared.updates.Update.{Update}
+use Rattle.hx_model.specs.Types.{Kept, Update}
 use Rattle.hx_model.specs.ServerSteps.{replica_for, snapped}
 use Rattle.hx_replica.specs.Hearing.{own_step}
 use Rattle.hx_replica.specs.Installing.{IsSnapshot}

@@ -1,8 +1,6 @@
 use Rattle.std.proofs.Common.{◌≡◌, ◌++◌, ◌<◌, List, ap, arith, map, subst, sym, ◌∙◌}
 use Rattle.std.specs.List.{flat_map}
-use Rattle.hx_types.specs.declared.configs.Config.{Config}
-use Rattle.hx_types.specs.declared.ids.RegionId.{RegionId}
-use Rattle.hx_types.specs.declared.messages.Post.{Post}
+use Rattle.hx_model.specs.Types.{Config, Post, RegionId}
 use Rattle.hx_model.specs.ServerSteps.{Replica as ReplicaState, adopted_posts, install_at, listed_regions, replica_or_new}
 use Rattle.hx_law_folds.specs.Folding.{folded_server}
 use Rattle.hx_replica.specs.declared.prepared.Change.TheVariants as a_change

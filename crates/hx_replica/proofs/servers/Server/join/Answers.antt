@@ -1,6 +1,6 @@
 use Rattle.std.proofs.Common.{◌≡◌, ◌++◌, true, Some, ap, map, slice_get, subst, sym, ◌∙◌}
 use Rattle.std.specs.Option.{option_map}
-use Rattle.hx_types.specs.declared.configs.Config.{Config}
+use Rattle.hx_model.specs.Types.{Config}
 use Rattle.hx_law_folds.specs.Folding.{folded, folded_server}
 use Rattle.hx_model.specs.Hearing.{hears_snap}
 use Rattle.hx_model.specs.ServerSteps.{Replica as ReplicaState, ServerStep, installed_slots, ready_post, replica_for, snapped}

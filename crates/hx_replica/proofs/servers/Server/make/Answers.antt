@@ -1,5 +1,5 @@
 use Rattle.std.proofs.Common.{◌+◌, subst, sym}
-use Rattle.hx_types.specs.declared.spaces.Space.{Space}
+use Rattle.hx_model.specs.Types.{Space}
 use Rattle.hx_model.specs.ServerSteps.{ServerState, server_step}
 use Rattle.hx_replica.specs.Sound.{IsSoundServer}
 use Rattle.hx_replica.proofs.StayingSound.{stays_sound}

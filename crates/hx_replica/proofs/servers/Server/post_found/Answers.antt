@@ -1,8 +1,7 @@
 use Rattle.std.proofs.Common.{◌++◌, List, ap, append-nil, sym, ◌∙◌}
 use Rattle.std.proofs.lemmas.Result.{on_ok_weaker}
-use Rattle.hx_types.specs.declared.configs.Config.{Config}
+use Rattle.hx_model.specs.Types.{Config, Post}
 use Rattle.hx_types.specs.Configs.{lists_ready}
-use Rattle.hx_types.specs.declared.messages.Post.{Post}
 use Rattle.hx_replica.proofs.Searching.{not_ready, ready}
 use Rattle.hx_replica.proofs.servers.Server.post_found.Goals as goal
 

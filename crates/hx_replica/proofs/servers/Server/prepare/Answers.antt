@@ -1,6 +1,5 @@
 use Rattle.std.proofs.Common.{◌≡◌, ◌++◌, List, refl, ap, subst, sym, ◌∙◌}
-use Rattle.hx_types.specs.declared.messages.Post.{Post}
-use Rattle.hx_types.specs.declared.traces.Note.{Note}
+use Rattle.hx_model.specs.Types.{Note, Post}
 use Rattle.hx_model.specs.ServerSteps.{ServerState, ServerStep, server_step}
 use Rattle.hx_replica.specs.Plans.{IsChange, IsPlanOn}
 use Rattle.hx_replica.specs.Servers.{ServerValue, server_entry}

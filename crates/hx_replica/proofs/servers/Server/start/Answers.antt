@@ -1,5 +1,5 @@
 use Rattle.std.proofs.Common.{ap, length, map, sym, ◌∙◌}
-use Rattle.hx_types.specs.declared.configs.Config.{Config}
+use Rattle.hx_model.specs.Types.{Config}
 use Rattle.hx_types.specs.Subspaces.{region_count}
 use Rattle.hx_model.specs.ServerSteps.{listed_regions}
 use Rattle.hx_replica.specs.Replicas.{first_replica}

@@ -1,6 +1,6 @@
 use Rattle.std.proofs.Common.{◌≡◌, ◌++◌, Option, subst, sym, ◌∙◌}
 use Rattle.std.proofs.lemmas.Result.{IfOk-weaker, on_ok_weaker}
-use Rattle.hx_types.specs.declared.configs.Config.{Config}
+use Rattle.hx_model.specs.Types.{Config}
 use Rattle.hx_model.specs.ServerSteps.{SlotStep}
 use Rattle.hx_replica.specs.Outputs.{IsMaybeChangeOf, key_in, notes_of, posts_of, room_by, slot_step_of}
 use Rattle.hx_replica.specs.Replicas.{IsReplicaIn}

@@ -1,5 +1,5 @@
 use Rattle.std.proofs.Common.{◌≡◌, List, ap, subst, sym, ℕ}
-use Rattle.hx_types.specs.declared.messages.Message.{Message}
+use Rattle.hx_model.specs.Types.{Message}
 use Rattle.hx_model.specs.ServerSteps.{ServerStep}
 use Rattle.hx_replica.specs.Hearing.{own_step}
 use Rattle.hx_replica.specs.Outputs.{room_by}

@@ -1,6 +1,6 @@
 -- The plan is followed from the start.
 use Rattle.std.proofs.Common.{sym, ap, ◌∙◌, subst}
-use Rattle.hx_types.specs.declared.traces.Script.{Script}
+use Rattle.hx_model.specs.Types.{Script}
 use Rattle.hx_types.specs.Fitting.{IsScript}
 use Rattle.hx_world.specs.Worlds.{WorldState}
 use Rattle.hx_law_growing.specs.Growing.{GrowsTo}

@@ -1,9 +1,7 @@
 -- The search is answered or not; then its rows are of the space, and their puts are made.
 use Rattle.std.proofs.Common.{inl, inr, List, refl, sym, ap, ◌∙◌, subst}
 use Rattle.hx_types.specs.declared.calls.Answer.TheVariants as an_answer
-use Rattle.hx_types.specs.declared.calls.Op.TheVariants.{Search}
-use Rattle.hx_types.specs.declared.calls.Row.{Row}
-use Rattle.hx_types.specs.declared.values.Term.{Term}
+use Rattle.hx_model.specs.Types.{Row, Search, Term}
 use Rattle.hx_service.specs.declared.errors.ServiceError.TheVariants as an_error
 use Rattle.hx_service.specs.Groups.{FailsAt}
 use Rattle.hx_service.specs.Services.{IsAnswered}

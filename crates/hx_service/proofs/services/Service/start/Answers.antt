@@ -1,6 +1,6 @@
 -- Nothing is booked at the start.
 use Rattle.std.proofs.Common.{[], ap, ◌∙◌}
-use Rattle.hx_types.specs.declared.traces.Script.{Script}
+use Rattle.hx_model.specs.Types.{Script}
 use Rattle.hx_service.proofs.Empty.{at-start}
 use Rattle.hx_service.proofs.services.Service.start.Goals as goal
 

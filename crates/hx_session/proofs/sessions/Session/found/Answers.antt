@@ -1,6 +1,6 @@
 use Rattle.std.proofs.Common.{◌≡◌, ◌++◌, ap, sym, ◌∙◌, subst, append-nil}
 use Rattle.std.proofs.lemmas.Result.{IfOk-weaker, on_ok_weaker}
-use Rattle.hx_types.specs.declared.configs.Config.{Config}
+use Rattle.hx_model.specs.Types.{Config}
 use Rattle.hx_model.specs.SessionSteps.{SessionStep}
 use Rattle.hx_session.specs.Changes.{Makes}
 use Rattle.hx_session.proofs.Finding.{found_is, stays_makes, unfound_is}

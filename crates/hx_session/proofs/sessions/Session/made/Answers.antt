@@ -1,6 +1,6 @@
 use Rattle.std.proofs.Common.{sym, subst}
 use Rattle.std.proofs.lemmas.Result.{IfOk-weaker}
-use Rattle.hx_types.specs.declared.traces.Input.{Input}
+use Rattle.hx_model.specs.Types.{Input}
 use Rattle.hx_session.specs.Changes.{IsChangeOn}
 use Rattle.hx_session.proofs.sessions.Session.made.Goals as goal
 

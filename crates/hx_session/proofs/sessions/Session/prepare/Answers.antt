@@ -1,5 +1,5 @@
 use Rattle.std.proofs.Common.{◌++◌, ◌∙◌, List, ap, sym, subst}
-use Rattle.hx_types.specs.declared.messages.Post.{Post}
+use Rattle.hx_model.specs.Types.{Post}
 use Rattle.hx_model.specs.SessionSteps.{session_step}
 use Rattle.hx_session.specs.Invariant.{IsStateOf}
 use Rattle.hx_types.specs.Posted.{ArePostsOf, NameOnly, PostsUpTo}

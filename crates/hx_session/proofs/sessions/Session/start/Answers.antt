@@ -1,6 +1,6 @@
 use Rattle.std.proofs.Common.{sym, subst, ◌∙◌, map, List, arith}
 use Rattle.std.specs.List.{All}
-use Rattle.hx_types.specs.declared.spaces.Space.{Space}
+use Rattle.hx_model.specs.Types.{Space}
 use Rattle.hx_types.specs.Spaces.{Fits, IsAscending, IsConfigOf}
 use Rattle.hx_law_posts.proofs.Lemmas.{first-of_space}
 use Rattle.hx_session.specs.declared.parts.Part.{Part}

@@ -1,5 +1,5 @@
 use Rattle.std.proofs.Common.{subst}
-use Rattle.hx_types.specs.declared.traces.Input.TheVariants.{Tick}
+use Rattle.hx_model.specs.Types.{Tick}
 use Rattle.hx_session.specs.Invariant.{IsStateOf}
 use Rattle.hx_session.specs.Sessions.{SessionValue}
 use Rattle.hx_session.proofs.Posted.{posts_named, posts_of_space, posts_small}

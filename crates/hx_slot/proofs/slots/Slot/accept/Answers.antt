@@ -1,7 +1,7 @@
 -- The update follows the accepted ones, and no copy of it is held.
 use Rattle.std.proofs.Common.{◌-◌, ◌<◌, ◌∙◌, false, ap, arith, not, eqb, refl, subst, sym}
 use Rattle.std.specs.List.{AllByRecursion, filter}
-use Rattle.hx_types.specs.declared.updates.Update.{Update}
+use Rattle.hx_model.specs.Types.{Update}
 use Rattle.hx_model.specs.Slots.{Take, moved, top_of}
 use Rattle.hx_slot.specs.declared.updates.PlacedUpdate.{PlacedUpdate}
 use Rattle.hx_slot.specs.declared.updates.AcceptedUpdate.{AcceptedUpdate}

@@ -1,5 +1,5 @@
 use Rattle.std.proofs.Common.{◌≡◌, ◌+◌, ◌-◌, ◌∙◌, ap, arith, length, suc, sym}
-use Rattle.hx_types.specs.declared.ids.RegionId.{RegionId}
+use Rattle.hx_model.specs.Types.{RegionId}
 use Rattle.hx_model.specs.Slots.{moved_all, taken, top_of, turns}
 use Rattle.hx_slot.proofs.Turns.{turn-step}
 use Rattle.hx_slot.proofs.slots.Slot.accept_early.Goals as goal

@@ -1,7 +1,7 @@
 -- The early update that comes after the top is accepted.
 use Rattle.std.proofs.Common.{◌≡◌, ◌+◌, Some, None, [], ◌∷◌, Option, ◌∙◌, ap, arith, is_some, subst, sym}
 use Rattle.std.specs.List.{AllByRecursion, find, position}
-use Rattle.hx_types.specs.declared.updates.Update.{Update}
+use Rattle.hx_model.specs.Types.{Update}
 use Rattle.hx_types.specs.Words.{when_some}
 use Rattle.hx_model.specs.Slots.{Take, follows, moved, moved_all, top_of}
 use Rattle.hx_slot.specs.Updates.{IsHeld}

@@ -1,6 +1,6 @@
 use Rattle.std.proofs.Common.{List, Option, ◌∙◌, ap, slice_get, subst, sym}
 use Rattle.std.specs.Option.{IfSome, option_copied}
-use Rattle.hx_types.specs.declared.updates.Update.{Update}
+use Rattle.hx_model.specs.Types.{Update}
 use Rattle.hx_slot.specs.declared.updates.PlacedUpdate.{PlacedUpdate}
 use Rattle.hx_slot.specs.Invariant.{updates_of}
 use Rattle.hx_slot.specs.States.{HasFewPlaces, IsPlacedIn, SlotState}

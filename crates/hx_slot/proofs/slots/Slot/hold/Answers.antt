@@ -1,7 +1,7 @@
 -- The update is held last, and no other copy of it is held.
 use Rattle.std.proofs.Common.{◌-◌, ◌<◌, ◌++◌, ◌∷◌, [], ◌∙◌, List, ap, arith, not, eqb, subst, sym}
 use Rattle.std.specs.List.{AllByRecursion, filter}
-use Rattle.hx_types.specs.declared.updates.Update.{Update}
+use Rattle.hx_model.specs.Types.{Update}
 use Rattle.hx_model.specs.Slots.{Hold, moved}
 use Rattle.hx_slot.specs.declared.updates.PlacedUpdate.{PlacedUpdate}
 use Rattle.hx_slot.specs.Updates.{IsHeld}

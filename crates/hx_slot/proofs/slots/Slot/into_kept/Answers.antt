@@ -1,6 +1,6 @@
 -- What is folded into the base is the committed state.
 use Rattle.std.proofs.Common.{◌≡◌, Some, ◌∙◌, ap, arith, subst, sym}
-use Rattle.hx_types.specs.declared.snapshots.Kept.{Kept}
+use Rattle.hx_model.specs.Types.{Kept}
 use Rattle.hx_model.specs.Slots.{kept_of}
 use Rattle.hx_slot.specs.Invariant.{seen}
 use Rattle.hx_slot.specs.States.{IsOrderly, SlotState, committed_state}

@@ -1,7 +1,7 @@
 -- Each part of the committed state is made of the committed updates.
 use Rattle.std.proofs.Common.{◌≡◌, List, Some, ◌∙◌, ap, subst, sym, take}
 use Rattle.std.specs.Option.{option_copied}
-use Rattle.hx_types.specs.declared.snapshots.Kept.{Kept}
+use Rattle.hx_model.specs.Types.{Kept}
 use Rattle.hx_types.specs.Words.{provided}
 use Rattle.hx_model.specs.Slots.{kept_of}
 use Rattle.hx_slot.specs.declared.updates.AcceptedUpdate.{AcceptedUpdate}

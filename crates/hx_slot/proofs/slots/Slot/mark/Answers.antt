@@ -1,9 +1,7 @@
 -- The newer of the accepted updates' mark and the base's.
 use Rattle.std.proofs.Common.{ℕ, ◌≡◌, ◌≤◌, List, Option, None, ◌∙◌, ap, subst, sym}
 use Rattle.std.specs.Option.{IfSome, option_copied}
-use Rattle.hx_types.specs.declared.calls.Answer.{Answer}
-use Rattle.hx_types.specs.declared.ids.Version.{Version}
-use Rattle.hx_types.specs.declared.snapshots.Mark.{Mark}
+use Rattle.hx_model.specs.Types.{Answer, Mark, Version}
 use Rattle.hx_model.specs.Slots.{mark_among, mark_of, top_of}
 use Rattle.hx_slot.specs.declared.updates.AcceptedUpdate.{AcceptedUpdate}
 use Rattle.hx_slot.specs.States.{SlotState, call_at, call_seen}

@@ -3,8 +3,8 @@ use Rattle.std.proofs.Common.{◌≡◌, ◌+◌, List, ◌∙◌, ap, arith, le
 use Rattle.std.specs.List.{AllByRecursion}
 use Rattle.std.proofs.lemmas.Bool.{eq-eqb, ne_eqb}
 use Rattle.std.proofs.lemmas.List.{length-map}
+use Rattle.hx_model.specs.Types.{Update}
 use Rattle.hx_types.specs.declared.outcomes.Offer.TheVariants.{Accepted}
-use Rattle.hx_types.specs.declared.updates.Update.{Update}
 use Rattle.hx_model.specs.Slots.{Move, moved_all, taken, turns}
 use Rattle.hx_slot.specs.declared.updates.PlacedUpdate.{PlacedUpdate}
 use Rattle.hx_slot.specs.States.{IsLater, SlotState}

@@ -1,7 +1,7 @@
 -- What is pending stands after the committed updates.
 use Rattle.std.proofs.Common.{◌≡◌, ◌<◌, ◌≤◌, List, Option, ◌∙◌, ap, drop, map, slice_get, subst, sym}
 use Rattle.std.specs.Option.{IfSome, option_copied}
-use Rattle.hx_types.specs.declared.updates.Update.{Update}
+use Rattle.hx_model.specs.Types.{Update}
 use Rattle.hx_model.specs.Slots.{pending_of, top_of}
 use Rattle.hx_slot.specs.declared.updates.AcceptedUpdate.{AcceptedUpdate}
 use Rattle.hx_slot.specs.Invariant.{seen}

@@ -1,6 +1,6 @@
 use Rattle.std.proofs.Common.{◌≡◌, ◌≤◌, ℕ, ◌∙◌, ap, arith, subst, sym}
 use Rattle.std.specs.List.{All}
-use Rattle.hx_types.specs.declared.snapshots.Touch.{Touch}
+use Rattle.hx_model.specs.Types.{Touch}
 use Rattle.hx_model.specs.Slots.{top_of, touches_of}
 use Rattle.hx_slot.specs.Updates.{last_version}
 use Rattle.hx_slot.specs.Invariant.{seen}

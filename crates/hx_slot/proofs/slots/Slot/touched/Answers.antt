@@ -1,6 +1,6 @@
 -- The last touch of the accepted updates, or else that of the base.
 use Rattle.std.proofs.Common.{◌≡◌, ◌≤◌, List, ◌∙◌, ap, arith, subst, sym}
-use Rattle.hx_types.specs.declared.snapshots.Touch.{Touch}
+use Rattle.hx_model.specs.Types.{Touch}
 use Rattle.hx_model.specs.Places.{touched_in}
 use Rattle.hx_model.specs.Slots.{top_of, touches_of}
 use Rattle.hx_slot.specs.declared.updates.AcceptedUpdate.{AcceptedUpdate}

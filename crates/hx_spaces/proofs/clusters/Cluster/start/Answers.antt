@@ -1,5 +1,5 @@
 use Rattle.std.proofs.Common.{List, map, refl, subst, ◌≡◌}
-use Rattle.hx_types.specs.declared.traces.Script.{Script}
+use Rattle.hx_model.specs.Types.{Script}
 use Rattle.hx_spaces.specs.Courses.{newest, run_at_start}
 use Rattle.hx_spaces.specs.Keeping.{IsKept, course_of}
 use Rattle.hx_spaces.proofs.Openings.{start_kept}

@@ -1,5 +1,5 @@
 use Rattle.std.proofs.Common.{◌≡◌, ◌≤◌, ◌<◌, ◌+◌, ◌^◌, ◌++◌, ◌∷◌, [], Bool, List, None, Option, ap, arith, length, subst, sym, true, vec_capacity, ◌∙◌, ℕ}
-use Rattle.hx_types.specs.declared.calls.Row.{Row}
+use Rattle.hx_model.specs.Types.{Row}
 use Rattle.hx_store.specs.Indexed.{AreIndexed, IndexedState}
 use Rattle.hx_store.proofs.Following.{indexed-end, marked-most, roomy, wider}
 use Rattle.hx_store.proofs.indexed.Indexed.add_place.Goals as goal

@@ -1,6 +1,6 @@
 use Rattle.std.proofs.Common.{◌≡◌, ◌-◌, ◌++◌, ◌∷◌, [], List, Option, ap, arith, false, length, slice_get, subst, sym, take, vec_capacity, vec_len, ◌∙◌, ℕ}
 use Rattle.std.specs.List.{slice_set}
-use Rattle.hx_types.specs.declared.calls.Row.{Row}
+use Rattle.hx_model.specs.Types.{Row}
 use Rattle.hx_index.proofs.Lemmas.{set-length}
 use Rattle.hx_store.specs.Indexed.{AreIndexed, IndexedState, IsKept, IsKeptAs, marked_count}
 use Rattle.hx_store.proofs.Following.{at-item, but-set, last-split, last-within, less-marked, one-fresh, unmarked}

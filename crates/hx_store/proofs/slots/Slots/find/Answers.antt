@@ -1,5 +1,5 @@
 use Rattle.std.proofs.Common.{◌≡◌, ℕ, Option, ap, arith, is_some, subst, sym, ◌∙◌}
-use Rattle.hx_types.specs.declared.calls.Row.{Row}
+use Rattle.hx_model.specs.Types.{Row}
 use Rattle.hx_index.specs.Orders.{IndexState, IsIndexOf, count_of, rows_at, stands_in}
 use Rattle.hx_index.specs.Searches.{least_run, most_looks}
 use Rattle.hx_index.specs.Sides.{matches_at}

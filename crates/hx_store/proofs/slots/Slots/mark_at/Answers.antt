@@ -1,14 +1,11 @@
-use Rattle.std.proofs.Common.{ap, arith, refl}
+use Rattle.std.proofs.Common.{ap, arith, refl, ◌≡◌, true}
 use Rattle.std.specs.List.{slice_set}
-use Rattle.hx_model.specs.Slots.{object_of}
+use Rattle.hx_model.specs.Slots.{object_of, is_pending}
 use Rattle.hx_store.specs.Slots.{SlotsState}
 use Rattle.hx_store.specs.Stores.{marked_at}
 use Rattle.hx_store.proofs.Entries.{are-set, moved-seen, some-seen}
-use Rattle.hx_store.proofs.Following.{at-item}
-use Rattle.std.proofs.Common.{◌≡◌, true}
-use Rattle.hx_model.specs.Slots.{is_pending}
+use Rattle.hx_store.proofs.Following.{at-item, some-at, some-within}
 use Rattle.hx_slot.specs.States.{SlotState}
-use Rattle.hx_store.proofs.Following.{some-at, some-within}
 use Rattle.hx_store.proofs.slots.Slots.mark_at.Goals as goal
 
 pub index_mut-requires : goal.index_mut-requires

@@ -1,14 +1,11 @@
-use Rattle.std.proofs.Common.{ap, arith, refl}
+use Rattle.std.proofs.Common.{ap, arith, refl, ◌≤◌, Option, subst, sym}
 use Rattle.std.specs.List.{slice_set}
 use Rattle.hx_model.specs.Slots.{object_of}
-use Rattle.hx_store.specs.Slots.{SlotsState}
+use Rattle.hx_store.specs.Slots.{SlotsState, StoreSlot}
 use Rattle.hx_store.specs.Stores.{no_moves}
-use Rattle.hx_store.proofs.Entries.{are-set, moved-seen, within-slots}
+use Rattle.hx_store.proofs.Entries.{are-set, moved-seen, within-slots, stored-set-is}
 use Rattle.hx_store.proofs.Following.{at-item}
-use Rattle.std.proofs.Common.{◌≤◌, Option, subst, sym}
 use Rattle.std.specs.Option.{IsSomeAnd}
-use Rattle.hx_store.specs.Slots.{StoreSlot}
-use Rattle.hx_store.proofs.Entries.{stored-set-is}
 use Rattle.hx_store.proofs.Showing.{on_ok}
 use Rattle.hx_store.proofs.slots.Slots.reserve_at.Goals as goal
 

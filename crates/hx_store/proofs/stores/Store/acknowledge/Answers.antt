@@ -1,5 +1,5 @@
 use Rattle.std.proofs.Common.{List, [], ap, slice_get, subst, vec_capacity}
-use Rattle.hx_types.specs.declared.ids.RegionId.{RegionId}
+use Rattle.hx_model.specs.Types.{RegionId}
 use Rattle.hx_types.specs.Words.{when_some}
 use Rattle.hx_model.specs.Slots.{KeyState, acknowledged}
 use Rattle.hx_store.specs.Invariant.{order_of, rooms_in}

@@ -1,11 +1,10 @@
 use Rattle.std.proofs.Common.{◌≡◌, ◌<◌, List, ℕ, Some, ap, arith, get_or, length, slice_get, subst, sym, ◌∙◌, vec_capacity}
 use Rattle.std.proofs.lemmas.Option.{slice_get-get_or}
 use Rattle.hx_model.specs.Slots.{KeyState}
-use Rattle.hx_store.specs.Invariant.{order_of, states_in}
+use Rattle.hx_store.specs.Invariant.{order_of, states_in, state_in}
 use Rattle.hx_store.specs.Stores.{StoreState}
 use Rattle.hx_store.proofs.Lists.{length-of-map}
 use Rattle.hx_store.proofs.Showing.{count-is, nth-state, nth-within, slot-is, stored-some}
-use Rattle.hx_store.specs.Invariant.{state_in}
 use Rattle.hx_store.proofs.Ordering.{all-sorted, late-length, late-order}
 use Rattle.hx_store.proofs.stores.Store.place_at.Goals as goal
 

@@ -1,7 +1,7 @@
 use Rattle.std.proofs.Common.{◌≡◌, List, Some, ap, refl, slice_get, subst, sym, ◌∙◌}
 use Rattle.std.specs.List.{AllByRecursion}
 use Rattle.std.proofs.lemmas.Option.{slice_get-get_or}
-use Rattle.hx_types.specs.declared.snapshots.Kept.{Kept}
+use Rattle.hx_model.specs.Types.{Kept}
 use Rattle.hx_model.specs.ServerSteps.{state_from}
 use Rattle.hx_store.specs.Stores.{IsReady, StoreState, states_of}
 use Rattle.hx_store.proofs.Installing.{kept-ready, made-next, ready-kept, ready-push}

@@ -1,6 +1,6 @@
 use Rattle.std.proofs.Common.{◌≡◌, ◌-◌, Some, None, slice_get, ap, sym, ◌∙◌}
 use Rattle.std.specs.Option.{option_copied, option_map}
-use Rattle.hx_types.specs.declared.traces.Entry.{Entry}
+use Rattle.hx_model.specs.Types.{Entry}
 use Rattle.hx_trace.proofs.Naming.{post_at, post_in, unnumbered}
 use Rattle.hx_trace.proofs.traces.Trace.sent.Goals as goal
 

@@ -1,5 +1,5 @@
 use Rattle.std.proofs.Common.{subst, sym}
-use Rattle.hx_types.specs.declared.traces.Script.{Script}
+use Rattle.hx_model.specs.Types.{Script}
 use Rattle.hx_world.specs.Invariant.{IsWorldOn}
 use Rattle.hx_world.proofs.Beginning.{world_starts}
 use Rattle.hx_world.proofs.worlds.World.start.Goals as goal
