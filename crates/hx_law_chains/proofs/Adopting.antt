@@ -1,42 +1,44 @@
 -- A server adopts a known configuration: it forgets acknowledgements and early updates, sends snapshots, and goes on with what is pending.
-use Rattle.std.proofs.Common.{◌≡◌, ℕ, ◌<◌, inl, inr, Bool, true, false, List, [], ◌∷◌, ◌++◌, map, length, Option, Some, None, refl, sym, ap, ◌∙◌}
-use Rattle.std.proofs.Common.{subst, arith, leb}
+use Rattle.std.proofs.Common.{◌≡◌, ℕ, ◌<◌, ◌≤◌, inl, inr, Bool, true, false, not, ◌&&◌, List, [], ◌∷◌, ◌++◌, map, Option, None, Some, refl, sym, ap, ◌∙◌, subst}
+use Rattle.std.proofs.Common.{arith, leb}
 use Rattle.std.specs.List.{filter, flat_map}
+use Rattle.std.proofs.lemmas.Bool.{and_parts, leb-true}
 use Rattle.hx_model.specs.Types.{Config, Coordinator, Kept, Post, RegionId, Server, ServerId, Update}
 use Rattle.hx_types.specs.declared.messages.Message.TheVariants as a_message
 use Rattle.hx_types.specs.Words.{IsIn, post}
-use Rattle.hx_types.specs.Configs.{leads, lists_joining}
+use Rattle.hx_types.specs.Configs.{head_of, is_lost, is_server, leads, lists_joining}
 use Rattle.hx_types.specs.Spaces.{IsSpace}
 use Rattle.hx_types.specs.Subspaces.{is_key_region}
-use Rattle.hx_model.specs.Holders.{snap_state}
 use Rattle.hx_model.specs.Leading.{StuckAt, stuck_of}
-use Rattle.hx_model.specs.ServerSteps.{Replica, ServerState, SlotContext, adopted, adopted_replica, doubt_in, doubts_from, is_active}
-use Rattle.hx_model.specs.ServerSteps.{leader_doubts, move_posts, passed_on, replica_of, resumed, resumed_posts, state_in, with_config}
+use Rattle.hx_model.specs.ServerSteps.{Replica, ServerState, SlotContext, adopted, adopted_replica, doubt_in, doubts_from, is_active, leader_doubts, move_posts}
+use Rattle.hx_model.specs.ServerSteps.{passed_on, replica_of, resumed, resumed_posts, state_in, with_config}
 use Rattle.hx_model.specs.Slots.{Forget, KeyState, Move, moved, moved_all, pending_of, pending_of_all, snapshot_of}
-use Rattle.hx_law_lemmas.proofs.Lemmas.{Once, in-append, in-filter, in-flat_map, in-listed, in-map, in-provided, listed-in, listed-only, listed-there}
-use Rattle.hx_law_lemmas.proofs.Lemmas.{mapped-found, mapped-from, more_same, pending-in, state-there, which-server}
+use Rattle.hx_model.specs.Regions.{key_region}
+use Rattle.hx_model.specs.Causes.{pending_at}
+use Rattle.hx_law_lemmas.proofs.Lemmas.{Once, in-filter, in-flat_map, in-listed, in-map, in-provided, listed-in, listed-only, listed-there, mapped-found}
+use Rattle.hx_law_lemmas.proofs.Lemmas.{mapped-from, pending-in, state-there}
 use Rattle.hx_law_lemmas.specs.Words.{standing}
 use Rattle.hx_law_folds.specs.Folding.{IsJoinableServer}
 use Rattle.hx_law_epochs.specs.Epochs.{order}
 use Rattle.hx_law_epochs.proofs.Lemmas.{Installed}
 use Rattle.hx_law_chains.proofs.Ending.{resumed-own}
-use Rattle.hx_law_chains.proofs.Forgetting.{adopting, accepted-resumed, at, done, forgotten, forgotten-joins, forgotten-pending, forgotten-snapshot}
-use Rattle.hx_law_chains.proofs.Forgetting.{forgotten-state, found-done, from, kept-found, kept-joins, kept-listed, kept-once, kept-ones, kept-was, new}
-use Rattle.hx_law_chains.proofs.Forgetting.{now-at, poster, slot-moved, slot-resumed}
-use Rattle.hx_law_chains.proofs.Holders.{NoSnap, Up, live-of, now-listed, state-here, state-off, with_state_of}
-use Rattle.hx_law_chains.proofs.Joining.{Twin, key_joined, ordered_joined}
-use Rattle.hx_law_chains.proofs.Keys.{Moved, below-all, turn_promise}
-use Rattle.hx_law_chains.proofs.Late.{doubt-fine, moves-late, moves-nosnap, passed-late, passed-nosnap}
+use Rattle.hx_law_chains.proofs.Forgetting.{accepted-resumed, adopting, at, done, forgotten, forgotten-joins, forgotten-pending, forgotten-snapshot}
+use Rattle.hx_law_chains.proofs.Forgetting.{forgotten-state, found-done, from, kept-found, kept-joins, kept-listed, kept-once, kept-ones, kept-was, new, now-at}
+use Rattle.hx_law_chains.proofs.Forgetting.{poster, slot-moved, slot-resumed}
+use Rattle.hx_law_chains.proofs.Holders.{NoSnap, Up, state-here}
+use Rattle.hx_law_chains.proofs.Joining.{Twin}
+use Rattle.hx_law_chains.proofs.Keys.{Moved}
 use Rattle.hx_law_chains.proofs.Moves.{AllAllowed}
-use Rattle.hx_law_chains.proofs.Posts.{Seat}
-use Rattle.hx_law_chains.proofs.Renewed.{Renews, keys-renewed, ordered-renewed, renewed-here, renewed-scene, renewed-served}
-use Rattle.hx_law_chains.proofs.Saying.{MoveOk, law, moves-fine, passed-fine, promise-ok}
-use Rattle.hx_law_chains.proofs.Sending.{IsSnap, snap-is, twin-of}
-use Rattle.hx_law_chains.proofs.Serving.{Acts, Asked, KeyActs, Late, Scene, Sent, Served, change, kept, mid, mid-ok, mid-ordered, seat-turned, served-by, turn}
-use Rattle.hx_law_chains.proofs.Serving.{turned, turned-ok, turned-ordered, world}
+use Rattle.hx_law_chains.proofs.Posts.{Known, Seated}
+use Rattle.hx_law_chains.proofs.Renewed.{Forgets, renewed-scene, renewed-served, renewed-stays}
+use Rattle.hx_law_chains.proofs.Saying.{Fine, MoveOk, OfWrite, doubt-fine, key-in, known-in, law, moves-fine, passed-fine, resumed-nosnap}
+use Rattle.hx_law_chains.proofs.Sending.{Holds, sending-acts, sends, sent-twin, snap-is}
+use Rattle.hx_law_chains.proofs.Serving.{Acts, Asked, Scene, Sent, Served, Stage, fine-posted, installed-then, live-now, mid, ready-silent, seated-turned}
+use Rattle.hx_law_chains.proofs.Serving.{served-by, st, turned, turned-made, world}
+use Rattle.hx_law_chains.proofs.SlotPosts.{each-both, each-one, each-pending, each-under}
 use Rattle.hx_law_chains.proofs.Snapshots.{replica-ascends}
-use Rattle.hx_law_chains.proofs.Ticks.{known-in, ready-snap}
-use Rattle.hx_law_chains.proofs.World.{KeyOk, Ordered, Valid, World, around}
+use Rattle.hx_law_chains.proofs.Telling.{key-place-is, pending-found, stuck-tells}
+use Rattle.hx_law_chains.proofs.World.{KeyOk, Ordered, Stays, World, around}
 
 -- a server whose slots have forgotten goes on
 module _ (e : Scene) (asked : Asked) (valid : IsSpace e.script.space) (o : Ordered (world e)) (ok : (key : List ℕ) → KeyOk e.script (world e) key)
@@ -46,11 +48,15 @@ module _ (e : Scene) (asked : Asked) (valid : IsSpace e.script.space) (o : Order
   abbrev c : Config
   c = (e.servers i).config
 
-  -- its state before
-  abbrev was : ServerState
-  was = standing c i (map forgotten ks)
+  -- where it begins
+  abbrev stage : Stage
+  stage = record { scene = e; asked = asked; valid = valid; ordered = o; keys = ok; server = i; up = here; replicas = map forgotten ks; same = same }
 
-  -- and after
+  -- its slots can be sent
+  joins : IsJoinableServer e.script.space (st stage)
+  joins = forgotten-joins e.script.space ks joinable
+
+  -- its state after
   abbrev after : ServerState
   after = done e.script.space c i ks
 
@@ -63,15 +69,11 @@ module _ (e : Scene) (asked : Asked) (valid : IsSpace e.script.space) (o : Order
   posts = new e.script.space c i ks
 
   -- what was installed
-  abbrev installed-then : (g : RegionId) (r : Replica) → replica_of g ks ≡ Some r → r.installed ≡ true → Installed was g
-  installed-then g r found installed = record { replica = forgotten r; found = mapped-found forgotten (λ r. refl) g ks r found; installed = installed }
-
-  -- by the server's state
-  abbrev installed-there : (g : RegionId) (r : Replica) → replica_of g ks ≡ Some r → r.installed ≡ true → Installed (e.servers i) g
-  installed-there g r found installed = subst (λ (x : ServerState). Installed x g) (sym same) (installed-then g r found installed)
+  abbrev installed-was : (g : RegionId) (r : Replica) → replica_of g ks ≡ Some r → r.installed ≡ true → Installed (st stage) g
+  installed-was g r found installed = record { replica = forgotten r; found = mapped-found forgotten (λ r. refl) g ks r found; installed = installed }
 
   -- stays so
-  stays : (g : RegionId) → Installed was g → Installed after g
+  stays : (g : RegionId) → Installed (st stage) g → Installed after g
   stays g h =
       let f = mapped-from forgotten (λ r. refl) g ks h.replica h.found in
       record {
@@ -80,98 +82,63 @@ module _ (e : Scene) (asked : Asked) (valid : IsSpace e.script.space) (o : Order
         installed = ap (λ (x : Replica). x.installed) f.2 ∙ h.installed;
       }
 
-  -- the servers after
-  all-stay : (g : RegionId) (s : ServerId) → Installed (e.servers s) g → Installed (with_state_of e.servers i after s) g
-  all-stay g s h = elim (which-server s i) [
-    | inl z ↦ subst (λ (x : ServerId). Installed (with_state_of e.servers i after x) g) (sym z)
-        (subst (λ (x : ServerState). Installed x g) (sym (state-here e.servers i after))
-        (stays g (subst (λ (x : ServerState). Installed x g) same (subst (λ (x : ServerId). Installed (e.servers x) g) z h))))
-    | inr n ↦ subst (λ (x : ServerState). Installed x g) (sym (state-off e.servers i after s n)) h
-  ]
-
-  -- who hasn't halted after it hadn't before
-  was-up : (s : ServerId) → Up e.Real (with_state_of e.servers i after) s → Up e.Real e.servers s
-  was-up s u = elim (which-server s i) [
-    | inl z ↦ subst (Up e.Real e.servers) (sym z) here
-    | inr n ↦ (u.0, ap (λ (x : ServerState). x.halted) (sym (state-off e.servers i after s n)) ∙ u.1)
-  ]
+  -- doubts are told to the callers of what is pending
+  each-doubt : (P : Post → Type 0) (at : SlotContext) (t : KeyState) (o : Option StuckAt)
+      → ((x : StuckAt) → o ≡ Some x → (u : Update) → IsIn u (pending_of t) → x.version.0 ≤ u.version.0 → P (doubt_in at u.caller u.version x.region))
+      → (p : Post) → IsIn p (doubts_from at t o) → P p
+  each-doubt P at t None f p j = absurd j
+  each-doubt P at t (Some x) f p j =
+      let low = λ (u : Update). leb x.version.0 u.version.0 in
+      let m = in-map (λ (u : Update). doubt_in at u.caller u.version x.region) (filter low (pending_of t)) p j in
+      let k = in-filter low (pending_of t) m.0 m.1 in
+      subst P (sym m.2) (f x refl m.0 k.0 (leb-true x.version.0 m.0.version.0 k.1))
 
   -- what goes on is no snapshot
-  resumed-nosnap : (h : RegionId) (t : KeyState) (p : Post) → IsIn p (resumed_posts (place h) t) → NoSnap p.message
-  resumed-nosnap h t p j =
-      let sent = flat_map (passed_on (place h)) (pending_of t) in
-      let moved_on = flat_map (move_posts (place h)) (resumed (place h) t) in
+  goes-nosnap : (h : RegionId) (t : KeyState) (p : Post) → IsIn p (resumed_posts (place h) t) → NoSnap p.message
+  goes-nosnap h t =
       let t2 = moved_all (resumed (place h) t) t in
-      elim (in-append (sent ++ moved_on) (leader_doubts (place h) t2) p j) [
-        | inl m ↦ elim (in-append sent moved_on p m) [
-          | inl n ↦ (let d = in-flat_map (passed_on (place h)) (pending_of t) p n in passed-nosnap (place h) d.0 p d.2)
-          | inr n ↦ moves-nosnap (place h) (resumed (place h) t) p n
-        ]
-        | inr m ↦ by t2 (stuck_of c t2) (in-provided (leads e.script.space c i h) (doubts_from (place h) t2 (stuck_of c t2)) p m).1
-      ]
-    where
-      by : (t2 : KeyState) (o : Option StuckAt) → IsIn p (doubts_from (place h) t2 o) → NoSnap p.message
-      by t2 None n = absurd n
-      by t2 (Some x) n =
-          let doubt = λ (u : Update). doubt_in (place h) u.caller u.version x.region in
-          let m = in-map doubt (filter (λ (u : Update). leb x.version.0 u.version.0) (pending_of t2)) p n in
-          subst (λ (y : Post). NoSnap y.message) (sym m.2) tt
+      each-both (λ p. NoSnap p.message) (flat_map (passed_on (place h)) (pending_of t) ++ flat_map (move_posts (place h)) (resumed (place h) t))
+      (leader_doubts (place h) t2) (resumed-nosnap (place h) (pending_of t) (resumed (place h) t))
+      (each-under (λ p. NoSnap p.message) (leads e.script.space c i h) (doubts_from (place h) t2 (stuck_of c t2))
+      (each-doubt (λ p. NoSnap p.message) (place h) t2 (stuck_of c t2) (λ x z u n l. tt)))
 
   -- each snapshot is a twin
-  twins : (key : List ℕ) (g : RegionId) (s : ServerId) (t : KeyState) → Sent e valid o ok i here after [] posts key g s t → Twin e.script (world e) key g s t
+  twins : (key : List ℕ) (g : RegionId) (s : ServerId) (t : KeyState) → Sent stage after [] posts key g s t → Twin e.script (world e) key g s t
   twins key g s t w =
       let a = poster e.script.space c i ks once _ w.posted in
       elim a.posted [
-        | inl j ↦ of a.replica a.found a.installed (snap-is (now-at e.script.space c i ks) a.replica _ j)
+        | inl j ↦ (let r = a.replica in let k = snap-is (now-at e.script.space c i ks) r _ j in
+            sent-twin stage joins after posts stays key g s t w (forgotten r) (mapped-found forgotten (λ r. refl) r.region ks r a.found) a.installed (record {
+              to = k.to;
+              joiner = k.joiner;
+              is = k.is
+                  ∙ ap (λ (l : List Kept). post (Server i) (Server k.to) (a_message.Snap c.epoch r.region l (pending_of_all r.states)))
+                  (sym (forgotten-snapshot r.region r.states))
+                  ∙ ap (λ (l : List Update). post (Server i) (Server k.to)
+                  (a_message.Snap c.epoch r.region (snapshot_of r.region (map (moved Forget) r.states)) l)) (sym (forgotten-pending r.states));
+            }))
         | inr (inl j) ↦ (let b = in-flat_map (resumed_posts (place a.replica.region)) a.replica.states _ j in
-            absurd (resumed-nosnap a.replica.region b.0 _ b.2))
-        | inr (inr j) ↦ absurd (ready-snap (now-at e.script.space c i ks) a.replica.region w.from s w.epoch g w.snapshot w.pending j)
+            absurd (goes-nosnap a.replica.region b.0 _ b.2))
+        | inr (inr j) ↦ absurd (ready-silent (now-at e.script.space c i ks) a.replica.region _ j)
       ]
-    where
-      of : (r : Replica) → replica_of r.region ks ≡ Some r → r.installed ≡ true
-          → IsSnap c i r (post w.from (Server s) (a_message.Snap w.epoch g w.snapshot w.pending)) → Twin e.script (world e) key g s t
-      of r found installed k =
-          let m = ap (λ (p : Post). p.message) k.is in
-          let to = ap (λ (p : Post). p.to) k.is in
-          let x : g ≡ r.region = cc in
-          let y : w.snapshot ≡ snapshot_of r.region r.states = cc in
-          let z : w.pending ≡ pending_of_all r.states = cc in
-          let v : s ≡ k.to = cc in
-          let forgets = map (moved Forget) r.states in
-          let snapshot_is = y ∙ sym (forgotten-snapshot r.region r.states) in
-          let pending_is = z ∙ sym (forgotten-pending r.states) in
-          subst (Twin e.script (world e) key g s)
-          (sym (w.is
-          ∙ ap (λ (l : List Kept). snap_state e.script.space g key l w.pending) snapshot_is
-          ∙ ap (λ (l : List Update). snap_state e.script.space g key (snapshot_of r.region forgets) l) pending_is))
-          (
-          subst (λ (h : RegionId). (Installed (e.servers s) h → ⊥)
-          → Twin e.script (world e) key h s (snap_state e.script.space h key (snapshot_of r.region forgets) (pending_of_all forgets))) (sym x)
-          (λ empty. twin-of e o i here was same (forgotten-joins e.script.space ks joinable) key r.region s (installed-then r.region r found installed)
-          (k.joiner ∙ ap Some (sym v)) empty (was-up s w.up))
-          (λ h. w.empty (all-stay g s h))
-          )
 
-  -- where all stand once they are sent
+  -- the holders once they are sent
+  abbrev holds : List ℕ → RegionId → ServerId → KeyState → Type 0
+  holds = Holds stage joins after posts stays twins
+
+  -- where all stand then
   abbrev sent-now : World
-  sent-now = mid e valid o ok i here after [] posts
+  sent-now = mid stage after [] posts holds
 
   -- what holds there
-  sent-ordered : Ordered sent-now
-  sent-ordered = ordered_joined e.script valid (world e) o (Sent e valid o ok i here after [] posts) twins [] (ok [])
-
-  sent-ok : (key : List ℕ) → KeyOk e.script sent-now key
-  sent-ok key = key_joined e.script valid (world e) o (Sent e valid o ok i here after [] posts) twins key (ok key)
+  abbrev sent-stays : Stays e.script (world e) sent-now
+  sent-stays = sends stage joins after posts stays twins
 
   -- the slot is held
-  pub forgotten-held : (key : List ℕ) (g : RegionId) (r : Replica) → replica_of g ks ≡ Some r → r.installed ≡ true
-      → (world e).holds key g i (moved Forget (state_in e.script.space r key))
-  forgotten-held key g r found installed =
-      let there = installed-there g r found installed in
-      subst (λ (t : KeyState). (world e).holds key g i t) (forgotten-state e.script.space r key)
-      (inl (live-of e.script.space e.servers e.config key g i was same refl
-      (now-listed e.script e.Real e.servers e.config e.line e.posts e.known o g i here there)
-      (installed-then g r found installed)))
+  forgotten-held : (key : List ℕ) (g : RegionId) (r : Replica) → replica_of g ks ≡ Some r → r.installed ≡ true
+      → holds key g i (moved Forget (state_in e.script.space r key))
+  forgotten-held key g r found installed = subst (holds key g i) (forgotten-state e.script.space r key)
+      (inl (live-now stage key g (installed-was g r found installed)))
 
   -- and the moves may be made
   may : (key : List ℕ) (g : RegionId) (r : Replica) → replica_of g ks ≡ Some r → r.installed ≡ true → (active : Bool)
@@ -179,8 +146,9 @@ module _ (e : Scene) (asked : Asked) (valid : IsSpace e.script.space) (o : Order
       (adopting (place g) active (moved Forget (state_in e.script.space r key)))
   may key g r found installed false = (tt, tt)
   may key g r found installed true =
-      resumed-own e.script valid sent-now sent-ordered key (sent-ok key) g i here (installed-there g r found installed)
-      (moved Forget (state_in e.script.space r key)) (inl (forgotten-held key g r found installed))
+      resumed-own e.script valid sent-now sent-stays.ordered key (sent-stays.keys key) g i here
+      (o.home g i (installed-then stage g (installed-was g r found installed)))
+      (moved Forget (state_in e.script.space r key)) (forgotten-held key g r found installed)
 
   -- how a slot of the server comes to be
   comes : (key : List ℕ) (g : RegionId) (r : Replica) → replica_of g ks ≡ Some r → r.installed ≡ true → r.region ≡ g
@@ -189,56 +157,38 @@ module _ (e : Scene) (asked : Asked) (valid : IsSpace e.script.space) (o : Order
       let t = moved Forget (state_in e.script.space r key) in
       record {
         old = t;
-        held = inl (forgotten-held key g r found installed);
+        held = forgotten-held key g r found installed;
         moves = adopting (place g) (is_active c r) t;
         is = slot-moved e.script.space c i ks key r ∙ ap (λ (x : RegionId). moved_all (adopting (place x) (is_active c r) t) t) q;
         allowed = may key g r found installed (is_active c r);
       }
 
-  -- how each key is kept
-  keyed : (key : List ℕ) → KeyActs e valid o ok i here after [] posts key
-  keyed key = record {
-    number = length (e.line key);
-    more = more_same (e.line key);
-    lawful = (ok key).lawful;
-    below = below-all e.script sent-now key (sent-ok key);
-    mine = λ g there. (let f = from e.script.space c i ks g there in
-        subst (λ (r : Replica). Moved e.script sent-now key (e.line key) g i (state_in e.script.space r key)) f.is
-        (comes key g f.replica f.found f.installed f.region));
-  }
-
   -- how the server acts
-  acts : Acts e valid o ok i here after [] posts
-  acts = record {
-    running = refl;
-    config = refl;
-    grows = λ g h. stays g (subst (λ (x : ServerState). Installed x g) same h);
-    home = λ g there. (let f = from e.script.space c i ks g there in o.home g i (installed-there g f.replica f.found f.installed));
-    twins = twins;
-    keyed = keyed;
-  }
+  abbrev acts : Acts stage after [] posts holds
+  acts = sending-acts stage joins after posts stays twins refl refl
+      (λ g there. let f = from e.script.space c i ks g there in o.home g i (installed-then stage g (installed-was g f.replica f.found f.installed)))
+      (λ key g there. let f = from e.script.space c i ks g there in
+      subst (λ (r : Replica). Moved e.script sent-now key (e.line key) g i (state_in e.script.space r key)) f.is
+      (comes key g f.replica f.found f.installed f.region))
 
   -- where all stand after
   abbrev now : World
-  now = turned e valid o ok i here after [] posts acts
+  now = turned stage after [] posts holds acts
 
-  -- what holds there
-  now-ordered : Ordered now
-  now-ordered = turned-ordered e valid o ok i here after [] posts acts
-
-  now-ok : (key : List ℕ) → KeyOk e.script now key
-  now-ok = turned-ok e valid o ok i here after [] posts acts
-
-  -- a post is true, and answers no get, whichever states the servers had
-  abbrev Fine : Post → Type 0
-  Fine p = Valid e.script now p.from p.to p.message × ((N : ServerId → ServerState) → Late (record e { servers = N }) asked i p.to p.message)
+  -- a post is true
+  abbrev Good : Post → Type 0
+  Good = Fine e.script now i after
 
   -- what a replica posts is true
   module _ (r : Replica) (j : IsIn r ks) (found : replica_of r.region ks ≡ Some r) (installed : r.installed ≡ true) (active : is_active c r ≡ true)
       (t : KeyState) (there : IsIn t r.states) where
     -- the slot of its key
-    pub slot-is : state_in e.script.space r t.base.key ≡ t
+    slot-is : state_in e.script.space r t.base.key ≡ t
     slot-is = state-there (is_key_region e.script.space r.region) r.states t (replica-ascends e.script.space (now-at e.script.space c i ks) joinable r j) there
+
+    -- the slot after
+    abbrev t2 : KeyState
+    t2 = moved_all (resumed (place r.region) t) t
 
     -- the replica after
     abbrev at-done : Installed after r.region
@@ -249,150 +199,135 @@ module _ (e : Scene) (asked : Asked) (valid : IsSpace e.script.space) (o : Order
     }
 
     -- and the seat
-    abbrev seat : Seat e.script now r.region i
-    seat = seat-turned e valid o ok i here after [] posts acts r.region at-done
+    abbrev seated : Seated
+    seated = seated-turned stage after [] posts holds acts r.region at-done
 
     -- its slot
-    slot-now : seat.slot t.base.key ≡ moved_all (resumed (place r.region) t) t
+    slot-now : seated.seat.slot t.base.key ≡ t2
     slot-now = slot-resumed e.script.space c i ks t.base.key r active ∙ ap (λ (x : KeyState). moved_all (resumed (place r.region) x) x) slot-is
 
-    -- what is accepted stays so
-    accepted-now : (u : Update) → IsIn u t.accepted → IsIn u (seat.slot t.base.key).accepted
-    accepted-now u k =
-        subst (λ (l : List Update). IsIn u l) (sym (ap (λ (x : KeyState). x.accepted) slot-now ∙ accepted-resumed (place r.region) t)) k
+    -- what it has accepted is of the key
+    of-key : (u : Update) → IsIn u t2.accepted → u.key ≡ t.base.key
+    of-key u k = key-in seated t.base.key u
+        (subst (λ (x : KeyState). IsIn u x.accepted) (sym slot-now) k)
+
+    -- and known
+    knows : (u : Update) → IsIn u t2.accepted → Known seated u
+    knows u k = known-in seated t.base.key u
+        (subst (λ (x : KeyState). IsIn u x.accepted) (sym slot-now) k)
 
     -- what is pending goes to the next
-    passed : (p : Post) → IsIn p (flat_map (passed_on (place r.region)) (pending_of t)) → Fine p
-    passed p n =
-        let b = in-flat_map (passed_on (place r.region)) (pending_of t) p n in
-        let u = pending-in t.floor t.accepted b.0 b.1 in
-        let k = known-in e valid now now-ordered now-ok r.region i seat t.base.key b.0 (accepted-now b.0 u.0) in (
-          passed-fine e.script valid now now-ordered now-ok r.region i seat b.0 k p b.2,
-          λ N. (passed-late (record e { servers = N }) asked i now valid now-ordered now-ok r.region seat b.0 p b.2).0,
-        )
+    passed : (p : Post) → IsIn p (flat_map (passed_on (place r.region)) (pending_of t)) → Good p
+    passed = each-pending (place r.region) Good (pending_of t)
+        (λ u n. passed-fine seated after u
+        (knows u (subst (λ (l : List Update). IsIn u l) (sym (accepted-resumed (place r.region) t)) (pending-in t.floor t.accepted u n).0)))
 
     -- a move that is made
-    made : (m : Move) → IsIn m (resumed (place r.region) t) → MoveOk e.script valid now now-ordered now-ok r.region i seat m
-    made m k =
-        let key = t.base.key in
-        promise-ok e.script valid now now-ordered now-ok r.region i seat key m
-        (
-        turn_promise e.script sent-now (mid-ordered e valid o ok i here after [] posts acts) (change e valid o ok i here after [] posts acts)
-        (kept e valid o ok i here after [] posts acts) key (acts.keyed key).number (mid-ok e valid o ok i here after [] posts acts key)
-        (turn e valid o ok i here after [] posts acts key) r.region i (seat.slot key)
-        (record {
-          old = moved Forget t;
-          held = inl (subst (λ (x : KeyState). (world e).holds key r.region i (moved Forget x)) slot-is (forgotten-held key r.region r found installed));
-          moves = resumed (place r.region) t;
-          is = slot-now;
-          allowed = subst (λ (x : KeyState). AllAllowed (e.line key) r.region (around e.script sent-now key r.region i) (moved Forget x)
-              (resumed (place r.region) (moved Forget x))) slot-is (may key r.region r found installed true);
-        }) m k
-        )
+    made : (m : Move) → IsIn m (resumed (place r.region) t) → MoveOk seated m
+    made = turned-made stage after [] posts holds acts r.region at-done t.base.key (record {
+      old = moved Forget t;
+      held = subst (λ (x : KeyState). holds t.base.key r.region i (moved Forget x)) slot-is (forgotten-held t.base.key r.region r found installed);
+      moves = resumed (place r.region) t;
+      is = slot-now;
+      allowed = subst (λ (x : KeyState). AllAllowed (e.line t.base.key) r.region (around e.script sent-now t.base.key r.region i) (moved Forget x)
+          (resumed (place r.region) (moved Forget x))) slot-is (may t.base.key r.region r found installed true);
+    })
 
-    -- a doubt is told to the caller of an update that is pending
-    doubts : (x : Option StuckAt) (p : Post) → IsIn p (doubts_from (place r.region) (moved_all (resumed (place r.region) t) t) x) → Fine p
-    doubts None p n = absurd n
-    doubts (Some x) p n =
-        let t2 = moved_all (resumed (place r.region) t) t in
-        let doubt = λ (u : Update). doubt_in (place r.region) u.caller u.version x.region in
-        let low = λ (u : Update). leb x.version.0 u.version.0 in
-        let m = in-map doubt (filter low (pending_of t2)) p n in
-        let f = in-filter low (pending_of t2) m.0 m.1 in
-        let u = pending-in t2.floor t2.accepted m.0 f.0 in
-        let k = known-in e valid now now-ordered now-ok r.region i seat t.base.key m.0 (subst (λ (y : KeyState). IsIn m.0 y.accepted) (sym slot-now) u.0) in
-        let l = law e.script valid now now-ordered now-ok r.region i seat m.0 k in (
-          (doubt-fine e asked i now r.region m.0.caller l.1.op l.1.called l.1.writes m.0.version x.region p m.2).0,
-          λ N. (doubt-fine (record e { servers = N }) asked i now r.region m.0.caller l.1.op l.1.called l.1.writes m.0.version x.region p m.2).1.0,
-        )
+    -- what is pending of the key after the step
+    after-pending : r.region ≡ key_region e.script.space t.base.key → pending_at e.script.space after t.base.key ≡ pending_of t2
+    after-pending g =
+        let goes = at-done.replica in
+        let f = subst (λ (x : RegionId). replica_of x after.replicas ≡ Some goes) g at-done.found in
+        pending-found e.script.space after t.base.key goes f ∙ ap pending_of slot-now
+
+    -- a doubt is told by the leader, to the caller of an update that is pending
+    doubts : leads e.script.space c i r.region ≡ true → (p : Post) → IsIn p (doubts_from (place r.region) t2 (stuck_of c t2)) → Good p
+    doubts l = each-doubt Good (place r.region) t2 (stuck_of c t2) (λ x z u n low.
+        let k = knows u (pending-in t2.floor t2.accepted u n).0 in
+        let w = law seated u k in
+        let b = and_parts (is_key_region e.script.space r.region && not (is_lost c r.region)) (is_server i (head_of c r.region)) l in
+        let h = and_parts (is_key_region e.script.space r.region) (not (is_lost c r.region)) b.0 in
+        let g = key-place-is e.script.space u.key w.0 u w.1.made r.region k.placed h.0 in
+        let same_key = of-key u (pending-in t2.floor t2.accepted u n).0 in
+        doubt-fine e.script now r.region i after u.caller w.1.op w.1.called w.1.writes u.version x.region
+        (stuck-tells e.script i (place r.region) after t.base.key t2 x refl
+        (subst (λ (y : List ℕ). leads e.script.space c i (key_region e.script.space y) ≡ true) same_key (ap (leads e.script.space c i) (sym g) ∙ l))
+        (after-pending (g ∙ ap (key_region e.script.space) same_key)) z
+        u.caller w.1.op w.1.called (w.1.on_key ∙ ap Some same_key) u.version (inr low)))
 
     -- all that goes on
-    goes-on : (p : Post) → IsIn p (resumed_posts (place r.region) t) → Fine p
-    goes-on p k =
+    goes-on : (p : Post) → IsIn p (resumed_posts (place r.region) t) → Good p
+    goes-on =
         let sent = flat_map (passed_on (place r.region)) (pending_of t) in
-        let moves = resumed (place r.region) t in
-        let t2 = moved_all moves t in
-        elim (in-append (sent ++ flat_map (move_posts (place r.region)) moves) (leader_doubts (place r.region) t2) p k) [
-          | inl m ↦ elim (in-append sent (flat_map (move_posts (place r.region)) moves) p m) [
-            | inl n ↦ passed p n
-            | inr n ↦ (
-              moves-fine e.script valid now now-ordered now-ok r.region i seat moves made p n,
-              λ N. (moves-late (record e { servers = N }) asked i now valid now-ordered now-ok r.region seat moves made p n).0,
-            )
-          ]
-          | inr m ↦ doubts (stuck_of c t2) p (in-provided (leads e.script.space c i r.region) (doubts_from (place r.region) t2 (stuck_of c t2)) p m).1
-        ]
+        let moves = flat_map (move_posts (place r.region)) (resumed (place r.region) t) in
+        each-both Good (sent ++ moves) (leader_doubts (place r.region) t2)
+        (each-both Good sent moves passed (moves-fine seated after (resumed (place r.region) t) made))
+        (λ p m. let d = in-provided (leads e.script.space c i r.region) (doubts_from (place r.region) t2 (stuck_of c t2)) p m in doubts d.0 p d.1)
 
   -- what says that a replica is ready
   abbrev ready : RegionId → Post
   ready g = post (Server i) Coordinator (a_message.Ready c.epoch g)
 
   -- what is posted is true
-  posts-fine : (p : Post) → IsIn p posts → Fine p
+  posts-fine : (p : Post) → IsIn p posts → Good p
   posts-fine p j =
       let a = poster e.script.space c i ks once p j in
       elim a.posted [
-        | inl k ↦ subst Fine (sym (snap-is (now-at e.script.space c i ks) a.replica p k).is) (tt, λ N. tt)
+        | inl k ↦ subst Good (sym (snap-is (now-at e.script.space c i ks) a.replica p k).is) (record { valid = tt; writes = tt; says = tt })
         | inr (inl k) ↦ (let b = in-flat_map (resumed_posts (place a.replica.region)) a.replica.states p k in
             goes-on a.replica a.there a.found a.installed a.active b.0 b.1 p b.2)
-        | inr (inr k) ↦ elim (in-provided (lists_joining c a.replica.region i) (ready a.replica.region ∷ []) p k).1 [
-          | inl q ↦ subst Fine (sym q) (tt, λ N. tt)
-          | inr m ↦ absurd m
-        ]
+        | inr (inr k) ↦ each-under Good (lists_joining c a.replica.region i) (ready a.replica.region ∷ [])
+            (each-one Good (ready a.replica.region) (record { valid = tt; writes = tt; says = tt })) p k
       ]
 
-  -- what it posts answers no get
-  pub resumed-late : (N : ServerId → ServerState) (p : Post) → IsIn p posts → Late (record e { servers = N }) asked i p.to p.message
-  resumed-late N p j = (posts-fine p j).1 N
+  -- what it posts is about writes
+  pub resumed-writes : (p : Post) → IsIn p posts → OfWrite e.script p.to p.message
+  resumed-writes p j = (posts-fine p j).writes
 
   -- the step
   pub resumed-served : Served e asked i after [] posts
-  resumed-served = served-by e valid o ok i here after [] posts acts asked (λ p j. ((posts-fine p j).0, (posts-fine p j).1 e.servers)) (λ key. inl refl)
+  resumed-served = served-by stage after [] posts holds acts (λ p j. fine-posted e asked i after now p (posts-fine p j)) (λ key. inl refl)
 
 -- a configuration of a higher epoch is adopted
-module _ (e : Scene) (o : Ordered (world e)) (ok : (key : List ℕ) → KeyOk e.script (world e) key)
-    (i : ServerId) (here : Up e.Real e.servers i) (rs : List Replica) (same : e.servers i ≡ standing (e.servers i).config i rs)
-    (joinable : IsJoinableServer e.script.space (standing (e.servers i).config i rs)) (config : Config) (known : e.known config)
-    (higher : (e.servers i).config.epoch.0 < config.epoch.0) where
+module _ (stage : Stage) (joinable : IsJoinableServer stage.scene.script.space (st stage)) (config : Config) (known : stage.scene.known config)
+    (higher : (st stage).config.epoch.0 < config.epoch.0) where
+  open stage use {scene as e, asked, valid, ordered as o, keys as ok, server as i, up as here, replicas as rs}
+
   -- the replicas that it has then
   abbrev ks : List Replica
   ks = kept-ones config i rs
 
   -- the server once it has forgotten
-  abbrev pub forgets : ServerState
+  abbrev forgets : ServerState
   forgets = standing config i (map forgotten ks)
 
   -- the configuration lists it wherever it is installed
-  still-listed : (g : RegionId) → Installed (e.servers i) g → IsIn i (order config g)
+  still-listed : (g : RegionId) → Installed (st stage) g → IsIn i (order config g)
   still-listed g h =
       (o.grown (e.servers i).config config (o.own i) known (omega (arith, higher))).stays g i
-      ((o.grown config e.config known o.newest (o.last config known)).servers i (o.up i here)) (o.home g i h)
+      ((o.grown config e.config known o.newest (o.last config known)).servers i (o.up i here)) (o.home g i (installed-then stage g h))
 
   -- what was installed stays so
-  forgets-grows : (g : RegionId) → Installed (e.servers i) g → Installed forgets g
-  forgets-grows g h =
-      let b = subst (λ (x : ServerState). Installed x g) same h in
-      record {
-        replica = forgotten b.replica;
-        found = mapped-found forgotten (λ r. refl) g ks b.replica
-            (kept-found config i rs g b.replica b.found (listed-there config g i (in-listed config g i (still-listed g h))));
-        installed = b.installed;
-      }
+  forgets-grows : (g : RegionId) → Installed (st stage) g → Installed forgets g
+  forgets-grows g b = record {
+    replica = forgotten b.replica;
+    found = mapped-found forgotten (λ r. refl) g ks b.replica
+        (kept-found config i rs g b.replica b.found (listed-there config g i (in-listed config g i (still-listed g b))));
+    installed = b.installed;
+  }
 
   -- nothing else is
   forgets-was : (g : RegionId) (h : Installed forgets g)
-      → (b : Installed (e.servers i) g) × ((key : List ℕ) → state_in e.script.space h.replica key ≡ moved Forget (state_in e.script.space b.replica key))
+      → (b : Installed (st stage) g) × ((key : List ℕ) → state_in e.script.space h.replica key ≡ moved Forget (state_in e.script.space b.replica key))
   forgets-was g h =
       let f = mapped-from forgotten (λ r. refl) g ks h.replica h.found in
-      let installed = ap (λ (x : Replica). x.installed) f.2 ∙ h.installed in
-      subst (λ (x : ServerState). (b : Installed x g)
-      × ((key : List ℕ) → state_in e.script.space h.replica key ≡ moved Forget (state_in e.script.space b.replica key))) (sym same) (
+      let installed = ap (λ (x : Replica). x.installed) f.2 ∙ h.installed in (
         record { replica = f.0; found = kept-was config i rs g f.0 f.1 installed; installed = installed },
         λ key. ap (λ (r : Replica). state_in e.script.space r key) (sym f.2) ∙ forgotten-state e.script.space f.0 key,
       )
 
   -- the state before it goes on
-  pub forgets-renews : Renews e i forgets
+  forgets-renews : Forgets stage forgets
   forgets-renews = record {
     known = known;
     later = omega (arith, higher);
@@ -403,50 +338,31 @@ module _ (e : Scene) (o : Ordered (world e)) (ok : (key : List ℕ) → KeyOk e.
   }
 
   -- the scene then
-  abbrev pub scene1 : Scene
+  abbrev scene1 : Scene
   scene1 = renewed-scene e i forgets
 
-  -- the configuration there
-  pub config1 : (scene1.servers i).config ≡ config
-  config1 = ap (λ (x : ServerState). x.config) (renewed-here e o ok i here forgets forgets-renews)
-
   -- what holds there
-  pub ordered1 : Ordered (world scene1)
-  ordered1 = ordered-renewed e o ok i here forgets forgets-renews
+  abbrev stays1 : Stays e.script (world e) (world scene1)
+  stays1 = renewed-stays stage forgets forgets-renews
 
-  pub keys1 : (key : List ℕ) → KeyOk e.script (world scene1) key
-  keys1 = keys-renewed e o ok i here forgets forgets-renews
+  -- the server there
+  here1 : scene1.servers i ≡ forgets
+  here1 = state-here e.servers i forgets
 
-  -- the server hasn't halted
-  pub here1 : Up e.Real scene1.servers i
-  here1 = (here.0, ap (λ (x : ServerState). x.halted) (renewed-here e o ok i here forgets forgets-renews))
+  -- its configuration
+  config1 : (scene1.servers i).config ≡ config
+  config1 = ap (λ (x : ServerState). x.config) here1
 
-  -- its state by its parts
-  pub same1 : scene1.servers i ≡ standing (scene1.servers i).config i (map forgotten ks)
-  same1 = renewed-here e o ok i here forgets forgets-renews ∙ ap (λ (x : Config). standing x i (map forgotten ks)) (sym config1)
-
-  -- its slots can be sent
-  pub joins1 : IsJoinableServer e.script.space (standing (scene1.servers i).config i ks)
-  joins1 = kept-joins config i rs e.script.space joinable
-
--- the step
-pub adopted-served : (e : Scene) (asked : Asked) (valid : IsSpace e.script.space) (o : Ordered (world e)) (ok : (key : List ℕ) → KeyOk e.script (world e) key)
-    (i : ServerId) (here : Up e.Real e.servers i) (rs : List Replica) (same : e.servers i ≡ standing (e.servers i).config i rs)
-    → IsJoinableServer e.script.space (standing (e.servers i).config i rs) → (config : Config) → e.known config → (e.servers i).config.epoch.0 < config.epoch.0
-    → let step = adopted e.script.space (with_config (standing (e.servers i).config i rs) config) in Served e asked i step.state step.notes step.posts
-adopted-served e asked valid o ok i here rs same joinable config known higher =
-    let ks = kept-ones config i rs in
-    let renewed = scene1 e o ok i here rs same joinable config known higher in
-    let ordered = ordered1 e o ok i here rs same joinable config known higher in
-    let keys = keys1 e o ok i here rs same joinable config known higher in
-    let up = here1 e o ok i here rs same joinable config known higher in
-    let parts = same1 e o ok i here rs same joinable config known higher in
-    let joins = joins1 e o ok i here rs same joinable config known higher in
-    let both = subst (λ (x : Config). ((p : Post) → IsIn p (new e.script.space x i ks) → Late e asked i p.to p.message)
-    × Served renewed asked i (done e.script.space x i ks) [] (new e.script.space x i ks)) (config1 e o ok i here rs same joinable config known higher) (
-      resumed-late renewed asked valid ordered keys i up ks parts (kept-once config i rs) joins e.servers,
-      resumed-served renewed asked valid ordered keys i up ks parts (kept-once config i rs) joins,
-    ) in
-    renewed-served e o ok i here (forgets e o ok i here rs same joinable config known higher)
-    (forgets-renews e o ok i here rs same joinable config known higher) asked (done e.script.space config i ks) [] (new e.script.space config i ks)
-    (λ key. refl) both.0 both.1
+  -- the step
+  pub adopted-served : let step = adopted e.script.space (with_config (st stage) config) in Served e asked i step.state step.notes step.posts
+  adopted-served =
+      let up : Up e.Real scene1.servers i = (here.0, ap (λ (x : ServerState). x.halted) here1) in
+      let parts : scene1.servers i ≡ standing (scene1.servers i).config i (map forgotten ks) =
+      here1 ∙ ap (λ (x : Config). standing x i (map forgotten ks)) (sym config1) in
+      let joins : IsJoinableServer e.script.space (standing (scene1.servers i).config i ks) = kept-joins config i rs e.script.space joinable in
+      let both = subst (λ (x : Config). ((p : Post) → IsIn p (new e.script.space x i ks) → OfWrite e.script p.to p.message)
+      × Served scene1 asked i (done e.script.space x i ks) [] (new e.script.space x i ks)) config1 (
+        resumed-writes scene1 asked valid stays1.ordered stays1.keys i up ks parts (kept-once config i rs) joins,
+        resumed-served scene1 asked valid stays1.ordered stays1.keys i up ks parts (kept-once config i rs) joins,
+      ) in
+      renewed-served stage forgets forgets-renews (done e.script.space config i ks) (new e.script.space config i ks) both.0 both.1

@@ -1,19 +1,19 @@
 -- A leader assigns the next update: the line is cut after its top, nothing that is held, may be heard or was acknowledged is above that, and what its slot makes of the update is allowed.
-use Rattle.hx_model.specs.Lines.{upto}
 use Rattle.std.proofs.Common.{◌≡◌, ℕ, ◌+◌, inl, inr, true, List, ◌∷◌, Some, refl, ap, arith}
 use Rattle.hx_model.specs.Types.{Script, ServerId, Update}
 use Rattle.hx_types.specs.Configs.{head_of}
 use Rattle.hx_types.specs.Spaces.{IsSpace}
+use Rattle.hx_model.specs.Lines.{upto}
 use Rattle.hx_model.specs.Regions.{key_region}
 use Rattle.hx_model.specs.Slots.{KeyState, follows, has_place, offered, top_of}
 use Rattle.hx_model.specs.ServerSteps.{accepting}
 use Rattle.hx_law_lemmas.proofs.Lemmas.{More, more_cut, passes-key, places-apart}
 use Rattle.hx_law_epochs.proofs.Lemmas.{leader-first}
-use Rattle.hx_law_chains.proofs.Keys.{Below, below-lead, following, low-in, still-head}
+use Rattle.hx_law_chains.proofs.Ending.{ends-line}
+use Rattle.hx_law_chains.proofs.Keys.{Below, below-lead, lined, still-head}
 use Rattle.hx_law_chains.proofs.Moves.{AllAllowed, Own, accepting-allowed, kept_same, offered-allowed, own_rely}
 use Rattle.hx_law_chains.proofs.Places.{key-first}
-use Rattle.hx_law_chains.proofs.Ending.{ends-line}
-use Rattle.hx_law_chains.proofs.World.{Before, KeyOk, Law, Lawful, Ordered, World, around, context, lawful-made, lawful-numbered, lawful-sorted, lawful-upto}
+use Rattle.hx_law_chains.proofs.World.{Before, KeyOk, Law, Lawful, Ordered, World, around, context, lawful-made, lawful-numbered, lawful-upto}
 
 module _ (script : Script) (valid : IsSpace script.space) (w : World) (o : Ordered w) (key : List ℕ) (ok : KeyOk script w key) (i : ServerId) (up : w.up i)
     (installed : w.installed (key_region script.space key) i)
@@ -67,11 +67,9 @@ module _ (script : Script) (valid : IsSpace script.space) (w : World) (o : Order
         (accepting (context script w (key_region script.space key) i) t (offered (key_region script.space key) t u))
     assign-own =
         accepting-allowed cut (key_region script.space key) (around script w key (key_region script.space key) i)
-        (lawful-sorted script w.known key cut cut-lawful) (low-in script w key cut cut-lawful)
-        (following script w key cut cut-lawful (key_region script.space key))
+        (lined script w key cut cut-lawful (key_region script.space key))
         (context script w (key_region script.space key) i) t (offered (key_region script.space key) t u)
-        (ends-line script valid w o key ok (key_region script.space key) i up installed cut cut-lawful) own-cut
+        (ends-line script valid w o key ok (key_region script.space key) i up (o.home (key_region script.space key) i installed) cut cut-lawful) own-cut
         (offered-allowed cut (key_region script.space key) (around script w key (key_region script.space key) i)
-        (lawful-sorted script w.known key cut cut-lawful) (low-in script w key cut cut-lawful)
-        (following script w key cut cut-lawful (key_region script.space key))
+        (lined script w key cut cut-lawful (key_region script.space key))
         t u own-cut (inl refl) placed alone (inr follow))

@@ -6,7 +6,7 @@ use Rattle.hx_types.specs.Words.{IsBefore, IsIn}
 use Rattle.hx_types.specs.Configs.{members_of}
 use Rattle.hx_model.specs.Neighbours.{member_after, place_number}
 use Rattle.hx_law_lemmas.proofs.Lemmas.{Apart, Differ, after-order, before-in, before-trans, head-nobody, order-cases}
-use Rattle.hx_law_epochs.proofs.Lemmas.{HasPlace, PrecedesInChain, number-region, stands-irreflexive, GrownOut, ListsServers}
+use Rattle.hx_law_epochs.proofs.Lemmas.{GrownOut, HasPlace, ListsServers, PrecedesInChain, number-region, stands-irreflexive}
 use Rattle.hx_law_epochs.specs.Epochs.{order}
 use Rattle.hx_law_chains.proofs.Hops.{Hops}
 

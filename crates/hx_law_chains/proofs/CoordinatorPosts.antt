@@ -1,6 +1,6 @@
 -- What the coordinator posts and notes: it replies to nobody, finds and asks nothing, and notes configurations alone.
-use Rattle.std.proofs.Common.{◌≡◌, ◌+◌, ◌⊎◌, inl, inr, List, [], ◌∷◌, ◌++◌, map, Option, Some, None, refl, sym, subst, cond, eqb, ltb}
-use Rattle.std.specs.Prelude.{⊤, not, ◌&&◌}
+use Rattle.std.proofs.Common.{◌≡◌, ◌+◌, ◌⊎◌, inl, inr, List, [], ◌∷◌, ◌++◌, map, Option, None, Some, refl, sym, subst, cond, eqb, ltb}
+use Rattle.std.specs.Prelude.{not, ⊤, ◌&&◌}
 use Rattle.std.specs.List.{flat_map}
 use Rattle.std.proofs.lemmas.Bool.{cond_both}
 use Rattle.hx_model.specs.Types.{Actor, Answer, Caller, Config, Coordinator, Deliver, Epoch, Halt, Input, Member, Message, Note, Op, Post, RegionId, Server}
@@ -10,11 +10,12 @@ use Rattle.hx_types.specs.declared.messages.Message.TheVariants as a_message
 use Rattle.hx_types.specs.declared.traces.Note.TheVariants as a_note
 use Rattle.hx_types.specs.Words.{IsIn, below, post, server_in}
 use Rattle.hx_types.specs.Configs.{any_joining, any_ready, is_lost, lists_joining}
-use Rattle.hx_model.specs.CoordinatorSteps.{Answered, CoordinatorState, CoordinatorStep, Newest, Task, add_step, adds, administers, again}
-use Rattle.hx_model.specs.CoordinatorSteps.{by_number, config_ready, config_with, config_without, coordinator_message, coordinator_step, coordinator_tick}
-use Rattle.hx_model.specs.CoordinatorSteps.{die_for, gone_step, issue, join_posts, judged, last_ready_pair, newest_of, outcome, poll_step, ready_step}
-use Rattle.hx_model.specs.CoordinatorSteps.{resting, session_posts, stop_step, stops, stops_answered, stops_left, telling, to_server, with_number, with_task}
-use Rattle.hx_law_lemmas.proofs.Lemmas.{in-append, in-flat_map, in-map, in-provided}
+use Rattle.hx_model.specs.CoordinatorSteps.{Answered, CoordinatorState, CoordinatorStep, Newest, Task, add_step, adds, administers, again, by_number}
+use Rattle.hx_model.specs.CoordinatorSteps.{config_ready, config_with, config_without, coordinator_message, coordinator_step, coordinator_tick, die_for}
+use Rattle.hx_model.specs.CoordinatorSteps.{gone_step, issue, join_posts, judged, last_ready_pair, newest_of, outcome, poll_step, ready_step, resting}
+use Rattle.hx_model.specs.CoordinatorSteps.{session_posts, stop_step, stops, stops_answered, stops_left, telling, to_server, with_number, with_task}
+use Rattle.hx_law_lemmas.proofs.Lemmas.{in-flat_map, in-map, in-provided}
+use Rattle.hx_law_chains.proofs.SlotPosts.{each-both, each-one}
 
 -- what the coordinator posts
 abbrev pub OfCoordinator : Message → Type 0
@@ -31,14 +32,9 @@ Issues notes = (notes ≡ []) ⊎ ((config : Config) × (notes ≡ a_note.Issued
 abbrev AllOf : List Post → Type 0
 AllOf ps = (p : Post) → IsIn p ps → OfCoordinator p.message
 
--- two lists
-both : (ps qs : List Post) → AllOf ps → AllOf qs → AllOf (ps ++ qs)
-both ps qs a b p i = elim (in-append ps qs p i) [ inl j ↦ a p j | inr j ↦ b p j ]
-
--- one post
-one : (p : Post) → OfCoordinator p.message → AllOf (p ∷ [])
-one p h q (inl e) = subst (λ (x : Post). OfCoordinator x.message) (sym e) h
-one p h q (inr i) = absurd i
+-- a post is such
+abbrev Of : Post → Type 0
+Of p = OfCoordinator p.message
 
 -- the same to each of some
 to-each : {A : Type 0} (f : A → Post) (xs : List A) → ((x : A) → OfCoordinator (f x).message) → AllOf (map f xs)
@@ -67,13 +63,13 @@ issues c config answered left =
     let servers = to-each (to_server install) config.servers (λ s. tt) in
     let sessions = to-each (λ n. post Coordinator (Session (record { 0 = n + 1 })) install) (below c.sessions) (λ n. tt) in
     record {
-      posts = both (a ++ b) o (both a b servers sessions) (to-each (λ (x : Answered). outcome x.caller x.answer) answered (λ x. tt));
+      posts = each-both Of (a ++ b) o (each-both Of a b servers sessions) (to-each (λ (x : Answered). outcome x.caller x.answer) answered (λ x. tt));
       notes = inr (config, refl);
     }
 
 -- an outcome is told
 tells : (c : CoordinatorState) (caller : Caller) (answer : Answer) → Plain (telling c (outcome caller answer ∷ []))
-tells c caller answer = says c (outcome caller answer ∷ []) (one (outcome caller answer) tt)
+tells c caller answer = says c (outcome caller answer ∷ []) (each-one Of (outcome caller answer) tt)
 
 -- a call by its number
 by-number : (c : CoordinatorState) (caller : Caller) (o : Option Newest) (new : CoordinatorStep) → Plain new → Plain (by_number c caller o new)
@@ -93,7 +89,7 @@ stopping c caller s =
     let stopped = an_answer.Stopped c.config.epoch in
     cond_both (server_in s c.config.servers) (telling (with_task c caller (Stop s)) (to_server a_message.Die s ∷ []))
     (telling (with_number c caller (Some stopped)) (outcome caller stopped ∷ [])) Plain
-    (λ t. says _ _ (one (to_server a_message.Die s) tt))
+    (λ t. says _ _ (each-one Of (to_server a_message.Die s) tt))
     (λ t. tells _ caller stopped)
 
 -- an add
@@ -131,12 +127,12 @@ polled : (c : CoordinatorState) (epoch : Epoch) (from : Actor) → Plain (poll_s
 polled c epoch from =
     let install = post Coordinator from (a_message.Install c.config) in
     cond_both (ltb epoch.0 c.config.epoch.0) (telling c (install ∷ [])) (resting c) Plain
-    (λ t. says c (install ∷ []) (one install tt))
+    (λ t. says c (install ∷ []) (each-one Of install tt))
     (λ t. rests c)
 
 -- who is to die
 dying : (op : Op) → AllOf (die_for op)
-dying (Stop s) = one (to_server a_message.Die s) tt
+dying (Stop s) = each-one Of (to_server a_message.Die s) tt
 dying other = λ p j. absurd j
 
 -- who is told the configuration for a joiner's sake
@@ -152,7 +148,7 @@ ticks c =
     let dies = flat_map (λ (t : Task). die_for t.op) c.todo in
     let joins = flat_map (join_posts c.config) c.config.regions in
     says c (dies ++ joins)
-    (both dies joins
+    (each-both Of dies joins
     (λ p i. (let m = in-flat_map (λ (t : Task). die_for t.op) c.todo p i in dying m.0.op p m.2))
     (λ p i. (let m = in-flat_map (join_posts c.config) c.config.regions p i in joining c.config m.0 p m.2)))
 

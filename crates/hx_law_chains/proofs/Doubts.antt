@@ -1,10 +1,9 @@
 -- What a server's step tells of doubts: a write is in doubt because a pending version is held up by a lost region.
-use Rattle.std.proofs.Common.{◌≡◌, ℕ, ◌≤◌, ◌⊎◌, inl, inr, Bool, true, false, List, [], ◌∷◌, Option, Some, None, refl, sym, ap, ◌∙◌, subst, cond, eqb, leb, ltb}
+use Rattle.std.proofs.Common.{◌≡◌, ℕ, ◌≤◌, ◌⊎◌, inl, inr, Bool, true, false, List, [], ◌∷◌, Option, None, Some, refl, sym, ap, ◌∙◌, cond, eqb, leb, ltb}
 use Rattle.std.specs.Prelude.{⊤}
-use Rattle.std.specs.List.{flat_map}
 use Rattle.std.proofs.lemmas.Bool.{cond_both, false≢true}
-use Rattle.hx_model.specs.Types.{Actor, Answer, At, Atomic, Blocked, Caller, Config, Cput, Del, Effect, End, Epoch, Hop, Mark, Message, Op, Place, Post, Put}
-use Rattle.hx_model.specs.Types.{RegionId, Script, ServerId, Space, Update, Value, Version}
+use Rattle.hx_model.specs.Types.{Actor, Answer, Atomic, Caller, Config, Cput, Del, Effect, Epoch, Mark, Message, Op, Place, Post, Put, RegionId, Script}
+use Rattle.hx_model.specs.Types.{ServerId, Space, Update, Value, Version}
 use Rattle.hx_types.specs.declared.calls.Answer.TheVariants as an_answer
 use Rattle.hx_types.specs.declared.messages.Message.TheVariants as a_message
 use Rattle.hx_types.specs.declared.outcomes.Decision.TheVariants as a_decision
@@ -16,9 +15,9 @@ use Rattle.hx_model.specs.Causes.{pending_at}
 use Rattle.hx_model.specs.Leading.{StuckAt, by_mark, decide, first_lost, fresh, stuck_among, stuck_of}
 use Rattle.hx_model.specs.Lines.{line_object}
 use Rattle.hx_model.specs.Regions.{key_region}
-use Rattle.hx_model.specs.ServerSteps.{ServerState, SlotContext, ack_to, get_answer, move_posts, next_at, passed_on, prev_at, reply, told_to, update_to}
-use Rattle.hx_model.specs.Slots.{Acknowledge, Commit, Forget, Hold, KeyState, Move, Take, has_place, mark_of}
-use Rattle.hx_law_lemmas.proofs.Lemmas.{atomic-both, place-in, in-flat_map, when_some_both, AllKnown, Known, at_session}
+use Rattle.hx_model.specs.ServerSteps.{ServerState, SlotContext, get_answer, reply}
+use Rattle.hx_model.specs.Slots.{KeyState, has_place, mark_of}
+use Rattle.hx_law_lemmas.proofs.Lemmas.{at_session, atomic-both, place-in, when_some_both}
 use Rattle.hx_law_chains.proofs.World.{Law}
 
 -- a pending version of the key is held up by the lost region at the leader, and isn't above the version named, unless that is 0
@@ -83,51 +82,6 @@ law-sure script known key older u l = elim l.effect [
 pub sure-says : (script : Script) (st : ServerState) (i : ServerId) (at : SlotContext) (caller : Caller) (v : Version) (a : Answer) → is_doubt a ≡ false
     → Says script st i (reply at caller v a)
 sure-says script st i at caller v a s g epoch e = absurd (false≢true (sym s ∙ ap is_doubt e))
-
--- moves whose updates are sure tell of none
-pub moves-say : (script : Script) (st : ServerState) (i : ServerId) (at : SlotContext) (ms : List Move) → AllKnown Sure ms → (p : Post)
-    → IsIn p (flat_map (move_posts at) ms) → Says script st i p
-moves-say script st i at ms known p j =
-    let r = in-flat_map (move_posts at) ms p j in
-    by r.0 (known r.0 r.1) r.2
-  where
-    told : (u : Update) → Sure u → (y : Hop) → IsIn p (told_to at u y) → Says script st i p
-    told u s End (inl q) = subst (Says script st i) (sym q) (sure-says script st i at u.caller u.version u.answer s)
-    told u s End (inr k) = absurd k
-    told u s (Blocked r) k = absurd k
-    told u s (At y n) (inl q) = subst (Says script st i) (sym q) tt
-    told u s (At y n) (inr k) = absurd k
-
-    by : (m : Move) → Known Sure m → IsIn p (move_posts at m) → Says script st i p
-    by (Take u) s k = passed (next_at at u) k
-      where
-        passed : (y : Hop) → IsIn p (update_to at u y) → Says script st i p
-        passed End k = absurd k
-        passed (Blocked r) k = absurd k
-        passed (At y n) (inl q) = subst (Says script st i) (sym q) tt
-        passed (At y n) (inr k) = absurd k
-    by (Hold u) s k = absurd k
-    by (Acknowledge v) s k = absurd k
-    by (Commit u) s k = told u s (prev_at at u) k
-    by Forget s k = absurd k
-
--- an update to the next replica says nothing
-pub passed-says : (script : Script) (st : ServerState) (i : ServerId) (at : SlotContext) (u : Update) (p : Post) → IsIn p (passed_on at u) → Says script st i p
-passed-says script st i at u p = by (next_at at u)
-  where
-    by : (y : Hop) → IsIn p (update_to at u y) → Says script st i p
-    by End k = absurd k
-    by (Blocked r) k = absurd k
-    by (At y n) (inl q) = subst (Says script st i) (sym q) tt
-    by (At y n) (inr k) = absurd k
-
--- nor does an acknowledgement
-pub acked-says : (script : Script) (st : ServerState) (i : ServerId) (at : SlotContext) (u : Update) (y : Hop) (p : Post) → IsIn p (ack_to at u y)
-    → Says script st i p
-acked-says script st i at u End p k = absurd k
-acked-says script st i at u (Blocked r) p k = absurd k
-acked-says script st i at u (At y n) p (inl q) = subst (Says script st i) (sym q) tt
-acked-says script st i at u (At y n) p (inr k) = absurd k
 
 -- ---- what is stuck
 

@@ -1,24 +1,22 @@
 -- Every run: a doubt that a server told was told by the key's leader while a version was held up by a region that is lost in a known configuration.
-use Rattle.std.proofs.Common.{◌≡◌, ℕ, inl, inr, true, false, List, [], ◌∷◌, Some, refl, sym, ap, ◌∙◌, subst}
-use Rattle.std.proofs.lemmas.Bool.{cond-true, eq-eqb}
-use Rattle.hx_types.specs.declared.calls.Answer.TheVariants as an_answer
+use Rattle.std.proofs.Common.{◌≡◌, ℕ, inl, inr, true, false, List, [], ◌∷◌, Some, refl, sym, ap, subst}
 use Rattle.hx_model.specs.Types.{Actor, Caller, Config, Coordinator, Entry, Epoch, Op, Post, RegionId, Script, Server, ServerId, Session, Version}
+use Rattle.hx_types.specs.declared.calls.Answer.TheVariants as an_answer
 use Rattle.hx_types.specs.declared.messages.Message.TheVariants as a_message
-use Rattle.hx_types.specs.Words.{IsIn, post, same_server}
+use Rattle.hx_types.specs.Words.{IsIn, post}
 use Rattle.hx_types.specs.Configs.{is_lost}
 use Rattle.hx_types.specs.Effects.{key_of}
 use Rattle.hx_types.specs.Fitting.{IsScript, call_of}
 use Rattle.hx_model.specs.Causes.{AnsweredCall, IsDoubtTold}
-use Rattle.hx_model.specs.Runs.{IsRun, Output, MayTake, coordinator_of, has_halted, is_actor, made_of, server_after, server_of, session_of}
-use Rattle.hx_model.specs.ServerSteps.{ServerState, server_step}
+use Rattle.hx_model.specs.Runs.{IsRun, MayTake, Output, coordinator_of, has_halted, is_actor, made_of, server_of, session_of}
+use Rattle.hx_model.specs.ServerSteps.{ServerState}
 use Rattle.hx_law_lemmas.specs.Words.{posts_of}
-use Rattle.hx_law_lemmas.proofs.Lemmas.{in-append, arrived, session_turn}
+use Rattle.hx_law_lemmas.proofs.Lemmas.{in-append, session_turn}
 use Rattle.hx_law_epochs.proofs.Lemmas.{IsKnown, epochs-run, known-still, server-does-well}
 use Rattle.hx_law_chains.proofs.CoordinatorPosts.{coordinator-plain}
 use Rattle.hx_law_chains.proofs.Doubts.{HeldUp, Says}
-use Rattle.hx_law_chains.proofs.Runs.{chained-run, scene}
-use Rattle.hx_law_chains.proofs.Snapshots.{snapshots-kept}
-use Rattle.hx_law_chains.proofs.TellingRows.{input-tells}
+use Rattle.hx_law_chains.proofs.Entered.{made-by, state-by}
+use Rattle.hx_law_chains.proofs.Runs.{posted-run}
 
 -- the doubt was told so, and the region is lost in the configuration of its epoch
 pub record Doubtful (call : AnsweredCall) (key : List ℕ) (g : RegionId) (epoch : Epoch) : Type 0 where
@@ -29,31 +27,19 @@ pub record Doubtful (call : AnsweredCall) (key : List ℕ) (g : RegionId) (epoch
   pub lost : is_lost config g ≡ true
 
 module _ (script : Script) (valid : IsScript script) where
-  -- what a server's post says of doubts
-  abbrev Told : ServerId → ServerState → List Post → Type 0
-  Told i st ps = (p : Post) → IsIn p ps → (p.from ≡ Server i) × Says script st i p
-
-  -- an entry of a server
-  entry-tells : (x : Entry) (older : List Entry) → IsRun script (x ∷ older) → (i : ServerId) → x.actor ≡ Server i
-      → Told i (server_of script i (x ∷ older)) x.outputs
-  entry-tells x older run i acts =
+  -- what a post of a server's entry says of doubts
+  entry-tells : (x : Entry) (older : List Entry) → IsRun script (x ∷ older) → (i : ServerId) → x.actor ≡ Server i → (p : Post) → IsIn p x.outputs
+      → (p.from ≡ Server i) × Says script (server_of script i (x ∷ older)) i p
+  entry-tells x older run i acts p j =
       let epochs = epochs-run script valid older run.1 in
-      let had = chained-run script valid older run.1 in
-      let snapshots = snapshots-kept script valid older run.1 in
       let may = subst (λ (a : Actor). MayTake older a x.input) acts run.0.input in
       let real = subst (λ (a : Actor). is_actor script a ≡ true) acts run.0.actor in
       let up = subst (λ (a : Actor). has_halted script older a ≡ false) acts run.0.running in
-      let step = server_step script.space (server_of script i older) x.input in
       let does = server-does-well script valid older epochs i x.input real up may in
-      let tells = input-tells (scene script older) valid.space had.ordered had.keyed epochs.epochs i (real, up) (epochs.shaped i) (snapshots.joinable i) x.input
-      (λ p j. (had.valid p j, snapshots.carried p j))
-      (λ id from m e. arrived id older (post from (Server i) m) (subst (MayTake older (Server i)) e may)) in
-      let made : made_of script older (Server i) x.input ≡ record { posts = x.outputs; notes = x.notes } = subst
-      (λ (a : Actor). made_of script older a x.input ≡ record { posts = x.outputs; notes = x.notes }) acts run.0.made in
-      let here : server_of script i (x ∷ older) ≡ step.state = ap (λ (a : Actor). server_after script.space i a x.input (server_of script i older)) acts
-      ∙ cond-true (same_server i i) step.state (server_of script i older) (eq-eqb i.0 i.0 refl) in
-      subst (λ (st : ServerState). Told i st x.outputs) (sym here)
-      (subst (λ (m : Output). Told i step.state m.posts) made (λ p j. ((does.posts p j).0, tells p j)))
+      let made = ap (λ (m : Output). m.posts) (made-by script x older run (Server i) acts) in (
+        (does.posts p (subst (λ (ps : List Post). IsIn p ps) (sym made) j)).0,
+        subst (λ (st : ServerState). Says script st i p) (sym (state-by script x older i acts)) (posted-run script valid x older run i acts p j).says,
+      )
 
   module _ (trace : List Entry) (caller : Caller) (op0 : Op) (begin : ℕ) (version : Version) (g : RegionId) (epoch : Epoch) (op : Op) (key : List ℕ)
       (called : call_of script caller ≡ Some op) (on_key : key_of op ≡ Some key) where
@@ -97,18 +83,13 @@ module _ (script : Script) (valid : IsScript script) where
         → Doubtful (call_at (x ∷ older)) key g epoch
     entry-doubtful x older run from j = by x.actor refl
       where
+        here : (a : Actor) → x.actor ≡ a → IsIn (doubt from) (made_of script older a x.input).posts
+        here a e = subst (λ (ps : List Post). IsIn (doubt from) ps) (sym (ap (λ (m : Output). m.posts) (made-by script x older run a e))) j
+
         by : (a : Actor) → x.actor ≡ a → Doubtful (call_at (x ∷ older)) key g epoch
         by (Server i) e = here-doubtful x older run i e from j
-        by Coordinator e =
-            let made : made_of script older Coordinator x.input ≡ record { posts = x.outputs; notes = x.notes } = subst
-            (λ (a : Actor). made_of script older a x.input ≡ record { posts = x.outputs; notes = x.notes }) e run.0.made in
-            absurd ((coordinator-plain (coordinator_of script older) x.input).posts (doubt from)
-            (subst (λ (ps : List Post). IsIn (doubt from) ps) (sym (ap (λ (m : Output). m.posts) made)) j))
-        by (Session u) e =
-            let made : made_of script older (Session u) x.input ≡ record { posts = x.outputs; notes = x.notes } = subst
-            (λ (a : Actor). made_of script older a x.input ≡ record { posts = x.outputs; notes = x.notes }) e run.0.made in
-            absurd (((session_turn script.space x.input (session_of script u older)).turn.says (doubt from)
-            (subst (λ (ps : List Post). IsIn (doubt from) ps) (sym (ap (λ (m : Output). m.posts) made)) j)).1)
+        by Coordinator e = absurd ((coordinator-plain (coordinator_of script older) x.input).posts (doubt from) (here Coordinator e))
+        by (Session u) e = absurd (((session_turn script.space x.input (session_of script u older)).turn.says (doubt from) (here (Session u) e)).1)
 
     -- every run
     run-doubtful : (t : List Entry) → IsRun script t → (from : Actor) → IsIn (doubt from) (posts_of t) → Doubtful (call_at t) key g epoch

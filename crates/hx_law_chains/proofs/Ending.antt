@@ -11,17 +11,18 @@ use Rattle.hx_model.specs.Neighbours.{is_end, member_after, next_of, place_numbe
 use Rattle.hx_model.specs.Regions.{key_region}
 use Rattle.hx_model.specs.Slots.{KeyState, has_place}
 use Rattle.hx_model.specs.ServerSteps.{next_at, resumed}
-use Rattle.hx_law_lemmas.proofs.Lemmas.{same-key, Apart, Differ, passes-key, places-apart}
-use Rattle.hx_law_epochs.proofs.Lemmas.{leader-stands, next-none, HasPlace, next-within, placed-number}
-use Rattle.hx_law_chains.proofs.Keys.{following, low-in, still-head}
+use Rattle.hx_law_lemmas.proofs.Lemmas.{Apart, Differ, passes-key, places-apart, same-key}
+use Rattle.hx_law_epochs.proofs.Lemmas.{HasPlace, leader-stands, next-none, next-within, placed-number}
+use Rattle.hx_law_epochs.specs.Epochs.{order}
+use Rattle.hx_law_chains.proofs.Keys.{lined, still-head}
 use Rattle.hx_law_chains.proofs.Moves.{AllAllowed, resumed-allowed}
 use Rattle.hx_law_chains.proofs.Places.{key-first}
-use Rattle.hx_law_chains.proofs.Posts.{Committed, Seat}
-use Rattle.hx_law_chains.proofs.World.{After, Along, Closed, Filled, KeyOk, Lawful, Ordered, Told, World, around, context, law-of, lawful-made, lawful-sorted}
+use Rattle.hx_law_chains.proofs.Posts.{Committed, Seated}
+use Rattle.hx_law_chains.proofs.World.{After, Along, Closed, Filled, KeyOk, Lawful, Ordered, Told, World, around, context, law-of, lawful-made}
 
 module _ (script : Script) (valid : IsSpace script.space) (w : World) (o : Ordered w) (key : List ℕ) (ok : KeyOk script w key) (g : RegionId) (i : ServerId)
-    (up : w.up i) (installed : w.installed g i) where
-  -- where the chain ends by the server's own configuration nobody stands after
+    (up : w.up i) (home : IsIn i (order (w.own i) g)) where
+  -- where the chain ends by the configuration of a server that it lists, installed there or not, nobody stands after
   pub ends-line : (line : List Update) → Lawful script w.known key line → (u : Update) → IsIn u line → has_place g u ≡ true
       → is_end (next_at (context script w g i) u) ≡ true → After script w key g i u × Closed script w key g i u
   ends-line line lawful u j p t = (after, subst (Filled script w key u) (sym q) tt)
@@ -50,7 +51,7 @@ module _ (script : Script) (valid : IsSpace script.space) (w : World) (o : Order
       after : After script w key g i u
       after h x s k a = absurd (elim a.1 [
         | inl b ↦ next-none (w.own i) u.places apart dc g l i q h x (a.0, inl b)
-        | inr b ↦ ok.clear i (w.own i) (record { up = up; known = o.own i; later = omega arith }) g (o.home g i installed)
+        | inr b ↦ ok.clear i (w.own i) (record { up = up; known = o.own i; later = omega arith }) g home
             (last (member_after i (members_of (w.own i) g)) refl) x s
             (subst (λ (r : RegionId). w.holds key r x s) (sym b.0) k) b.1
       ])
@@ -61,12 +62,12 @@ module _ (script : Script) (valid : IsSpace script.space) (w : World) (o : Order
 
   -- what a slot does when its server has adopted a configuration is allowed
   pub resumed-own : (t : KeyState) → w.holds key g i t → AllAllowed (w.line key) g (around script w key g i) t (resumed (context script w g i) t)
-  resumed-own t h = resumed-allowed (w.line key) g (around script w key g i) (lawful-sorted script w.known key (w.line key) ok.lawful)
-      (low-in script w key (w.line key) ok.lawful) (following script w key (w.line key) ok.lawful g)
+  resumed-own t h = resumed-allowed (w.line key) g (around script w key g i) (lined script w key (w.line key) ok.lawful g)
       (context script w g i) t ends-own (ok.own g i t h)
 
-module _ (script : Script) (valid : IsSpace script.space) (w : World) (o : Ordered w) (ok : (key : List ℕ) → KeyOk script w key) (g : RegionId)
-    (i : ServerId) (seat : Seat script w g i) where
+module _ (seated : Seated) where
+  open seated use {script, valid, world as w, ordered as o, keys as ok, region as g, server as i, seat}
+
   -- what the leader of a key has committed is committed along all chains
   pub lead-along : (key : List ℕ) → g ≡ key_region script.space key → head_of (w.own i) g ≡ Some i → Along script w key (seat.slot key).floor
   lead-along key q own_head u j l h x t hold p =
@@ -85,7 +86,7 @@ module _ (script : Script) (valid : IsSpace script.space) (w : World) (o : Order
       ]
 
   -- an answer of a committed update is true
-  pub reply-told : (u : Update) → Committed script valid w o ok g i seat u → g ≡ key_region script.space u.key → head_of (w.own i) g ≡ Some i
+  pub reply-told : (u : Update) → Committed seated u → g ≡ key_region script.space u.key → head_of (w.own i) g ≡ Some i
       → (op : Op) (key : List ℕ) → call_of script u.caller ≡ Some op → key_of op ≡ Some key → Told script w key u.caller u.version u.answer op
   reply-told u c q head op key called on_key =
       let l = law-of script w.known u.key (w.line u.key) u (ok u.key).lawful c.known.stands in

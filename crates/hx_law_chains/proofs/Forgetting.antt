@@ -1,15 +1,15 @@
 -- The states of a server that adopts a configuration: its slots forget acknowledgements and early updates, and then each goes on.
-use Rattle.std.proofs.Common.{◌≡◌, ℕ, ◌⊎◌, inl, inr, Bool, true, false, not, List, [], ◌∷◌, ◌++◌, map, Option, Some, None, refl, sym, ap, ◌∙◌, cond, eqb, ltb}
+use Rattle.std.proofs.Common.{◌≡◌, ℕ, ◌⊎◌, inl, inr, Bool, true, false, not, List, [], ◌∷◌, ◌++◌, map, Option, None, Some, refl, sym, ap, ◌∙◌, cond, eqb, ltb}
 use Rattle.std.specs.List.{AllByRecursion, filter, flat_map, list_any}
-use Rattle.std.proofs.lemmas.Bool.{cond_both, cond-true, cond-false, and_parts, false≢true}
+use Rattle.std.proofs.lemmas.Bool.{and_parts, cond-false, cond-true, cond_both, false≢true}
 use Rattle.hx_model.specs.Types.{Config, Kept, Post, RegionId, ServerId, Space, Update}
 use Rattle.hx_types.specs.Words.{IsIn, provided, same_text, text_below, when_some}
 use Rattle.hx_types.specs.Configs.{is_lost}
 use Rattle.hx_types.specs.Subspaces.{is_key_region}
 use Rattle.hx_model.proofs.Lemmas.{base-moved_all}
 use Rattle.hx_model.specs.Neighbours.{is_end}
-use Rattle.hx_model.specs.ServerSteps.{Replica, ServerState, SlotContext, adopted_posts, adopted_replica, adopted_state, context_of, is_active}
-use Rattle.hx_model.specs.ServerSteps.{listed_regions, next_at, ready_post, replica_of, replica_or_new, resumed, resumed_posts, snap_posts, state_in, tail_acks}
+use Rattle.hx_model.specs.ServerSteps.{Replica, ServerState, SlotContext, adopted_posts, adopted_replica, adopted_state, context_of, is_active, listed_regions}
+use Rattle.hx_model.specs.ServerSteps.{next_at, ready_post, replica_of, replica_or_new, resumed, resumed_posts, snap_posts, state_in, tail_acks}
 use Rattle.hx_model.specs.Slots.{Acknowledge, Commit, Forget, Hold, KeyState, Move, Take, commits, kept_of, moved, moved_all, new_state, pending_of}
 use Rattle.hx_model.specs.Slots.{pending_of_all, settled, snapshot_of, state_among, taken}
 use Rattle.hx_law_lemmas.proofs.Lemmas.{Once, in-append, in-flat_map, in-provided, listed-apart, made-found, made-in, made-once, mapped-found, mapped-from}
@@ -218,7 +218,6 @@ module _ (space : Space) (config : Config) (i : ServerId) (ks : List Replica) wh
     pub found : replica_of replica.region ks ≡ Some replica
     pub installed : replica.installed ≡ true
     pub active : is_active config replica ≡ true
-    pub alive : is_lost config replica.region ≡ false
     pub posted : IsIn p (snap_posts now-at replica)
         ⊎ (IsIn p (flat_map (resumed_posts (at replica.region)) replica.states) ⊎ IsIn p (ready_post now-at replica.region))
 
@@ -234,16 +233,11 @@ module _ (space : Space) (config : Config) (i : ServerId) (ks : List Replica) wh
         found = once-found ks once a.0 a.1;
         installed = c.0;
         active = b.0;
-        alive = of (is_lost config a.0.region) c.1;
         posted = elim (in-append (snap_posts now-at a.0 ++ resumes) (ready_post now-at a.0.region) p b.1) [
           | inl k ↦ elim (in-append (snap_posts now-at a.0) resumes p k) [ inl m ↦ inl m | inr m ↦ inr (inl m) ]
           | inr k ↦ inr (inr k)
         ];
       }
-    where
-      of : (b : Bool) → not b ≡ true → b ≡ false
-      of true z = absurd (false≢true z)
-      of false z = refl
 
 -- ---- the replicas in a configuration that is adopted
 

@@ -1,10 +1,10 @@
 -- The laws on chains from what every run keeps.
-use Rattle.std.proofs.Common.{◌≡◌, ℕ, ◌≤◌, inl, inr, true, is_some, List, [], ◌∷◌, Option, Some, None, refl, sym, ap, ◌∙◌, arith}
-use Rattle.std.proofs.lemmas.Bool.{cond_both, cond-true, false≢true}
+use Rattle.std.proofs.Common.{◌≡◌, ℕ, ◌≤◌, inl, inr, true, List, [], ◌∷◌, is_some, Option, None, Some, refl, sym, ap, ◌∙◌, arith}
+use Rattle.std.proofs.lemmas.Bool.{cond-true, cond_both, false≢true}
 use Rattle.hx_model.specs.Types.{Actor, At, Config, Coordinator, Entry, Epoch, Kept, Message, RegionId, Script, Server, ServerId, Session, Update, Version}
 use Rattle.hx_types.specs.declared.messages.Message.TheVariants as a_message
 use Rattle.hx_types.specs.Words.{IsIn, post}
-use Rattle.hx_types.specs.Configs.{lists, members_of}
+use Rattle.hx_types.specs.Configs.{lists}
 use Rattle.hx_types.specs.Fitting.{IsScript}
 use Rattle.hx_model.specs.Hearing.{hears_ack, hears_update}
 use Rattle.hx_model.specs.Holders.{IsPrefix, snap_state}
@@ -14,17 +14,17 @@ use Rattle.hx_model.specs.Runs.{IsRun, coordinator_of, server_of}
 use Rattle.hx_model.specs.ServerSteps.{Replica, if_installed, replica_of, state_in}
 use Rattle.hx_model.specs.Slots.{Forget, KeyState, has_place, moved, top_of}
 use Rattle.hx_law_lemmas.specs.Words.{posts_of, view}
-use Rattle.hx_law_lemmas.proofs.Lemmas.{after-order, before-in, listed-in}
+use Rattle.hx_law_lemmas.proofs.Lemmas.{listed-in}
 use Rattle.hx_law_epochs.specs.Epochs.{order}
-use Rattle.hx_law_epochs.proofs.Lemmas.{EpochsRun, Installed, IsKnown, PrecedesInChain, Real, Says, epochs-run, installed-is, placed-number}
+use Rattle.hx_law_epochs.proofs.Lemmas.{Installed, IsKnown, PrecedesInChain, Real, Says, epochs-run, installed-is, placed-number}
 use Rattle.hx_law_chains.specs.Chains.{AckStands, AreAssigned, InOrder, IsComing, IsHeld, IsSentFrom, IsStanding, MayHave, PostStands, RunsAnswerCommitted}
 use Rattle.hx_law_chains.specs.Chains.{RunsAssignUpdates, RunsHoldParts, RunsKeepOrder, RunsPostsStand, RunsSendParts, StandsEarlier, UpdateStands}
 use Rattle.hx_law_chains.proofs.Heard.{heard-at, heard-from}
 use Rattle.hx_law_chains.proofs.Holders.{Up, now-listed}
-use Rattle.hx_law_chains.proofs.Runs.{chained-run, scene}
-use Rattle.hx_law_chains.proofs.Sending.{joiner-next}
-use Rattle.hx_law_chains.proofs.Serving.{world}
-use Rattle.hx_law_chains.proofs.World.{AckOk, Along, Chained, HearsAck, HearsUpdate, Lawful, May, Told, UpdateOk, Valid, World}
+use Rattle.hx_law_chains.proofs.Runs.{chained-run}
+use Rattle.hx_law_chains.proofs.Sending.{routed}
+use Rattle.hx_law_chains.proofs.Serving.{scene, world}
+use Rattle.hx_law_chains.proofs.World.{AckOk, Along, Chained, HearsAck, HearsUpdate, Lawful, May, Told, UpdateOk, Valid, World, ways}
 
 -- where all stand after a trace
 abbrev at : Script → List Entry → World
@@ -108,21 +108,11 @@ module _ (script : Script) (valid : IsScript script) (t0 : List Entry) (run : Is
   coming-listed : (from : Actor) (epoch : Epoch) (g : RegionId) (s : ServerId) (snapshot : List Kept) (pending : List Update)
       → IsIn (post from (Server s) (a_message.Snap epoch g snapshot pending)) (posts_of t0)
       → Up (Real script) (λ y. server_of script y t0) s → IsIn s (order (coordinator_of script t0).config g)
-  coming-listed from epoch g s snapshot pending posted up = by from (epochs.epochs.says _ posted)
-    where
-      epochs : EpochsRun script t0
-      epochs = epochs-run script valid t0 run
-
-      by : (from : Actor) → Says (λ y. server_of script y t0) (IsKnown script t0) (coordinator_of script t0).config from (Server s)
-          (a_message.Snap epoch g snapshot pending) → IsIn s (order (coordinator_of script t0).config g)
-      by Coordinator h = absurd h
-      by (Session u) h = absurd h
-      by (Server k) h =
-          let x = h.1 in
-          let d = chained.ordered.differ x.config x.known g in
-          (chained.ordered.grown x.config (coordinator_of script t0).config x.known chained.ordered.newest
-          (chained.ordered.last x.config x.known)).stays g s (chained.ordered.up s up)
-          (before-in k s (order x.config g) (after-order k s (members_of x.config g) d (joiner-next k s (members_of x.config g) d x.sender)).0).1
+  coming-listed from epoch g s snapshot pending posted up =
+      let (d, known, listed) = routed (scene script t0) chained.ordered from s epoch g snapshot pending
+      ((epochs-run script valid t0 run).epochs.says _ posted) in
+      (chained.ordered.grown d (coordinator_of script t0).config known chained.ordered.newest (chained.ordered.last d known)).stays g s
+      (chained.ordered.up s up) listed
 
   -- it is held
   coming-held : (key : List ℕ) (g : RegionId) (s : ServerId) (t : KeyState) → IsComing script t0 key g s t → (at script t0).holds key g s t
@@ -225,7 +215,7 @@ runs_answer_committed script valid t run from c v answer posted op key called on
 
 module _ (script : Script) (valid : IsScript script) (t0 : List Entry) (run : IsRun script t0) where
   -- what the server has or may come to have
-  may : (s : ServerId) (c : Config) → MayHave script t0 s c → May (at script t0) s c
+  may : (s : ServerId) (c : Config) → MayHave script t0 s c → May (ways (at script t0)) s c
   may s c m = record { up = (m.server, m.running); known = m.issued; later = m.later }
 
   -- the sender
@@ -240,7 +230,7 @@ module _ (script : Script) (valid : IsScript script) (t0 : List Entry) (run : Is
   -- an update may be heard
   hears-it : (x : ServerId) (g : RegionId) (s : ServerId) (u : Update) (c : Config) → MayHave script t0 s c → lists c g s ≡ true
       → hears_update c u (place_number g u.places) s (Server x) ≡ true
-      → HearsUpdate (at script t0) x g s u
+      → HearsUpdate (ways (at script t0)) x g s u
   hears-it x g s u c m l h =
       let (y, place, from_is, hop_is) = heard-from (Server x) (prev_of c u.places (place_number g u.places) s) h in
       let q : x ≡ y = (let e = from_is in cc) in
@@ -249,7 +239,7 @@ module _ (script : Script) (valid : IsScript script) (t0 : List Entry) (run : Is
   -- and an acknowledgement
   hears-back : (x : ServerId) (by g : RegionId) (s : ServerId) (u : Update) (c : Config) → MayHave script t0 s c → lists c g s ≡ true
       → hears_ack c u (place_number g u.places) s (Server x) by ≡ true
-      → HearsAck (at script t0) x by g s u
+      → HearsAck (ways (at script t0)) x by g s u
   hears-back x by g s u c m l h =
       let (y, place, from_is, hop_is, region) = heard-at u.places by (Server x) (next_of c u.places (place_number g u.places) s) h in
       let q : x ≡ y = (let e = from_is in cc) in
@@ -267,11 +257,11 @@ module _ (script : Script) (valid : IsScript script) (t0 : List Entry) (run : Is
   update-stands : (x : ServerId) (g : RegionId) (s : ServerId) (u : Update) → UpdateOk script (at script t0) u.key x g s u
       → UpdateStands script t0 (Server x) g s u
   update-stands x g s u ok = record {
-    region = ok.region;
-    sent = sent-from x ok.region u ok.sender_placed ok.from;
+    region = ok.route.region;
+    sent = sent-from x ok.route.region u ok.route.sender_placed ok.from;
     stands = λ c m l h. (ok.heard (hears-it x g s u c m l h)).stands;
     accepted = λ c m l h k y t p held e. (let (w, holder, same) = holds script valid t0 run u.key k y t held in
-        let a = (ok.heard (hears-it x g s u c m l h)).before k y w holder (placed-number u.places g ok.placed, e) in
+        let a = (ok.heard (hears-it x g s u c m l h)).before k y w holder (placed-number u.places g ok.route.placed, e) in
         let z = same.top in omega (arith, a, z));
   }
 

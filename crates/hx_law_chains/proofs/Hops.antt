@@ -1,5 +1,5 @@
 -- What a hop to the next or the previous position says of the lists of its configuration: whether it stays in the region, or goes on to the region of the neighbouring place.
-use Rattle.std.proofs.Common.{◌≡◌, ℕ, zero, suc, ◌+◌, ◌-◌, ◌<◌, ◌⊎◌, inl, inr, List, length, Option, Some, None, refl, sym, ap, ◌∙◌, subst, arith}
+use Rattle.std.proofs.Common.{◌≡◌, ℕ, zero, suc, ◌+◌, ◌-◌, ◌<◌, ◌⊎◌, inl, inr, List, length, Option, None, Some, refl, sym, ap, ◌∙◌, subst, arith, cond}
 use Rattle.std.specs.List.{slice_get}
 use Rattle.std.proofs.lemmas.Bool.{cond_both}
 use Rattle.hx_model.specs.Types.{At, Blocked, Config, Place, RegionId, ServerId}
@@ -7,7 +7,8 @@ use Rattle.hx_types.specs.Configs.{head_of, is_lost, members_of}
 use Rattle.hx_types.specs.Words.{IsIn}
 use Rattle.hx_model.specs.Neighbours.{enters, enters_last, hop_at, last_member, member_after, member_before, next_of, place_number, preceding_place, prev_of}
 use Rattle.hx_model.specs.Neighbours.{region_at}
-use Rattle.hx_law_lemmas.proofs.Lemmas.{Apart, Differ, after-before, after-last, number-is, region-is, first-listed, in-listed, last-server}
+use Rattle.hx_law_lemmas.proofs.Lemmas.{Apart, Differ, after-before, after-last, after-order, before-in, first-listed, head-order, in-listed, last-server}
+use Rattle.hx_law_lemmas.proofs.Lemmas.{number-is, region-is}
 use Rattle.hx_law_epochs.proofs.Lemmas.{HasPlace, index-below, next-across, next-within, place-at, prev-across, prev-within}
 use Rattle.hx_law_epochs.specs.Epochs.{order}
 
@@ -27,33 +28,42 @@ pub record Across (c : Config) (places : List Place) (g : RegionId) (s : ServerI
 abbrev pub Hops : Config → List Place → RegionId → ServerId → RegionId → ServerId → Type 0
 Hops c places g s h y = Within c g s h y ⊎ Across c places g s h y
 
--- entering a place that isn't lost
-entered : (c : Config) (k : ℕ) (o : Option Place) (y : ServerId) (n : ℕ) → enters c k o ≡ At y n → (k ≡ n)
-    × ((q : Place) × (o ≡ Some q) × (head_of c q.region ≡ Some y))
-entered c k None y n = λ e. absurd (cc)
-entered c k (Some q) y n =
-    cond_both (is_lost c q.region) (Blocked q.region) (hop_at k (head_of c q.region))
-    (λ h. h ≡ At y n → (k ≡ n) × ((p : Place) × (Some q ≡ Some p) × (head_of c p.region ≡ Some y)))
+-- entering a place that isn't lost, at this member
+entered_at : (c : Config) (k : ℕ) (q : Place) (o : Option ServerId) (y : ServerId) (n : ℕ) → cond (is_lost c q.region) (Blocked q.region) (hop_at k o) ≡ At y n
+    → (k ≡ n) × (o ≡ Some y)
+entered_at c k q o y n =
+    cond_both (is_lost c q.region) (Blocked q.region) (hop_at k o) (λ h. h ≡ At y n → (k ≡ n) × (o ≡ Some y))
     (λ t e. absurd (cc))
-    (λ t e. let r = hop (head_of c q.region) e in (r.0, (q, refl, r.1)))
+    (λ t. hop o)
   where
     hop : (o : Option ServerId) → hop_at k o ≡ At y n → (k ≡ n) × (o ≡ Some y)
     hop None e = absurd (cc)
     hop (Some x) e = (cc, (let q : x ≡ y = cc in ap Some q))
 
--- entering a place that isn't lost at its end
+-- at its first
+entered : (c : Config) (k : ℕ) (o : Option Place) (y : ServerId) (n : ℕ) → enters c k o ≡ At y n → (k ≡ n)
+    × ((q : Place) × (o ≡ Some q) × (head_of c q.region ≡ Some y))
+entered c k None y n = λ e. absurd (cc)
+entered c k (Some q) y n = λ e. (let r = entered_at c k q (head_of c q.region) y n e in (r.0, (q, refl, r.1)))
+
+-- or at its last
 entered_last : (c : Config) (k : ℕ) (o : Option Place) (y : ServerId) (n : ℕ) → enters_last c k o ≡ At y n → (k ≡ n)
     × ((q : Place) × (o ≡ Some q) × (last_member None (members_of c q.region) ≡ Some y))
 entered_last c k None y n = λ e. absurd (cc)
-entered_last c k (Some q) y n =
-    cond_both (is_lost c q.region) (Blocked q.region) (hop_at k (last_member None (members_of c q.region)))
-    (λ h. h ≡ At y n → (k ≡ n) × ((p : Place) × (Some q ≡ Some p) × (last_member None (members_of c p.region) ≡ Some y)))
-    (λ t e. absurd (cc))
-    (λ t e. let r = hop (last_member None (members_of c q.region)) e in (r.0, (q, refl, r.1)))
-  where
-    hop : (o : Option ServerId) → hop_at k o ≡ At y n → (k ≡ n) × (o ≡ Some y)
-    hop None e = absurd (cc)
-    hop (Some x) e = (cc, (let q : x ≡ y = cc in ap Some q))
+entered_last c k (Some q) y n = λ e. (let r = entered_at c k q (last_member None (members_of c q.region)) y n e in (r.0, (q, refl, r.1)))
+
+-- whoever a hop leaves is listed
+pub hops-first : (c : Config) (differ : (g : RegionId) → Differ (members_of c g)) (places : List Place) (g : RegionId) (s : ServerId) (h : RegionId)
+    (y : ServerId) → Hops c places g s h y → IsIn s (order c g)
+hops-first c differ places g s h y (inl a) = (before-in s y (order c g) (after-order s y (members_of c g) (differ g) a.after).0).0
+hops-first c differ places g s h y (inr a) = a.first_in
+
+-- and whom it goes to
+pub hops-second : (c : Config) (differ : (g : RegionId) → Differ (members_of c g)) (places : List Place) (g : RegionId) (s : ServerId) (h : RegionId)
+    (y : ServerId) → Hops c places g s h y → IsIn y (order c h)
+hops-second c differ places g s h y (inl a) = subst (λ (r : RegionId). IsIn y (order c r)) (sym a.same)
+    (before-in s y (order c g) (after-order s y (members_of c g) (differ g) a.after).0).1
+hops-second c differ places g s h y (inr a) = (head-order c h y a.head).0
 
 module _ (c : Config) (places : List Place) (apart : Apart places) (differ : (g : RegionId) → Differ (members_of c g)) where
   -- a region with a place of a number is the region of that place

@@ -1,21 +1,21 @@
 -- What is kept of a key and of posts when a configuration is issued: who it leaves out holds nothing any more, all others hold what they did in the same order, and a post that comes to be heard by it alone came from a neighbour that has accepted, or committed, the update.
 use Rattle.std.proofs.Common.{◌≡◌, ℕ, ◌<◌, ◌⊎◌, inl, inr, List, length, sym, ap, ◌∙◌, subst, arith}
-use Rattle.hx_model.specs.Types.{Answer, At, Caller, Config, Op, Place, RegionId, Script, ServerId, Update, Version}
+use Rattle.hx_model.specs.Types.{At, Config, Place, RegionId, Script, ServerId, Update}
 use Rattle.hx_types.specs.Words.{IsBefore, IsIn}
 use Rattle.hx_types.specs.Configs.{members_of}
 use Rattle.hx_types.specs.Spaces.{IsSpace}
 use Rattle.hx_model.specs.Neighbours.{next_of, place_number, prev_of, region_at}
-use Rattle.hx_model.specs.Regions.{key_region}
 use Rattle.hx_model.specs.Slots.{KeyState}
-use Rattle.hx_law_lemmas.proofs.Lemmas.{Apart, Differ, more_same, after-nobody, after-order, before-in, head-nobody, head-order, numbered-within as in-below}
-use Rattle.hx_law_lemmas.proofs.Lemmas.{places-apart}
-use Rattle.hx_law_epochs.proofs.Lemmas.{HasPlace, PrecedesInChain, number-region, placed-number, GrownOut, ListsServers, grown-out-self}
+use Rattle.hx_law_lemmas.proofs.Lemmas.{Apart, Differ, after-nobody, after-order, before-in, head-nobody, more_same, numbered-within as in-below, places-apart}
+use Rattle.hx_law_epochs.proofs.Lemmas.{GrownOut, HasPlace, ListsServers, PrecedesInChain, grown-out-self, number-region, placed-number}
 use Rattle.hx_law_epochs.specs.Epochs.{order}
 use Rattle.hx_law_chains.proofs.Between.{none-after, none-before}
-use Rattle.hx_law_chains.proofs.Hops.{Hops, next-hops, prev-hops}
+use Rattle.hx_law_chains.proofs.Hops.{Hops, hops-first, hops-second, next-hops, prev-hops}
+use Rattle.hx_law_chains.proofs.Keys.{told_up, valid_up}
 use Rattle.hx_law_chains.proofs.Moves.{own_rely}
-use Rattle.hx_law_chains.proofs.World.{AckOk, After, Along, Before, Fixed, KeyOk, Ordered, Sending, Told, UpdateOk, World, around, lawful-known, lawful-made}
-use Rattle.hx_law_chains.proofs.World.{lawful-numbered}
+use Rattle.hx_law_chains.proofs.World.{AckOk, After, Comes, KeyOk, May, Ordered, Sending, Stays, UpdateOk, World, after-stays, along-stays, around}
+use Rattle.hx_law_chains.proofs.World.{before-stays, done-stays, everywhere-stays, fixed-stays, here-stays, lawful-known, lawful-made, lawful-numbered}
+use Rattle.hx_law_chains.proofs.World.{route-known, ways}
 
 module _ (script : Script) (valid : IsSpace script.space) (w : World) (o : Ordered w) (c2 : Config) (grown : GrownOut w.config c2)
     (newer : w.config.epoch.0 < c2.epoch.0) (differ : (g : RegionId) → Differ (members_of c2 g)) (listed : ListsServers c2)
@@ -25,7 +25,7 @@ module _ (script : Script) (valid : IsSpace script.space) (w : World) (o : Order
     (seat2 : (key : List ℕ) (g : RegionId) (s : ServerId) → w.installed g s → IsIn s (order c2 g) → (t : KeyState) × holds2 key g s t)
     (split : (c : Config) → known2 c → w.known c ⊎ (c ≡ c2)) (more : (c : Config) → w.known c → known2 c) (known_new : known2 c2) where
   -- where all stand after: who the new one doesn't list holds nothing any more
-  abbrev pub next : World
+  abbrev next : World
   next = record { config = c2; own = w.own; up = w.up; line = w.line; holds = holds2; installed = w.installed; known = known2 }
 
   -- who is listed was listed, if it was ever
@@ -47,7 +47,7 @@ module _ (script : Script) (valid : IsSpace script.space) (w : World) (o : Order
       }
 
   -- configurations stay in order
-  pub ordered_issued : Ordered next
+  ordered_issued : Ordered next
   ordered_issued = record {
     differ = λ c k. elim (split c k) [ inl h ↦ o.differ c h | inr e ↦ subst (λ (x : Config). (g : RegionId) → Differ (members_of x g)) (sym e) differ ];
     listed = λ c k. elim (split c k) [ inl h ↦ o.listed c h | inr e ↦ subst ListsServers (sym e) listed ];
@@ -77,30 +77,16 @@ module _ (script : Script) (valid : IsSpace script.space) (w : World) (o : Order
     stood u g s h x i (p, inl a) = (p, inl a)
     stood u g s h x i (p, inr (e, a)) = (p, inr (e, grown.same_order g s x (subst (λ (r : RegionId). IsIn x (order w.config r)) (sym e) i) a))
 
-    -- what was accepted before a position stays so
-    before_issued : (g : RegionId) (s : ServerId) (u : Update) → IsIn s (order w.config g) → Before script w key g s u → Before script next key g s u
-    before_issued g s u i b h x t k a = b h x t (sub key h x t k).0 (stood u h x g s i a)
-
-    -- what was committed after it too
-    after_issued : (g : RegionId) (s : ServerId) (u : Update) → After script w key g s u → After script next key g s u
-    after_issued g s u b h x t k a = (let q = (sub key h x t k).0 in b h x t q (stood u g s h x (ok.listed h x t q) a))
-
-    -- what is committed along chains stays so
-    pub along_issued : (v : ℕ) → Along script w key v → Along script next key v
-    along_issued v a u i q g s t k p = a u i q g s t (sub key g s t k).0 p
-
-    -- what is fixed stays so
-    pub fixed_issued : (v : ℕ) → Fixed script w key v → Fixed script next key v
-    fixed_issued v a = (a.0, λ s t k. a.1 s t (sub key (key_region script.space key) s t k).0)
-
-    -- what a reply tells stays true
-    pub told_issued : (c : Caller) (v : Version) (a : Answer) (op : Op) → Told script w key c v a op → Told script next key c v a op
-    told_issued c v a op (inl h) = inl h
-    told_issued c v a op (inr (inl h)) = inr (inl (h.0, h.1, along_issued v.0 h.2))
-    told_issued c v a op (inr (inr h)) = inr (inr (h.0, h.1, h.2, along_issued v.0 h.3))
+    -- each holder was one
+    comes : Comes script w next key
+    comes = record {
+      source = λ g s t k. record { old = t; held = (sub key g s t k).0; top = omega arith; floor = omega arith };
+      stood = stood;
+      listed = ok.listed;
+    }
 
     -- what holds of the key after
-    pub key_issued : KeyOk script next key
+    key_issued : KeyOk script next key
     key_issued = record {
       lawful = lawful-known script w.known next.known key (w.line key) more ok.lawful;
       listed = λ g s t k. (sub key g s t k).1;
@@ -108,7 +94,12 @@ module _ (script : Script) (valid : IsSpace script.space) (w : World) (o : Order
           own_rely g (length (w.line key)) (w.line key) (w.line key) (around script w key g s) (around script next key g s) t (more_same (w.line key))
           own.top_line
           (λ u h. (in-below (w.line key) u (lawful-numbered script w.known key (w.line key) ok.lawful) h.stands).1)
-          (record { waits = λ u h. h; before = λ u. before_issued g s u (ok.listed g s t old); after = λ u. after_issued g s u; closed = λ u h. h }) own);
+          (record {
+            waits = λ u h. h;
+            before = λ u. before-stays script w next key comes g s u (ok.listed g s t old);
+            after = after-stays script w next key comes g s;
+            closed = λ u h. h;
+          }) own);
       clear = λ s c m g i none z t k b. elim (split c m.known) [
         | inl h ↦ ok.clear s c (record { up = m.up; known = h; later = m.later }) g i none z t (sub key g z t k).0
             (grown.same_order g s z (ok.listed g z t (sub key g z t k).0) b)
@@ -136,73 +127,53 @@ module _ (script : Script) (valid : IsSpace script.space) (w : World) (o : Order
         (after-order x s (members_of c2 r) (differ r) b.after).0 in
         head-nobody c g s x (o.differ c k g) a.head ((from-each c k).same_order g x s si f))
 
-    -- the first of two neighbours is listed
-    first-listed : (places : List Place) (q : RegionId) (x : ServerId) (g : RegionId) (s : ServerId) → Hops c2 places q x g s → IsIn x (order c2 q)
-    first-listed places q x g s (inl a) = (before-in x s (order c2 q) (after-order x s (members_of c2 q) (differ q) a.after).0).0
-    first-listed places q x g s (inr a) = a.first_in
-
-    -- so is the second
-    second-listed : (places : List Place) (q : RegionId) (x : ServerId) (g : RegionId) (s : ServerId) → Hops c2 places q x g s → IsIn s (order c2 g)
-    second-listed places q x g s (inl a) = subst (λ (r : RegionId). IsIn s (order c2 r)) (sym a.same)
-        (before-in x s (order c2 q) (after-order x s (members_of c2 q) (differ q) a.after).0).1
-    second-listed places q x g s (inr a) = (head-order c2 g s a.head).0
-
     -- an update that comes to be heard: its sender is the neighbour before, has accepted it, and so has whoever stands before that
     module _ (x : ServerId) (g : RegionId) (s : ServerId) (u : Update) (h : UpdateOk script w key x g s u) where
+      open h use {route}
+      open route use {region as q}
+
       newly-sent : (n : ℕ) → IsIn s (order c2 g) → prev_of c2 u.places (place_number g u.places) s ≡ At x n → Sending script next key g s u
       newly-sent n i e =
-          let l = placed-number u.places g h.placed in
-          let hop = prev-hops c2 u.places h.apart differ g l s i x n e in
-          let xi = first-listed u.places (region_at u.places n) x g s hop in
-          let same = one-region u.places h.apart h.route.config h.route.known h.region x g s l h.route.first_in h.route.second_in h.route.hops
+          let l = placed-number u.places g route.placed in
+          let hop = prev-hops c2 u.places route.apart differ g l s i x n e in
+          let xi = hops-first c2 differ u.places (region_at u.places n) x g s hop in
+          let same = one-region u.places route.apart route.config route.known q x g s l route.first_in route.second_in route.hops
           (region_at u.places n) i xi hop in
           by (subst (λ (r : RegionId). Hops c2 u.places r x g s) same hop) (subst (λ (r : RegionId). IsIn x (order c2 r)) same xi)
         where
-          by : Hops c2 u.places h.region x g s → IsIn x (order c2 h.region) → Sending script next key g s u
+          by : Hops c2 u.places q x g s → IsIn x (order c2 q) → Sending script next key g s u
           by hop xi =
-              let xo = was-listed h.route.config h.route.known h.region x h.route.first_in xi in
+              let xo = was-listed route.config route.known q x route.first_in xi in
               let a = h.accepted xo in
-              let seat = o.seat key h.region x h.from xo in
-              let taken = (ok.own h.region x seat.0 seat.1).taken u a.0 h.sender_placed (a.1 seat.0 seat.1) in
+              let seat = o.seat key q x h.from xo in
+              let taken = (ok.own q x seat.0 seat.1).taken u a.0 route.sender_placed (a.1 seat.0 seat.1) in
               record {
                 stands = a.0;
                 listed = i;
-                before = λ k z t hold ah. elim (none-before c2 c2 (grown-out-self c2) listed u.places h.apart differ differ h.region x g s
-                    (placed-number u.places h.region h.sender_placed) xi i xi hop k z (sub key k z t hold).1
-                    (λ e none b. after-nobody x (members_of c2 h.region) (differ h.region) none z b) ah) [
-                      | inl q ↦ a.1 t (subst (λ (y : ServerId). w.holds key h.region y t) q.1
-                          (subst (λ (r : RegionId). w.holds key r z t) q.0 (sub key k z t hold).0))
-                      | inr q ↦ taken k z t (sub key k z t hold).0 (stood u k z h.region x xo q)
+                before = λ k z t hold ah. elim (none-before c2 c2 (grown-out-self c2) listed u.places route.apart differ differ q x g s
+                    (placed-number u.places q route.sender_placed) xi i xi hop k z (sub key k z t hold).1
+                    (λ e none b. after-nobody x (members_of c2 q) (differ q) none z b) ah) [
+                      | inl m ↦ a.1 t (subst (λ (y : ServerId). w.holds key q y t) m.1
+                          (subst (λ (r : RegionId). w.holds key r z t) m.0 (sub key k z t hold).0))
+                      | inr m ↦ taken k z t (sub key k z t hold).0 (stood u k z q x xo m)
                     ];
               }
 
       -- an update under way stays true
-      pub update_issued : UpdateOk script next key x g s u
+      update_issued : UpdateOk script next key x g s u
       update_issued = record {
-        region = h.region;
+        route = route-known w.known known2 more x g s u route;
         from = h.from;
-        placed = h.placed;
-        sender_placed = h.sender_placed;
-        apart = h.apart;
-        route = record {
-          config = h.route.config;
-          known = more h.route.config h.route.known;
-          first_in = h.route.first_in;
-          second_in = h.route.second_in;
-          hops = h.route.hops;
-        };
-        accepted = λ i. (let a = h.accepted (was-listed h.route.config h.route.known h.region x h.route.first_in i) in
-            (a.0, λ t k. a.1 t (sub key h.region x t k).0));
+        accepted = λ i. (let a = h.accepted (was-listed route.config route.known q x route.first_in i) in
+            (a.0, here-stays script w next key comes q x u a.1));
         heard = λ y. elim (split y.config y.may.known) [
-          | inl k ↦ (let z = h.heard (record {
-            config = y.config;
-            may = record { up = y.may.up; known = k; later = y.may.later };
-            listed = y.listed;
-            place =
-                y.place;
-            at = y.at;
-          }) in
-              record { stands = z.stands; listed = grown.stays g s (all_up s y.may.up) z.listed; before = before_issued g s u z.listed z.before })
+          | inl k ↦ (let may : May (ways w) s y.config = record { up = y.may.up; known = k; later = y.may.later } in
+              let z = h.heard (record { config = y.config; may = may; listed = y.listed; place = y.place; at = y.at }) in
+              record {
+                stands = z.stands;
+                listed = grown.stays g s (all_up s y.may.up) z.listed;
+                before = before-stays script w next key comes g s u z.listed z.before;
+              })
           | inr e ↦ newly-sent y.place (subst (λ (c : Config). IsIn s (order c g)) e y.listed)
               (subst (λ (c : Config). prev_of c u.places (place_number g u.places) s ≡ At x y.place) e y.at)
         ];
@@ -226,7 +197,7 @@ module _ (script : Script) (valid : IsSpace script.space) (w : World) (o : Order
         where
           after : Hops c2 u.places g s by x → After script next key g s u
           after hop k z t hold ah =
-              let xi = second-listed u.places g s by x hop in
+              let xi = hops-second c2 differ u.places g s by x hop in
               let xo = was-listed (w.own x) (o.own x) by x (o.home by x h.from) xi in
               let seat = o.seat key by x h.from xo in
               let done = h.committed xo in
@@ -239,7 +210,7 @@ module _ (script : Script) (valid : IsSpace script.space) (w : World) (o : Order
               ]
 
       -- an acknowledgement under way stays true
-      pub ack_issued : AckOk script next key x by g s v
+      ack_issued : AckOk script next key x by g s v
       ack_issued = record {
         update = h.update;
         stands = h.stands;
@@ -247,20 +218,24 @@ module _ (script : Script) (valid : IsSpace script.space) (w : World) (o : Order
         from = h.from;
         placed = h.placed;
         sender_placed = h.sender_placed;
-        everywhere = λ k z t hold p. h.everywhere k z t (sub key k z t hold).0 p;
-        committed = λ i t k. h.committed (was-listed (w.own x) (o.own x) by x (o.home by x h.from) i) t (sub key by x t k).0;
+        everywhere = everywhere-stays script w next key comes u h.everywhere;
+        committed = λ i. done-stays script w next key comes by x u (h.committed (was-listed (w.own x) (o.own x) by x (o.home by x h.from) i));
         heard = λ y. elim (split y.config y.may.known) [
-          | inl k ↦ (let z = h.heard (record {
-            config = y.config;
-            may = record { up = y.may.up; known = k; later = y.may.later };
-            listed = y.listed;
-            place =
-                y.place;
-            at = y.at;
-            region = y.region;
-          }) in
-              (grown.stays g s (all_up s y.may.up) z.0, after_issued g s u z.1))
+          | inl k ↦ (let may : May (ways w) s y.config = record { up = y.may.up; known = k; later = y.may.later } in
+              let z = h.heard (record { config = y.config; may = may; listed = y.listed; place = y.place; at = y.at; region = y.region }) in
+              (grown.stays g s (all_up s y.may.up) z.0, after-stays script w next key comes g s u z.1))
           | inr e ↦ newly-acked y.place (subst (λ (c : Config). IsIn s (order c g)) e y.listed)
               (subst (λ (c : Config). next_of c u.places (place_number g u.places) s ≡ At x y.place) e y.at) y.region
         ];
       }
+
+  -- what is kept of all
+  pub stays_issued : ((key : List ℕ) → KeyOk script w key) → Stays script w next
+  stays_issued ok = record {
+    ordered = ordered_issued;
+    keys = λ key. key_issued key (ok key);
+    valid = valid_up script w next (λ key. update_issued key (ok key)) (λ key. ack_issued key (ok key))
+        (λ key. told_up script w next key (length (w.line key)) (ok key) (more_same (w.line key)) (λ v f. f.0)
+        (λ v l. along-stays script w next key (comes key (ok key)) v (λ u i q. i)));
+    fixed = λ key v f. fixed-stays script w next key (comes key (ok key)) v f.0 f;
+  }

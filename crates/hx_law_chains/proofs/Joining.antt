@@ -1,5 +1,5 @@
 -- What is kept of a key when snapshots are sent: each is a holder right after its sender, with what the sender has.
-use Rattle.std.proofs.Common.{◌≡◌, ℕ, ◌≤◌, ◌⊎◌, inl, inr, true, List, None, Some, refl, sym, ap, ◌∙◌, subst, arith}
+use Rattle.std.proofs.Common.{◌≡◌, ℕ, ◌≤◌, ◌⊎◌, inl, inr, true, List, length, None, Some, refl, sym, ap, ◌∙◌, subst, arith}
 use Rattle.hx_model.specs.Types.{At, Config, Place, RegionId, Script, ServerId, Update}
 use Rattle.hx_types.specs.Words.{IsBefore, IsIn}
 use Rattle.hx_types.specs.Configs.{members_of}
@@ -8,18 +8,17 @@ use Rattle.hx_model.specs.Holders.{IsPrefix}
 use Rattle.hx_model.specs.Neighbours.{member_after, place_number}
 use Rattle.hx_model.specs.Regions.{key_region}
 use Rattle.hx_model.specs.Slots.{Forget, KeyState, has_place, moved, top_of}
-use Rattle.hx_law_lemmas.proofs.Lemmas.{Apart, Differ, region-is, places-apart, after-nobody, after-order, before-in, before-trans}
-use Rattle.hx_law_folds.proofs.Lemmas.{top-folded, prefix-folded}
-use Rattle.hx_law_epochs.proofs.Lemmas.{Adjacent, HasPlace, PrecedesInChain, adjacent-within, next-within, place-at, placed-number, stands-irreflexive}
-use Rattle.hx_law_epochs.proofs.Lemmas.{stands-trans, GrownOut}
+use Rattle.hx_law_lemmas.proofs.Lemmas.{Apart, Differ, after-nobody, after-order, before-in, before-trans, more_same, places-apart, region-is}
+use Rattle.hx_law_folds.proofs.Lemmas.{prefix-folded, top-folded}
 use Rattle.hx_law_folds.specs.Folding.{IsSlotOf, folded}
+use Rattle.hx_law_epochs.proofs.Lemmas.{Adjacent, GrownOut, HasPlace, PrecedesInChain, adjacent-within, next-within, place-at, stands-irreflexive, stands-trans}
 use Rattle.hx_law_epochs.specs.Epochs.{order}
-use Rattle.hx_law_chains.proofs.Lines.{sorted-descends}
 use Rattle.hx_law_chains.proofs.Hops.{next-hops}
+use Rattle.hx_law_chains.proofs.Keys.{Change, changed, ordered_up, told_up, valid_up}
+use Rattle.hx_law_chains.proofs.Lines.{sorted-descends}
 use Rattle.hx_law_chains.proofs.Moves.{Own}
-use Rattle.hx_law_chains.proofs.Keys.{Change, changed}
-use Rattle.hx_law_chains.proofs.World.{AckOk, After, Ahead, Along, Before, Closed, Filled, Fixed, HearsAck, Here, KeyOk, May, Ordered, UpdateOk, World}
-use Rattle.hx_law_chains.proofs.World.{around, lawful-made, lawful-sorted}
+use Rattle.hx_law_chains.proofs.World.{AckOk, After, Ahead, Along, Before, Closed, Filled, Fixed, HearsAck, KeyOk, May, Ordered, Stays, UpdateOk, World, around}
+use Rattle.hx_law_chains.proofs.World.{lawful-made, lawful-sorted, ways}
 
 -- who stands before another has a place
 pub first-placed : (c : Config) (places : List Place) (g : RegionId) (s : ServerId) (h : RegionId) (x : ServerId) → PrecedesInChain c places g s h x
@@ -81,7 +80,8 @@ module _ (script : Script) (valid : IsSpace script.space) (w : World) (o : Order
         }
 
     -- the joiner stands after its sender in each configuration that the sender may come to have
-    joiner-stands : (h : RegionId) (x : ServerId) (t : KeyState) (k : Twin script w key h x t) (c : Config) → May w k.sender c → IsIn k.sender (order c h)
+    joiner-stands : (h : RegionId) (x : ServerId) (t : KeyState) (k : Twin script w key h x t) (c : Config) → May (ways w) k.sender c
+        → IsIn k.sender (order c h)
         → IsBefore k.sender x (order c h)
     joiner-stands h x t k c m i =
         let first = after-order k.sender x (members_of (w.own k.sender) h) (o.differ (w.own k.sender) (o.own k.sender) h) k.by_own in
@@ -114,15 +114,6 @@ module _ (script : Script) (valid : IsSpace script.space) (w : World) (o : Order
           let e = c.top in
           omega (arith, d, e)
 
-      -- what was accepted at it too
-      here_joined : (g : RegionId) (s : ServerId) → has_place g u ≡ true → Before script w key g s u → Here script w key g s u → Here script now key g s u
-      here_joined g s p b h t k =
-          let c = source g s t k in
-          elim c.is [
-            | inl e ↦ (let d = h c.old (subst (λ (y : ServerId). w.holds key g y c.old) e.0 c.held) in let f = c.top in omega (arith, d, f))
-            | inr e ↦ (let d = b g c.from c.old c.held (near g c.from s (placed-number u.places g p) e.1).stands in let f = c.top in omega (arith, d, f))
-          ]
-
       -- a position before a new holder is its sender's, or stands before that
       before-sender : (g : RegionId) (s : ServerId) → IsIn s (order w.config g) → (h : RegionId) (i x : ServerId)
           → member_after i (members_of w.config h) ≡ Some x → Ahead script w key u g s h x
@@ -134,18 +125,19 @@ module _ (script : Script) (valid : IsSpace script.space) (w : World) (o : Order
           → s ≡ k.sender → Closed script w key g s u → ⊥
       not-closed g s h x t p k e f c =
           let i = k.sender in
-          let c1 : Closed script w key h i u = subst (λ (y : ServerId). Closed script w key h y u) f (subst (λ (r : RegionId). Closed script w key r s u) e c) in
+          let c1 : Closed script w key h i u = subst (λ (y : ServerId). Closed script w key h y u) f
+          (subst (λ (r : RegionId). Closed script w key r s u) e c) in
           let c2 : Filled script w key u (At x (place_number h u.places)) = subst (Filled script w key u)
           (next-within (w.own i) u.places (apart u stands) (o.differ (w.own i) (o.own i)) h p i x k.by_own) c1 in
           k.empty (subst (λ (r : RegionId). w.installed r x) (let q = place-at u.places h p in region-is u.places (place_number h u.places) q.0 q.1 ∙ q.2) c2)
 
       -- nor right after one that may hear an acknowledgement: it would come from the joiner, which isn't installed
-      not-heard : (y : ServerId) (by : RegionId) (g : RegionId) (s : ServerId) → HearsAck w y by g s u → w.installed by y
+      not-heard : (y : ServerId) (by : RegionId) (g : RegionId) (s : ServerId) → HearsAck (ways w) y by g s u → w.installed by y
           → (h : RegionId) (x : ServerId) (t : KeyState) → HasPlace u.places h → (k : Twin script w key h x t) → g ≡ h → s ≡ k.sender → ⊥
       not-heard y by g s hears from h x t p k e f = found
-          (subst (λ (r : RegionId). HearsAck w y by r k.sender u) e (subst (λ (z : ServerId). HearsAck w y by g z u) f hears))
+          (subst (λ (r : RegionId). HearsAck (ways w) y by r k.sender u) e (subst (λ (z : ServerId). HearsAck (ways w) y by g z u) f hears))
         where
-          found : HearsAck w y by h k.sender u → ⊥
+          found : HearsAck (ways w) y by h k.sender u → ⊥
           found a = elim (next-hops c u.places (apart u stands) dc h p k.sender a.listed y a.place a.at) [
             | inl b ↦ (let z = after-order k.sender y (members_of c h) (dc h) b.after in
                 elim (z.2 x joiner-after) [
@@ -234,7 +226,7 @@ module _ (script : Script) (valid : IsSpace script.space) (w : World) (o : Order
           ]
 
     -- what is committed along chains stays so
-    pub along_joined : (v : ℕ) → Along script w key v → Along script now key v
+    along_joined : (v : ℕ) → Along script w key v → Along script now key v
     along_joined v a u i q g s t k p =
         let c = source g s t k in
         let b = a u i q g c.from c.old c.held p in
@@ -242,34 +234,23 @@ module _ (script : Script) (valid : IsSpace script.space) (w : World) (o : Order
         omega (arith, b, f)
 
     -- what is fixed stays so
-    pub fixed_joined : (v : ℕ) → Fixed script w key v → Fixed script now key v
+    fixed_joined : (v : ℕ) → Fixed script w key v → Fixed script now key v
     fixed_joined v f = (
       f.0,
       λ s t k. (let c = source (key_region script.space key) s t k in let b = f.1 c.from c.old c.held in let e = c.top in omega (arith, b, e)),
     )
 
     -- an update under way stays true
-    pub update_joined : (x : ServerId) (g : RegionId) (s : ServerId) (u : Update) → UpdateOk script w key x g s u → UpdateOk script now key x g s u
+    update_joined : (x : ServerId) (g : RegionId) (s : ServerId) (u : Update) → UpdateOk script w key x g s u → UpdateOk script now key x g s u
     update_joined x g s u h = record {
-      region = h.region;
+      route = h.route;
       from = h.from;
-      placed = h.placed;
-      sender_placed = h.sender_placed;
-      apart = h.apart;
-      route = record { config = h.route.config; known = h.route.known; first_in = h.route.first_in; second_in = h.route.second_in; hops = h.route.hops };
-      accepted = λ i. (let a = h.accepted i in (a.0, λ t k. elim k [ inl z ↦ a.1 t z | inr z ↦ absurd ((twins key h.region x t z).empty h.from) ]));
-      heard = λ y. (let z = h.heard (record {
-        config = y.config;
-        may = record { up = y.may.up; known = y.may.known; later = y.may.later };
-        listed = y.listed;
-        place = y.place;
-        at = y.at;
-      }) in
-          record { stands = z.stands; listed = z.listed; before = before_joined u z.stands g s z.before });
+      accepted = λ i. (let a = h.accepted i in (a.0, λ t k. elim k [ inl z ↦ a.1 t z | inr z ↦ absurd ((twins key h.route.region x t z).empty h.from) ]));
+      heard = λ y. (let z = h.heard y in record { stands = z.stands; listed = z.listed; before = before_joined u z.stands g s z.before });
     }
 
     -- and an acknowledgement
-    pub ack_joined : (x : ServerId) (by : RegionId) (g : RegionId) (s : ServerId) (v : ℕ) → AckOk script w key x by g s v → AckOk script now key x by g s v
+    ack_joined : (x : ServerId) (by : RegionId) (g : RegionId) (s : ServerId) (v : ℕ) → AckOk script w key x by g s v → AckOk script now key x by g s v
     ack_joined x by g s v h = record {
       update = h.update;
       stands = h.stands;
@@ -279,17 +260,8 @@ module _ (script : Script) (valid : IsSpace script.space) (w : World) (o : Order
       sender_placed = h.sender_placed;
       everywhere = λ k z t hold p. (let c = source k z t hold in let d = h.everywhere k c.from c.old c.held p in let e = c.top in omega (arith, d, e));
       committed = λ i t k. elim k [ inl z ↦ h.committed i t z | inr z ↦ absurd ((twins key by x t z).empty h.from) ];
-      heard = λ y. (let y0 : HearsAck w x by g s h.update =
-          record {
-            config = y.config;
-            may = record { up = y.may.up; known = y.may.known; later = y.may.later };
-            listed = y.listed;
-            place = y.place;
-            at = y.at;
-            region = y.region;
-          } in
-          let z = h.heard y0 in
-          (z.0, after_joined h.update h.stands g s z.0 (λ h2 k t p m e f. not-heard h.update h.stands x by g s y0 h.from h2 k t p m e f) z.1));
+      heard = λ y. (let z = h.heard y in
+          (z.0, after_joined h.update h.stands g s z.0 (λ h2 k t p m e f. not-heard h.update h.stands x by g s y h.from h2 k t p m e f) z.1));
     }
 
     -- what a holder relies on
@@ -316,7 +288,8 @@ module _ (script : Script) (valid : IsSpace script.space) (w : World) (o : Order
             version = k.version;
             placed = k.placed;
             before = before_joined k.update k.stands g s k.before;
-            after = after_joined k.update k.stands g s (ok.listed g s t h) (λ h2 x t2 p m e f. not-closed k.update k.stands g s h2 x t2 p m e f k.closed) k.after;
+            after = after_joined k.update k.stands g s (ok.listed g s t h)
+                (λ h2 x t2 p m e f. not-closed k.update k.stands g s h2 x t2 p m e f k.closed) k.after;
             closed = k.closed;
             low = k.low;
           });
@@ -326,7 +299,8 @@ module _ (script : Script) (valid : IsSpace script.space) (w : World) (o : Order
       low = omega arith;
       top_line = (let b = own.top_line in let e = top in omega (arith, b, e));
       top_is = elim own.top_is [ inl e ↦ inl (top ∙ e) | inr u ↦ inr (u.0, u.1, u.2, u.3 ∙ sym top) ];
-      taken = λ u i p l. taken_joined u i g s t (inr n) p (let e : top_of t ≡ top_of (moved Forget (folded g x.old)) = ap top_of x.state in omega (arith, l, e));
+      taken = λ u i p l. taken_joined u i g s t (inr n) p
+          (let e : top_of t ≡ top_of (moved Forget (folded g x.old)) = ap top_of x.state in omega (arith, l, e));
       freed = λ u i p l. freed_joined u i g s t (inr n) p (let e : t.floor ≡ x.old.floor = ap (λ (y : KeyState). y.floor) x.state in omega (arith, l, e));
       early = λ u i. absurd i;
       acked = λ v i. absurd i;
@@ -345,20 +319,15 @@ module _ (script : Script) (valid : IsSpace script.space) (w : World) (o : Order
         top = top-folded g x.old x.slot.floor
 
     -- what holds of the key after
-    pub key_joined : KeyOk script now key
-    key_joined = record {
-      lawful = ok.lawful;
-      listed = λ g s t k. listed g s t k;
-      own = own_joined;
-      clear = λ s c m g i none z t k b. clear s c (record { up = m.up; known = m.known; later = m.later }) g i none z t k b;
-    }
+    key_joined : KeyOk script now key
+    key_joined = record { lawful = ok.lawful; listed = listed; own = own_joined; clear = clear }
       where
         listed : (g : RegionId) (s : ServerId) (t : KeyState) → now.holds key g s t → IsIn s (order w.config g)
         listed g s t (inl h) = ok.listed g s t h
         listed g s t (inr n) = (let x = twins key g s t n in
             (before-in x.sender s (order w.config g) (after-order x.sender s (members_of w.config g) (differ g) x.next).0).1)
 
-        clear : (s : ServerId) (c : Config) → May w s c → (g : RegionId) → IsIn s (order c g) → member_after s (members_of c g) ≡ None
+        clear : (s : ServerId) (c : Config) → May (ways w) s c → (g : RegionId) → IsIn s (order c g) → member_after s (members_of c g) ≡ None
             → (z : ServerId) (t : KeyState) → now.holds key g z t → IsBefore s z (order w.config g) → ⊥
         clear s c m g i none z t (inl h) b = ok.clear s c m g i none z t h b
         clear s c m g i none z t (inr h) b =
@@ -367,20 +336,21 @@ module _ (script : Script) (valid : IsSpace script.space) (w : World) (o : Order
             elim (n.1 s b) [
               | inl q ↦ after-nobody s (members_of c g) (o.differ c m.known g) none z
                   (subst (λ (y : ServerId). IsBefore y z (order c g)) (sym q)
-                  (joiner-stands g z t x c (subst (λ (y : ServerId). May w y c) q m) (subst (λ (y : ServerId). IsIn y (order c g)) q i)))
+                  (joiner-stands g z t x c (subst (λ (y : ServerId). May (ways w) y c) q m) (subst (λ (y : ServerId). IsIn y (order c g)) q i)))
               | inr q ↦ ok.clear s c m g i none x.sender x.old x.held q
             ]
 
-    -- configurations stay in order
-    pub ordered_joined : Ordered now
-    ordered_joined = record {
-      differ = o.differ;
-      listed = o.listed;
-      grown = o.grown;
-      newest = o.newest;
-      last = o.last;
-      own = o.own;
-      home = o.home;
-      up = o.up;
-      seat = λ k g s i l. (let h = o.seat k g s i l in (h.0, inl h.1));
-    }
+-- what is kept of all
+pub stays_joined : (script : Script) (valid : IsSpace script.space) (w : World) (o : Ordered w) (new : List ℕ → RegionId → ServerId → KeyState → Type 0)
+    (twins : (key : List ℕ) (g : RegionId) (s : ServerId) (t : KeyState) → new key g s t → Twin script w key g s t)
+    → ((key : List ℕ) → KeyOk script w key) → Stays script w (changed w (joined w new))
+stays_joined script valid w o new twins ok = record {
+  ordered = ordered_up w o (joined w new) o.home (λ k g s i l. (let h = o.seat k g s i l in (h.0, inl h.1)));
+  keys = λ key. key_joined script valid w o new twins key (ok key);
+  valid = valid_up script w (changed w (joined w new))
+      (λ key x g s u h. update_joined script valid w o new twins key (ok key) x g s u h)
+      (λ key x by g s v h. ack_joined script valid w o new twins key (ok key) x by g s v h)
+      (λ key. told_up script w (changed w (joined w new)) key (length (w.line key)) (ok key) (more_same (w.line key)) (λ v f. f.0)
+      (λ v l a. along_joined script valid w o new twins key (ok key) v a));
+  fixed = λ key v f. fixed_joined script valid w o new twins key (ok key) v f;
+}

@@ -1,42 +1,46 @@
 -- What is kept of a key when its holders move.
-use Rattle.hx_model.specs.Lines.{line_object}
 use Rattle.std.proofs.Common.{◌≡◌, ℕ, ◌≤◌, ◌⊎◌, inl, inr, true, List, length, Option, None, Some, refl, sym, ap, ◌∙◌, subst, arith}
 use Rattle.std.proofs.lemmas.Bool.{cases_eq}
-use Rattle.hx_model.specs.Types.{Actor, Answer, At, Blocked, Caller, Config, End, Hop, Message, Op, RegionId, Script, ServerId, Update, Version}
+use Rattle.hx_model.specs.Types.{Actor, Answer, Caller, Config, Message, Op, RegionId, Script, ServerId, Update, Version}
 use Rattle.hx_types.specs.declared.messages.Message.TheVariants as a_message
 use Rattle.hx_types.specs.Words.{IsBefore, IsIn}
 use Rattle.hx_types.specs.Configs.{head_of, members_of}
 use Rattle.hx_types.specs.Spaces.{IsSpace}
+use Rattle.hx_model.specs.Lines.{line_object}
 use Rattle.hx_model.specs.Neighbours.{member_before, place_number, region_at}
 use Rattle.hx_model.specs.Regions.{key_region}
 use Rattle.hx_model.specs.ServerSteps.{get_answer}
-use Rattle.hx_model.specs.Slots.{Acknowledge, Commit, Forget, Hold, KeyState, Move, Take, after_at, has_place, moved_all, top_of}
-use Rattle.hx_law_lemmas.proofs.Lemmas.{numbered-within as in-below, Differ, after-before, first-listed, after-order, head-nobody, head-order, in-listed}
-use Rattle.hx_law_lemmas.proofs.Lemmas.{places-apart, Following, following-line as follows-line, passes-key, More, more_same, version-there, at_server}
-use Rattle.hx_law_lemmas.proofs.Lemmas.{at_server-map, at_session-map}
-use Rattle.hx_law_epochs.proofs.Lemmas.{leader-stands, placed-number, GrownOut}
+use Rattle.hx_model.specs.Slots.{Acknowledge, Commit, Forget, Hold, KeyState, Move, Take, has_place, moved_all, top_of}
+use Rattle.hx_law_lemmas.proofs.Lemmas.{Differ, More, after-before, after-order, at_server, at_server-map, at_session-map, first-listed}
+use Rattle.hx_law_lemmas.proofs.Lemmas.{following-line as follows-line, head-nobody, head-order, in-listed, more_same, numbered-within as in-below, only}
+use Rattle.hx_law_lemmas.proofs.Lemmas.{passes-key, places-apart, version-there}
+use Rattle.hx_law_epochs.proofs.Lemmas.{GrownOut, leader-stands, placed-number}
 use Rattle.hx_law_epochs.specs.Epochs.{order}
 use Rattle.hx_law_chains.proofs.Hops.{Hops, prev-hops}
-use Rattle.hx_law_chains.proofs.Moves.{AllAllowed, Kept, Later, Own, Promise, Waiting, kept_same, later-all, own_rely, promised}
-use Rattle.hx_law_chains.proofs.World.{AckOk, After, Ahead, Along, Before, Closed, Done, Everywhere, Filled, Fixed, HearsUpdate, Here, KeyOk, Lawful, Ordered}
-use Rattle.hx_law_chains.proofs.World.{ReplyOk, Sending, Told, UpdateOk, Valid, World, around, law-of, lawful-made, lawful-numbered, lawful-sorted}
+use Rattle.hx_law_chains.proofs.Moves.{AllAllowed, Kept, Later, Lined, Own, Promise, Waiting, kept_same, later-all, own_rely, promised}
 use Rattle.hx_law_chains.proofs.Places.{key-first}
-
--- each update of a lawful line follows at its regions
-pub following : (script : Script) (w : World) (key : List ℕ) (line : List Update) → Lawful script w.known key line → (g : RegionId) (u : Update) (v : ℕ)
-    → IsIn u line → after_at g u ≡ Some v → Following line g u v
-following script w key line lawful g u v i e = follows-line script.space key line (lawful-made script w.known key line lawful) g u v i e
+use Rattle.hx_law_chains.proofs.World.{AckOk, Ahead, Along, Comes, Everywhere, Fixed, HearsUpdate, KeyOk, Lawful, Ordered, ReplyOk, Sending, Stays, Told}
+use Rattle.hx_law_chains.proofs.World.{UpdateOk, Valid, World, after-stays, along-stays, around, before-stays, done-stays, everywhere-stays, filled-stays}
+use Rattle.hx_law_chains.proofs.World.{fixed-stays, here-stays, law-of, lawful-made, lawful-numbered, lawful-sorted, ways}
 
 -- no version is above the line's length
 pub low-in : (script : Script) (w : World) (key : List ℕ) (line : List Update) → Lawful script w.known key line → (u : Update) → IsIn u line
     → u.version.0 ≤ length line
 low-in script w key line lawful u i = (in-below line u (lawful-numbered script w.known key line lawful) i).1
 
+-- a lawful line is sorted, and each of its updates follows at its regions
+pub lined : (script : Script) (w : World) (key : List ℕ) (line : List Update) → Lawful script w.known key line → (g : RegionId) → Lined line g
+lined script w key line lawful g = record {
+  sorted = lawful-sorted script w.known key line lawful;
+  low = low-in script w key line lawful;
+  following = follows-line script.space key line (lawful-made script w.known key line lawful) g;
+}
+
 -- nothing that is held, may be heard, was acknowledged or is fixed is above n
 pub record Below (script : Script) (w : World) (key : List ℕ) (n : ℕ) : Type 0 where
   pub held : (g : RegionId) (s : ServerId) (t : KeyState) → w.holds key g s t → top_of t ≤ n
   pub early : (g : RegionId) (s : ServerId) (u : Update) → IsIn s (order w.config g) → Waiting (w.line key) g (around script w key g s) u → u.version.0 ≤ n
-  pub sent : (x : ServerId) (g : RegionId) (s : ServerId) (u : Update) → has_place g u ≡ true → HearsUpdate w x g s u → Sending script w key g s u
+  pub sent : (x : ServerId) (g : RegionId) (s : ServerId) (u : Update) → has_place g u ≡ true → HearsUpdate (ways w) x g s u → Sending script w key g s u
       → u.version.0 ≤ n
   pub acked : (u : Update) → IsIn u (w.line key) → Everywhere script w key u → u.version.0 ≤ n
   pub fixed : (v : ℕ) → Fixed script w key v → v ≤ n
@@ -61,6 +65,30 @@ still-head c n grown g i dc dn head ic il = first-listed n g i (in-listed n g i 
     none (Some x) e = absurd (head-nobody c g i x dc head
         (grown.same_order g x i ic (after-order x i (members_of n g) dn (after-before i x (members_of n g) dn e)).0))
 
+-- an update comes to a leader from nobody
+pub not-to-lead : (script : Script) (valid : IsSpace script.space) (w : World) (o : Ordered w) (key : List ℕ) → KeyOk script w key → (i : ServerId)
+    → head_of (w.own i) (key_region script.space key) ≡ Some i → (x : ServerId) (u : Update) → IsIn u (w.line key)
+    → HearsUpdate (ways w) x (key_region script.space key) i u → ⊥
+not-to-lead script valid w o key ok i own_lead x u j y =
+    let law = law-of script w.known key (w.line key) u ok.lawful j in
+    let l = placed-number u.places g (passes-key script.space key law.0 u law.1.made) in
+    let apart = places-apart script.space valid key (w.line key) (lawful-made script w.known key (w.line key) ok.lawful) u j in
+    by (key-first script.space key law.0 u law.1.made) (prev-hops y.config u.places apart dc g l i y.listed x y.place y.at)
+  where
+    g : RegionId
+    g = key_region script.space key
+
+    dc : (r : RegionId) → Differ (members_of y.config r)
+    dc = o.differ y.config y.may.known
+
+    by : place_number g u.places ≡ 0 → Hops y.config u.places (region_at u.places y.place) x g i → ⊥
+    by z (inr a) = let b = a.up in omega (arith, z, b)
+    by z (inl a) =
+        let f : IsBefore x i (order y.config g) = subst (λ (r : RegionId). IsBefore x i (order y.config r)) (sym a.same)
+        (after-order x i (members_of y.config (region_at u.places y.place)) (dc (region_at u.places y.place)) a.after).0 in
+        head-nobody (w.own i) g i x (o.differ (w.own i) (o.own i) g) own_lead
+        ((o.grown (w.own i) y.config (o.own i) y.may.known y.may.later).same_order g x i (head-order (w.own i) g i own_lead).0 f)
+
 -- nothing is above the top of a leader: an update comes to it from nobody
 pub below-lead : (script : Script) (valid : IsSpace script.space) (w : World) (o : Ordered w) (key : List ℕ) → KeyOk script w key
     → (i : ServerId) (t : KeyState) → w.up i → w.holds key (key_region script.space key) i t
@@ -80,8 +108,8 @@ below-lead script valid w o key ok i t up holds only own_lead = record {
     | inr a ↦ k.before (key_region script.space key) i t holds a
   ];
   sent = λ x h s u p y k. elim (stands u k.stands h s p k.listed) [
-    | inl q ↦ absurd (not-to-lead x u k.stands
-        (subst (λ (z : ServerId). HearsUpdate w x (key_region script.space key) z u) q.1 (subst (λ (r : RegionId). HearsUpdate w x r s u) q.0 y)))
+    | inl q ↦ absurd (not-to-lead script valid w o key ok i own_lead x u k.stands
+        (subst (λ (z : ServerId). HearsUpdate (ways w) x (key_region script.space key) z u) q.1 (subst (λ (r : RegionId). HearsUpdate (ways w) x r s u) q.0 y)))
     | inr a ↦ k.before (key_region script.space key) i t holds a
   ];
   acked = λ u j h. h (key_region script.space key) i t holds
@@ -110,23 +138,6 @@ below-lead script valid w o key ok i t up holds only own_lead = record {
         (passes-key script.space key (law-of script w.known key (w.line key) u ok.lawful j).0 u made) in
         leader-stands w.config u.places (places-apart script.space valid key (w.line key) (lawful-made script w.known key (w.line key) ok.lawful) u j)
         differ (key_region script.space key) k (key-first script.space key _ u made) i lead h x (placed-number u.places h p) l
-
-    not-to-lead : (x : ServerId) (u : Update) → IsIn u (w.line key) → HearsUpdate w x (key_region script.space key) i u → ⊥
-    not-to-lead x u j y =
-        let law = law-of script w.known key (w.line key) u ok.lawful j in
-        let l = placed-number u.places (key_region script.space key) (passes-key script.space key law.0 u law.1.made) in
-        let zero_is = key-first script.space key law.0 u law.1.made in
-        let apart = places-apart script.space valid key (w.line key) (lawful-made script w.known key (w.line key) ok.lawful) u j in
-        by zero_is (prev-hops y.config u.places apart (o.differ y.config y.may.known) (key_region script.space key) l i y.listed x y.place y.at)
-      where
-        by : place_number (key_region script.space key) u.places ≡ 0 → Hops y.config u.places (region_at u.places y.place) x (key_region script.space key) i → ⊥
-        by z (inr a) = let b = a.up in omega (arith, z, b)
-        by z (inl a) =
-            let f : IsBefore x i (order y.config (key_region script.space key)) = subst (λ (r : RegionId). IsBefore x i (order y.config r)) (sym a.same)
-            (after-order x i (members_of y.config (region_at u.places y.place)) (o.differ y.config y.may.known (region_at u.places y.place))
-            a.after).0 in
-            head-nobody (w.own i) (key_region script.space key) i x (o.differ (w.own i) (o.own i) (key_region script.space key)) own_lead
-            ((o.grown (w.own i) y.config (o.own i) y.may.known y.may.later).same_order (key_region script.space key) x i own_there f)
 
 -- ---- holders move
 
@@ -170,100 +181,56 @@ module _ (script : Script) (w : World) (o : Ordered w) (ch : Change) (kept : (g 
   -- a holder after its moves
   later : (g : RegionId) (s : ServerId) (t : KeyState) (m : Moved script w key (ch.line key) g s t) → Later (ch.line key) g (around script w key g s) m.old t
   later g s t m = subst (Later (ch.line key) g (around script w key g s) m.old) (sym m.is)
-      (later-all (ch.line key) g (around script w key g s) (lawful-sorted script w.known key (ch.line key) turn.lawful)
-      (low-in script w key (ch.line key) turn.lawful) (following script w key (ch.line key) turn.lawful g)
+      (later-all (ch.line key) g (around script w key g s) (lined script w key (ch.line key) turn.lawful g)
       m.moves m.old (own-longer g s m.old m.held) m.allowed)
 
-  -- what was accepted before a position stays so
-  pub before_up : (g : RegionId) (s : ServerId) (u : Update) → Before script w key g s u → Before script now key g s u
-  before_up g s u b h x t k a =
-      let m = turn.moved h x t k in
-      let c = b h x m.old m.held a in
-      let l = (later h x t m).top_up in
-      omega (arith, c, l)
+  -- where it comes from
+  comes : Comes script w now key
+  comes = record {
+    source = λ g s t k. (let m = turn.moved g s t k in
+        let l = later g s t m in
+        record { old = m.old; held = m.held; top = l.top_up; floor = l.floor_up });
+    stood = λ u g s h x i a. a;
+    listed = ok.listed;
+  }
 
-  -- what was accepted at it too
-  pub here_up : (g : RegionId) (s : ServerId) (u : Update) → Here script w key g s u → Here script now key g s u
-  here_up g s u b t k =
-      let m = turn.moved g s t k in
-      let c = b m.old m.held in
-      let l = (later g s t m).top_up in
-      omega (arith, c, l)
-
-  -- what was committed after it too
-  pub after_up : (g : RegionId) (s : ServerId) (u : Update) → After script w key g s u → After script now key g s u
-  after_up g s u b h x t k a =
-      let m = turn.moved h x t k in
-      let c = b h x m.old m.held a in
-      let l = (later h x t m).floor_up in
-      omega (arith, c, l)
-
-  -- an installed replica stays so
-  pub closed_up : (g : RegionId) (s : ServerId) (u : Update) → Closed script w key g s u → Closed script now key g s u
-  closed_up g s u = by _
-    where
-      by : (h : Hop) → Filled script w key u h → Filled script now key u h
-      by (At y k) f = kept _ y f
-      by End f = tt
-      by (Blocked r) f = f
-
-  -- so all that is said at a position stays
-  pub around_up : (g : RegionId) (s : ServerId) → Kept (around script w key g s) (around script now key g s)
-  around_up g s = record { waits = λ u h. h; before = before_up g s; after = after_up g s; closed = closed_up g s }
+  -- so all that is said at a listed position stays, as an installed replica does
+  around_up : (g : RegionId) (s : ServerId) → IsIn s (order w.config g) → Kept (around script w key g s) (around script now key g s)
+  around_up g s i = record {
+    waits = λ u h. h;
+    before = λ u. before-stays script w now key comes g s u i;
+    after = after-stays script w now key comes g s;
+    closed = λ u. filled-stays script w now key kept u _;
+  }
 
   -- what is committed along chains stays so
   pub along_up : (v : ℕ) → v ≤ n → Along script w key v → Along script now key v
-  along_up v l a u i q g s t k p =
-      let m = turn.moved g s t k in
-      let c = a u (turn.more.back u i (omega (arith, q, l))) q g s m.old m.held p in
-      let f = (later g s t m).floor_up in
-      omega (arith, c, f)
+  along_up v l = along-stays script w now key comes v (λ u i q. turn.more.back u i (omega (arith, q, l)))
 
   -- what is fixed stays so
   pub fixed_up : (v : ℕ) → Fixed script w key v → Fixed script now key v
-  fixed_up v f = (
-    (let b = turn.below.fixed v f in let r = turn.more.reach in omega (arith, b, r)),
-    λ s t k. (let m = turn.moved (key_region script.space key) s t k in
-        let c = f.1 s m.old m.held in
-        let l = (later (key_region script.space key) s t m).top_up in
-        omega (arith, c, l)),
-  )
-
-  -- what was committed at it too
-  pub done_up : (g : RegionId) (s : ServerId) (u : Update) → Done script w key g s u → Done script now key g s u
-  done_up g s u b t k =
-      let m = turn.moved g s t k in
-      let c = b m.old m.held in
-      let l = (later g s t m).floor_up in
-      omega (arith, c, l)
+  fixed_up v f = fixed-stays script w now key comes v (let b = turn.below.fixed v f in let r = turn.more.reach in omega (arith, b, r)) f
 
   -- an update under way stays true
-  pub update_up : (x : ServerId) (g : RegionId) (s : ServerId) (u : Update) → UpdateOk script w key x g s u → UpdateOk script now key x g s u
+  update_up : (x : ServerId) (g : RegionId) (s : ServerId) (u : Update) → UpdateOk script w key x g s u → UpdateOk script now key x g s u
   update_up x g s u h = record {
-    region = h.region;
-    from = kept h.region x h.from;
-    placed = h.placed;
-    sender_placed = h.sender_placed;
-    apart = h.apart;
-    route = record { config = h.route.config; known = h.route.known; first_in = h.route.first_in; second_in = h.route.second_in; hops = h.route.hops };
+    route = h.route;
+    from = kept h.route.region x h.from;
     accepted = λ i. (let a = h.accepted i in
-        let seat = o.seat key h.region x h.from i in
+        let seat = o.seat key h.route.region x h.from i in
         let b = a.1 seat.0 seat.1 in
-        let c = turn.below.held h.region x seat.0 seat.1 in
-        (turn.more.keeps u a.0 (omega (arith, b, c)), here_up h.region x u a.1));
-    heard = λ y. (let y0 : HearsUpdate w x g s u = record {
-      config = y.config;
-      may = record { up = y.may.up; known = y.may.known; later = y.may.later };
-      listed = y.listed;
-      place = y.place;
-      at = y.at;
-    } in
-        let z = h.heard y0 in
-        record { stands = turn.more.keeps u z.stands (turn.below.sent x g s u h.placed y0 z); listed = z.listed; before = before_up g s u z.before });
+        let c = turn.below.held h.route.region x seat.0 seat.1 in
+        (turn.more.keeps u a.0 (omega (arith, b, c)), here-stays script w now key comes h.route.region x u a.1));
+    heard = λ y. (let z = h.heard y in
+        record {
+          stands = turn.more.keeps u z.stands (turn.below.sent x g s u h.route.placed y z);
+          listed = z.listed;
+          before = before-stays script w now key comes g s u z.listed z.before;
+        });
   }
 
   -- and an acknowledgement
-  pub ack_up : (x : ServerId) (by : RegionId) (g : RegionId) (s : ServerId) (v : ℕ) → AckOk script w key x by g s v → AckOk script now key x by g s v
+  ack_up : (x : ServerId) (by : RegionId) (g : RegionId) (s : ServerId) (v : ℕ) → AckOk script w key x by g s v → AckOk script now key x by g s v
   ack_up x by g s v h = record {
     update = h.update;
     stands = turn.more.keeps h.update h.stands (turn.below.acked h.update h.stands h.everywhere);
@@ -271,44 +238,36 @@ module _ (script : Script) (w : World) (o : Ordered w) (ch : Change) (kept : (g 
     from = kept by x h.from;
     placed = h.placed;
     sender_placed = h.sender_placed;
-    everywhere = λ k z t hold p. (let m = turn.moved k z t hold in let c = h.everywhere k z m.old m.held p in let l = (later k z t m).top_up in omega
-        (arith, c, l));
-    committed = λ i. done_up by x h.update (h.committed i);
-    heard = λ y. (let z = h.heard (record {
-      config = y.config;
-      may = record { up = y.may.up; known = y.may.known; later = y.may.later };
-      listed = y.listed;
-      place = y.place;
-      at = y.at;
-      region = y.region;
-    }) in
-        (z.0, after_up g s h.update z.1));
+    everywhere = everywhere-stays script w now key comes h.update h.everywhere;
+    committed = λ i. done-stays script w now key comes by x h.update (h.committed i);
+    heard = λ y. (let z = h.heard y in (z.0, after-stays script w now key comes g s h.update z.1));
   }
 
   -- what holds of the key after the moves
-  pub key_after : KeyOk script now key
+  key_after : KeyOk script now key
   key_after = record {
     lawful = turn.lawful;
     listed = λ g s t k. (let m = turn.moved g s t k in ok.listed g s m.old m.held);
-    own = λ g s t k. (let own = (later g s t (turn.moved g s t k)).own in
+    own = λ g s t k. (let m = turn.moved g s t k in let own = (later g s t m).own in
         own_rely g (length (ch.line key)) (ch.line key) (ch.line key) (around script w key g s) (around script now key g s) t (more_same (ch.line key))
         own.top_line
-        (λ u j. low-in script w key (ch.line key) turn.lawful u j.stands) (around_up g s) own);
-    clear = λ s c m g i none z t k b. (let d = turn.moved g z t k in ok.clear s c (record { up = m.up; known = m.known; later = m.later })
-        g i none z d.old d.held b);
+        (λ u j. low-in script w key (ch.line key) turn.lawful u j.stands) (around_up g s (ok.listed g s m.old m.held)) own);
+    clear = λ s c m g i none z t k b. (let d = turn.moved g z t k in ok.clear s c m g i none z d.old d.held b);
   }
 
   -- a move that was made holds its promise
   pub turn_promise : (g : RegionId) (s : ServerId) (t : KeyState) (k : Moved script w key (ch.line key) g s t) (m : Move) → IsIn m k.moves
       → Promise (ch.line key) g (around script now key g s) t m
   turn_promise g s t k m j = promise_up m (subst (λ (x : KeyState). Promise (ch.line key) g (around script w key g s) x m) (sym k.is)
-      (promised (ch.line key) g (around script w key g s) (lawful-sorted script w.known key (ch.line key) turn.lawful)
-      (low-in script w key (ch.line key) turn.lawful) (following script w key (ch.line key) turn.lawful g)
+      (promised (ch.line key) g (around script w key g s) (lined script w key (ch.line key) turn.lawful g)
       k.moves k.old (own-longer g s k.old k.held) k.allowed m j))
     where
+      i : IsIn s (order w.config g)
+      i = ok.listed g s k.old k.held
+
       promise_up : (m : Move) → Promise (ch.line key) g (around script w key g s) t m → Promise (ch.line key) g (around script now key g s) t m
-      promise_up (Take u) h = (h.0, h.1, h.2, before_up g s u h.3)
-      promise_up (Commit u) h = (h.0, h.1, h.2, before_up g s u h.3, h.4, after_up g s u h.5)
+      promise_up (Take u) h = (h.0, h.1, h.2, before-stays script w now key comes g s u i h.3)
+      promise_up (Commit u) h = (h.0, h.1, h.2, before-stays script w now key comes g s u i h.3, h.4, after-stays script w now key comes g s u h.5)
       promise_up (Hold u) h = tt
       promise_up (Acknowledge v) h = tt
       promise_up Forget h = tt
@@ -358,16 +317,35 @@ valid_up script w w' send ack tell from to (a_message.Update e g u) h =
 valid_up script w w' send ack tell from to (a_message.Ack e g by key v) h =
     at_server-map from (λ x. at_server to (λ s. AckOk script w key x by g s v.0)) (λ x. at_server to (λ s. AckOk script w' key x by g s v.0))
     (λ x k. at_server-map to (λ s. AckOk script w key x by g s v.0) (λ s. AckOk script w' key x by g s v.0) (λ s. ack key x by g s v.0) k) h
-valid_up script w w' send ack tell from to (a_message.Ask epoch number g terms) h = tt
-valid_up script w w' send ack tell from to (a_message.Found epoch number g rows) h = tt
-valid_up script w w' send ack tell from to (a_message.Seal epoch) h = tt
-valid_up script w w' send ack tell from to (a_message.Sealed epoch) h = tt
-valid_up script w w' send ack tell from to (a_message.Install config) h = tt
-valid_up script w w' send ack tell from to a_message.Die h = tt
-valid_up script w w' send ack tell from to a_message.Gone h = tt
-valid_up script w w' send ack tell from to (a_message.StopServer number server) h = tt
-valid_up script w w' send ack tell from to (a_message.AddReplica number server g) h = tt
-valid_up script w w' send ack tell from to (a_message.Outcome number answer) h = tt
-valid_up script w w' send ack tell from to (a_message.Snap epoch g snapshot pending) h = tt
-valid_up script w w' send ack tell from to (a_message.Ready epoch g) h = tt
-valid_up script w w' send ack tell from to (a_message.Poll epoch) h = tt
+valid_up script w w' send ack tell from to other h = tt
+
+-- configurations stay in order
+pub ordered_up : (w : World) → Ordered w → (ch : Change) → ((g : RegionId) (s : ServerId) → ch.installed g s → IsIn s (order (w.own s) g))
+    → ((key : List ℕ) (g : RegionId) (s : ServerId) → ch.installed g s → IsIn s (order w.config g) → (t : KeyState) × ch.holds key g s t)
+    → Ordered (changed w ch)
+ordered_up w o ch home seat = record {
+  differ = o.differ;
+  listed = o.listed;
+  grown = o.grown;
+  newest = o.newest;
+  last = o.last;
+  own = o.own;
+  home = home;
+  up = o.up;
+  seat = seat;
+}
+
+-- what is kept of all where each key's holders move
+pub stays_up : (script : Script) (w : World) (o : Ordered w) (ch : Change) (kept : (g : RegionId) (s : ServerId) → w.installed g s → ch.installed g s)
+    (n : List ℕ → ℕ) (ok : (key : List ℕ) → KeyOk script w key) → ((key : List ℕ) → Turn script w ch key (n key)) → Ordered (changed w ch)
+    → Stays script w (changed w ch)
+stays_up script w o ch kept n ok turn ordered = record {
+  ordered = ordered;
+  keys = λ key. key_after script w o ch kept key (n key) (ok key) (turn key);
+  valid = valid_up script w (changed w ch)
+      (λ key x g s u h. update_up script w o ch kept key (n key) (ok key) (turn key) x g s u h)
+      (λ key x by g s v h. ack_up script w o ch kept key (n key) (ok key) (turn key) x by g s v h)
+      (λ key. told_up script w (changed w ch) key (n key) (ok key) (turn key).more (turn key).below.fixed
+      (λ v l a. along_up script w o ch kept key (n key) (ok key) (turn key) v l a));
+  fixed = λ key v f. fixed_up script w o ch kept key (n key) (ok key) (turn key) v f;
+}

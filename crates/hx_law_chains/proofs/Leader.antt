@@ -1,53 +1,21 @@
 -- What a leader decides on a write: nothing, a doubt, the answer of an update that is committed, or the next update after what it has accepted, perhaps refused.
-use Rattle.hx_model.specs.Lines.{line_object}
-use Rattle.std.proofs.Common.{◌≡◌, ℕ, ◌+◌, ◌≤◌, ◌⊎◌, inl, inr, Bool, true, false, List, [], ◌∷◌, map, length, Option, Some, None, refl, sym, ap, ◌∙◌, subst}
-use Rattle.std.proofs.Common.{leb, ltb, eqb}
-use Rattle.std.proofs.lemmas.Bool.{cond_both}
-use Rattle.hx_model.specs.Types.{Caller, Config, Decision, Mark, Op, Place, RegionId, Script, Space, Update, Value, Version}
+use Rattle.std.proofs.Common.{◌≡◌, ℕ, ◌+◌, ◌≤◌, ◌⊎◌, inl, inr, Bool, true, false, List, [], ◌∷◌, length, Option, None, Some, refl, sym, ap, ◌∙◌, subst}
+use Rattle.hx_model.specs.Types.{Caller, Config, Decision, Op, Place, RegionId, Script, Update, Value, Version}
 use Rattle.hx_types.specs.declared.outcomes.Decision.TheVariants as a_decision
-use Rattle.hx_types.specs.Words.{IsIn, when_some}
+use Rattle.hx_types.specs.Words.{IsIn}
 use Rattle.hx_types.specs.Configs.{first_config}
 use Rattle.hx_types.specs.Effects.{effect_of, is_write, key_of}
 use Rattle.hx_types.specs.Fitting.{call_of, is_refused}
 use Rattle.hx_types.specs.Spaces.{IsSpace}
+use Rattle.hx_model.specs.Lines.{line_object}
 use Rattle.hx_model.specs.Regions.{key_region}
 use Rattle.hx_model.specs.Places.{places_of}
-use Rattle.hx_model.specs.Slots.{KeyState, latest_of, mark_of, top_of, touches_after, touches_of}
-use Rattle.hx_model.specs.Leading.{StuckAt, assigned, by_mark, decide, first_lost, fresh, granted, refusal, stuck_of, with_places}
-use Rattle.hx_law_lemmas.proofs.Lemmas.{effect-done, effect-same, all-in, when_some_both, places-not-lost, Apart, places-apart, IsNewer, decide-decided}
-use Rattle.hx_law_lemmas.proofs.Lemmas.{slot_of, Made}
+use Rattle.hx_model.specs.Slots.{KeyState, latest_of, top_of, touches_after, touches_of}
+use Rattle.hx_model.specs.Leading.{assigned, decide, first_lost, granted, refusal, with_places}
+use Rattle.hx_law_lemmas.proofs.Lemmas.{Apart, IsNewer, Made, all-in, decide-decided, decides, effect-done, effect-same, map-in, places-apart, places-not-lost}
+use Rattle.hx_law_lemmas.proofs.Lemmas.{slot_of, when_some_both}
 use Rattle.hx_law_lemmas.proofs.Lemmas as law_lemmas
 use Rattle.hx_law_chains.proofs.World.{Effected, Law, Lawful, lawful-made}
-
--- a decision to assign is for what the leader assigns
-abbrev Assigns : Space → Config → RegionId → KeyState → Caller → Op → Decision → Type 0
-Assigns space c g t caller op d = (u : Update) → d ≡ a_decision.Assign u → u ≡ assigned space c g t caller op
-
--- so is each decision
-decide-assigns : (space : Space) (c : Config) (g : RegionId) (t : KeyState) (caller : Caller) (op : Op)
-    → Assigns space c g t caller op (decide space c g t caller op)
-decide-assigns space c g t caller op = by (mark_of caller.session t)
-  where
-    fresh-assigns : Assigns space c g t caller op (fresh space c g t caller op)
-    fresh-assigns = when_some_both (stuck_of c t) (a_decision.Assign (assigned space c g t caller op)) (λ (x : StuckAt). a_decision.Stuck x.region)
-        (Assigns space c g t caller op)
-        (λ q u e. cc) (λ x q u e. absurd (cc))
-
-    by : (o : Option Mark) → Assigns space c g t caller op (by_mark space c g t caller op o)
-    by None = fresh-assigns
-    by (Some m) =
-        cond_both (ltb caller.number m.number) a_decision.Old _ (Assigns space c g t caller op)
-        (λ a u e. absurd (cc))
-        (λ a. cond_both (eqb m.number caller.number) _ (fresh space c g t caller op) (Assigns space c g t caller op)
-        (λ b. cond_both (leb m.version.0 t.floor) (a_decision.Again m.version m.answer) (a_decision.Wait m.version) (Assigns space c g t caller op)
-        (λ z u e. absurd (cc)) (λ z u e. absurd (cc)))
-        (λ b. fresh-assigns))
-
--- the number of a place's region stands among the numbers of all
-number-in : (places : List Place) (p : Place) → IsIn p places → IsIn p.region.0 (map (λ (q : Place). q.region.0) places)
-number-in [] p i = absurd i
-number-in (q ∷ rest) p (inl e) = inl (ap (λ (x : Place). x.region.0) e)
-number-in (q ∷ rest) p (inr i) = inr (number-in rest p i)
 
 -- the law of a line in one configuration follows
 steady-law : (script : Script) → IsSpace script.space → (known : Config → Type 0) (key : List ℕ) (older : List Update) (u : Update)
@@ -69,7 +37,7 @@ steady-law script valid known key older u all law = record {
   on_key = law.on_key;
   elsewhere = λ p i q. (let d = subst Apart law.made.places
       (places-apart script.space valid key (u ∷ older) (law.made, lawful-made script known key older all) u (inl refl)) in
-      all-in (λ m. m ≡ (key_region script.space key).0 → ⊥) _ p.region.0 d.0 (number-in _ p i) (ap (λ (r : RegionId). r.0) q));
+      all-in (λ m. m ≡ (key_region script.space key).0 → ⊥) _ p.region.0 d.0 (map-in (λ (q : Place). q.region.0) _ p i) (ap (λ (r : RegionId). r.0) q));
   effect = elim law.effect [ inl e ↦ inl e | inr e ↦ inr (ap is_refused e.1.3, e.0) ];
 }
 
@@ -95,6 +63,18 @@ module _ (script : Script) (valid : IsSpace script.space) (known : Config → Ty
   top-is : top_of here ≡ length us
   top-is = law_lemmas.top-line script.space key us (law_lemmas.lawful-steady script key us plain)
 
+  -- by whether a place of the effect is lost: it is granted, or refused
+  by-lost : (P : Update → Type 0) (old : Option (List Value)) → let effect = effect_of script.space old op in
+      let places = places_of script.space key old effect.object effect.changes (top_of here) (touches_of here) in
+      (first_lost config places ≡ None → P (granted here caller effect places))
+      → ((g : RegionId) → first_lost config places ≡ Some g → let r = refusal script.space config here old g in P (granted here caller r.0 r.1))
+      → P (with_places script.space config here caller old effect)
+  by-lost P old =
+      let effect = effect_of script.space old op in
+      let places = places_of script.space key old effect.object effect.changes (top_of here) (touches_of here) in
+      when_some_both (first_lost config places) (granted here caller effect places)
+      (λ (g : RegionId). let r = refusal script.space config here old g in granted here caller r.0 r.1) P
+
   -- what is assigned is the effect, or refused
   effected : (old : Option (List Value)) → old ≡ line_object us
       → Effected script.space known key us (with_places script.space config here caller old (effect_of script.space old op)) op
@@ -102,27 +82,19 @@ module _ (script : Script) (valid : IsSpace script.space) (known : Config → Ty
       let effect = effect_of script.space (line_object us) op in
       subst (λ (o : Option (List Value)). Effected script.space known key us (with_places script.space config here caller o (effect_of script.space o op))
       op) (sym e)
-      (by (first_lost config (places_of script.space key (line_object us) effect.object effect.changes (top_of here) (touches_of here))) refl)
-    where
-      by : (o : Option RegionId) → let effect = effect_of script.space (line_object us) op in first_lost config
-          (places_of script.space key (line_object us) effect.object effect.changes (top_of here) (touches_of here)) ≡ o
-          → Effected script.space known key us
-          (when_some o (granted here caller effect (places_of script.space key (line_object us) effect.object effect.changes (top_of here) (touches_of here)))
-          (λ (g : RegionId). let r = refusal script.space config here (line_object us) g in granted here caller r.0 r.1)) op
-      by None q = inl (refl, refl)
-      by (Some g) q =
-          let effect = effect_of script.space (line_object us) op in
-          inr (
-            refl,
-            (
-              g,
-              config,
-              is_known,
-              refl,
-              ap (λ n. first_lost config
-                  (places_of script.space key (line_object us) effect.object effect.changes n (touches_of here))) (sym top-is) ∙ q,
-            ),
-          )
+      (by-lost (λ u. Effected script.space known key us u op) (line_object us)
+      (λ q. inl (refl, refl))
+      (λ g q. inr (
+        refl,
+        (
+          g,
+          config,
+          is_known,
+          refl,
+          ap (λ n. first_lost config
+              (places_of script.space key (line_object us) effect.object effect.changes n (touches_of here))) (sym top-is) ∙ q,
+        ),
+      )))
 
   -- and is made
   made : (old : Option (List Value)) → old ≡ line_object us
@@ -130,39 +102,25 @@ module _ (script : Script) (valid : IsSpace script.space) (known : Config → Ty
   made old e =
       let effect = effect_of script.space (line_object us) op in
       subst (λ (o : Option (List Value)). Made script.space key us (with_places script.space config here caller o (effect_of script.space o op))) (sym e)
-      (by (first_lost config (places_of script.space key (line_object us) effect.object effect.changes (top_of here) (touches_of here))))
-    where
-      by : (o : Option RegionId) → let effect = effect_of script.space (line_object us) op in
-          Made script.space key us
-          (when_some o (granted here caller effect (places_of script.space key (line_object us) effect.object effect.changes (top_of here) (touches_of here)))
-          (λ (g : RegionId). let r = refusal script.space config here (line_object us) g in granted here caller r.0 r.1))
-      by None =
-          let effect = effect_of script.space (line_object us) op in
-          record {
-            version = ap (λ n. n + 1) top-is;
-            key_is = refl;
-            done = effect-done script.space (line_object us) op;
-            same = effect-same script.space (line_object us) op;
-            places = ap (λ n. places_of script.space key (line_object us) effect.object effect.changes n (touches_of here)) top-is;
-          }
-      by (Some g) = record {
+      (by-lost (Made script.space key us) (line_object us)
+      (λ q. record {
+        version = ap (λ n. n + 1) top-is;
+        key_is = refl;
+        done = effect-done script.space (line_object us) op;
+        same = effect-same script.space (line_object us) op;
+        places = ap (λ n. places_of script.space key (line_object us) effect.object effect.changes n (touches_of here)) top-is;
+      })
+      (λ g q. record {
         version = ap (λ n. n + 1) top-is;
         key_is = refl;
         done = refl;
         same = λ e. refl;
         places = ap (λ n. places_of script.space key (line_object us) (line_object us) false n []) top-is;
-      }
+      }))
 
   -- who calls is who called
   granted-caller : (old : Option (List Value)) → (with_places script.space config here caller old (effect_of script.space old op)).caller ≡ caller
-  granted-caller old = by (first_lost config (places_of script.space key old (effect_of script.space old op).object (effect_of script.space old op).changes
-      (top_of here) (touches_of here)))
-    where
-      by : (o : Option RegionId) → let effect = effect_of script.space old op in
-          (when_some o (granted here caller effect (places_of script.space key old effect.object effect.changes (top_of here) (touches_of here)))
-          (λ (g : RegionId). let r = refusal script.space config here old g in granted here caller r.0 r.1)).caller ≡ caller
-      by None = refl
-      by (Some g) = refl
+  granted-caller old = by-lost (λ u. u.caller ≡ caller) old (λ q. refl) (λ g q. refl)
 
   -- what a decision can be
   abbrev pub Decided : Decision → Type 0
@@ -198,7 +156,7 @@ module _ (script : Script) (valid : IsSpace script.space) (known : Config → Ty
     | inr (inr (inr e)) ↦ inr (inr (inr (
       e.0,
       assigned-law e.0 e.1.0.lawful.newer
-          (decide-assigns script.space config (key_region script.space key) here caller op e.0 e.2),
+          (decides script.space config (key_region script.space key) here caller op e.0 e.2),
       e.1.1,
       e.2,
     )))

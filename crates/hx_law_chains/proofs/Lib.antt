@@ -21,14 +21,14 @@ pub mod Ending
 pub mod Allowed
 pub mod Assigning
 pub mod Holders
-pub mod Taken
 pub mod Heard
 pub mod Serving
 pub mod Telling
+pub mod SlotPosts
+pub mod Table
+pub mod Entered
 pub mod Saying
-pub mod Late
 pub mod Slotted
-pub mod Rows
 pub mod Messages
 pub mod Calm
 pub mod Renewed
@@ -36,7 +36,6 @@ pub mod Snapped
 pub mod Sending
 pub mod Forgetting
 pub mod Adopting
-pub mod TellingRows
 pub mod Ticks
 pub mod Entries
 pub mod Elsewhere

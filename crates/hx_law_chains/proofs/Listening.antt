@@ -1,57 +1,95 @@
--- Whom the servers of a run take messages between replicas from: their neighbours, by their own configurations.
-use Rattle.std.proofs.Common.{◌≡◌, inl, inr, false, List, ◌∷◌, Some, refl, sym, ap, ◌∙◌, subst}
-use Rattle.std.proofs.lemmas.Bool.{cond-false, cond-true, eq-eqb}
-use Rattle.hx_model.specs.Types.{Actor, Message, Post, RegionId, ServerId, Space}
+-- Whom the servers of a run take messages between replicas from: their neighbours, by their own configurations; any other message is dropped, and at most the newest configuration is asked for.
+use Rattle.std.proofs.Common.{◌≡◌, inl, inr, true, false, not, List, [], ◌∷◌, ◌++◌, Option, None, Some, refl, sym, ap, ◌∙◌, subst, cond}
+use Rattle.std.specs.Prelude.{nat_lt}
+use Rattle.std.proofs.lemmas.Bool.{cond-false, cond_both}
+use Rattle.hx_model.specs.Types.{Actor, Epoch, Message, Post, RegionId, Server, ServerId, Space, Update}
 use Rattle.hx_types.specs.declared.messages.Message.TheVariants as a_message
-use Rattle.hx_types.specs.Words.{same_server}
+use Rattle.hx_types.specs.Words.{provided}
 use Rattle.hx_model.specs.Hearing.{hears_ack, hears_snap, hears_update}
 use Rattle.hx_model.specs.Neighbours.{place_number}
-use Rattle.hx_model.specs.Runs.{Output, has_halted, made_of, server_after, server_of}
-use Rattle.hx_model.specs.ServerSteps.{Replica, ServerState, ServerStep, message_step, replica_for, server_step, unmoved}
+use Rattle.hx_model.specs.Runs.{Output, has_halted, server_of}
+use Rattle.hx_model.specs.ServerSteps.{Replica, ServerState, ServerStep, ack_step, acked, acked_of, at_slot, context_of, if_installed, meeting, message_step}
+use Rattle.hx_model.specs.ServerSteps.{pending_with, poll_post, replica_for, server_step, snapped, state_in, unmoved, update_step, updated}
 use Rattle.hx_law_lemmas.proofs.Lemmas.{replica-found}
 use Rattle.hx_law_epochs.proofs.Lemmas.{epochs-run, installed-is, replica_for-is}
-use Rattle.hx_law_chains.specs.Chains.{HearsNeighbour, RunsHearNeighbours}
-use Rattle.hx_law_chains.proofs.Taken.{ack-taken, snapshot-taken, update-taken}
+use Rattle.hx_law_chains.specs.Chains.{HearsNeighbour, IsDropped, RunsHearNeighbours}
+use Rattle.hx_law_chains.proofs.Entered.{made-by, state-by}
+use Rattle.hx_law_chains.proofs.Table.{snap_row}
 
 -- the replica that takes messages for a region is of the region
 taken-region : (st : ServerState) (g : RegionId) (r : Replica) → replica_for st g ≡ Some r → r.region ≡ g
 taken-region st g r e = (replica-found g st.replicas r (replica_for-is st g r e).found).1
 
+-- nothing happens to a message
+dropped : (st : ServerState) (epoch : Epoch) → IsDropped st st epoch (meeting st epoch (unmoved st)).posts
+dropped st epoch = record { state = refl; posted = end (provided (nat_lt st.config.epoch.0 epoch.0) (poll_post st ∷ [])) }
+  where
+    end : (ps : List Post) → ps ++ [] ≡ ps
+    end [] = refl
+    end (p ∷ ps) = ap (λ (l : List Post). p ∷ l) (end ps)
+
 -- a step on a message
-hears : (space : Space) (s : ServerId) (st : ServerState) → st.id ≡ s → (from : Actor) (m : Message)
-    → let step = message_step space st from m in HearsNeighbour space s st step.state step.posts from m
-hears space s st same from (a_message.Update epoch g u) = elim (update-taken space st from epoch g u) [
-  | inl (r, e, h) ↦ inl (ap (λ (x : ServerId). hears_update st.config u (place_number g u.places) x from) (sym same)
-      ∙ ap (λ (x : RegionId). hears_update st.config u (place_number x u.places) st.id from)
-      (sym (taken-region st g r (installed-is (replica_for st g) r e).0)) ∙ h)
-  | inr d ↦ inr d
-]
-hears space s st same from (a_message.Ack epoch g region key v) = elim (ack-taken space st from epoch g key v region) [
-  | inl (r, e, (u, p, h)) ↦ inl (
-    r,
-    u,
-    e,
-    p,
-    ap (λ (x : ServerId). hears_ack st.config u (place_number g u.places) x from region) (sym same)
-        ∙ ap (λ (x : RegionId). hears_ack st.config u (place_number x u.places) st.id from region)
-        (sym (taken-region st g r (installed-is (replica_for st g) r e).0)) ∙ h,
-  )
-  | inr d ↦ inr d
-]
-hears space s st same from (a_message.Snap epoch g snapshot pending) = elim (snapshot-taken space st from epoch g snapshot pending) [
-  | inl (r, e, h) ↦ inl (ap (λ (x : ServerId). hears_snap st.config g x from) (sym same)
-      ∙ ap (λ (x : RegionId). hears_snap st.config x st.id from) (sym (taken-region st g r e)) ∙ h)
-  | inr d ↦ inr d
-]
-hears space s st same from other = tt
+hears : (space : Space) (st : ServerState) (from : Actor) (m : Message)
+    → let step = message_step space st from m in HearsNeighbour space st.id st step.state step.posts from m
+hears space st from (a_message.Update epoch g u) = by (if_installed (replica_for st g)) refl
+  where
+    Good : ServerStep → Type 0
+    Good step = HearsNeighbour space st.id st step.state (meeting st epoch step).posts from (a_message.Update epoch g u)
+
+    by : (o : Option Replica) → if_installed (replica_for st g) ≡ o → Good (updated space st from u o)
+    by None e = inr (dropped st epoch)
+    by (Some r) e =
+        cond_both (hears_update st.config u (place_number r.region u.places) st.id from)
+        (at_slot st r (state_in space r u.key) (update_step (context_of space st r.region) (state_in space r u.key) u)) (unmoved st) Good
+        (λ t. inl (subst (λ (x : RegionId). hears_update st.config u (place_number x u.places) st.id from ≡ true)
+        (taken-region st g r (installed-is (replica_for st g) r e).0) t))
+        (λ t. inr (dropped st epoch))
+hears space st from (a_message.Ack epoch g region key v) = by (if_installed (replica_for st g)) refl
+  where
+    Good : ServerStep → Type 0
+    Good step = HearsNeighbour space st.id st step.state (meeting st epoch step).posts from (a_message.Ack epoch g region key v)
+
+    by : (o : Option Replica) → if_installed (replica_for st g) ≡ o → Good (acked space st from key v.0 region o)
+    by None e = inr (dropped st epoch)
+    by (Some r) e = of (pending_with v.0 (state_in space r key)) refl
+      where
+        of : (o : Option Update) → pending_with v.0 (state_in space r key) ≡ o → Good (acked_of space st from region r (state_in space r key) v.0 o)
+        of None f = inr (dropped st epoch)
+        of (Some u) f =
+            cond_both (hears_ack st.config u (place_number r.region u.places) st.id from region)
+            (at_slot st r (state_in space r key) (ack_step (context_of space st r.region) (state_in space r key) v.0)) (unmoved st) Good
+            (λ t. inl (
+              r,
+              u,
+              e,
+              f,
+              subst (λ (x : RegionId). hears_ack st.config u (place_number x u.places) st.id from region ≡ true)
+                  (taken-region st g r (installed-is (replica_for st g) r e).0) t,
+            ))
+            (λ t. inr (dropped st epoch))
+hears space st from (a_message.Snap epoch g snapshot pending) = by (replica_for st g) refl
+  where
+    Good : ServerStep → Type 0
+    Good step = HearsNeighbour space st.id st step.state (meeting st epoch step).posts from (a_message.Snap epoch g snapshot pending)
+
+    by : (o : Option Replica) → replica_for st g ≡ o → Good (snapped space st from snapshot pending o)
+    by None e = inr (dropped st epoch)
+    by (Some r) e = of (hears_snap st.config r.region st.id from) refl
+      where
+        of : (b : _) → hears_snap st.config r.region st.id from ≡ b → Good (cond (not b) (unmoved st) (snap_row space st r snapshot pending))
+        of true t = inl (subst (λ (x : RegionId). hears_snap st.config x st.id from ≡ true) (taken-region st g r e) t)
+        of false t = inr (dropped st epoch)
+hears space st from other = tt
 
 -- in every run
 pub runs_hear_neighbours : RunsHearNeighbours
 runs_hear_neighbours script valid x older run s acts id from m input =
-    subst (λ (y : ServerState). HearsNeighbour script.space s st y x.outputs from m) after
-    (subst (λ (ps : List Post). HearsNeighbour script.space s st (server_step script.space st x.input).state ps from m) posts
+    subst (λ (y : ServerState). HearsNeighbour script.space s st y x.outputs from m) (sym (state-by script x older s acts))
+    (subst (λ (ps : List Post). HearsNeighbour script.space s st (server_step script.space st x.input).state ps from m)
+    (ap (λ (y : Output). y.posts) (made-by script x older run (Server s) acts))
     (subst (λ (step : ServerStep). HearsNeighbour script.space s st step.state step.posts from m) (sym step-is)
-    (hears script.space s st ((epochs-run script valid older run.1).shaped s).id from m)))
+    (subst (λ (i : ServerId). let step = message_step script.space st from m in HearsNeighbour script.space i st step.state step.posts from m)
+    ((epochs-run script valid older run.1).shaped s).id (hears script.space st from m))))
   where
     st : ServerState
     st = server_of script s older
@@ -63,11 +101,3 @@ runs_hear_neighbours script valid x older run s acts id from m input =
     step-is = ap (server_step script.space (server_of script s older)) input
         ∙ cond-false (server_of script s older).halted (unmoved (server_of script s older)) (message_step script.space (server_of script s older) from m)
         running
-
-    posts : (server_step script.space (server_of script s older) x.input).posts ≡ x.outputs
-    posts = ap (λ (y : Output). y.posts) (subst (λ (a : Actor). made_of script older a x.input ≡ record { posts = x.outputs; notes = x.notes }) acts run.0.made)
-
-    after : (server_step script.space (server_of script s older) x.input).state ≡ server_of script s (x ∷ older)
-    after =
-        sym (cond-true (same_server s s) (server_step script.space (server_of script s older) x.input).state (server_of script s older) (eq-eqb s.0 s.0 refl))
-        ∙ ap (λ (a : Actor). server_after script.space s a x.input (server_of script s older)) (sym acts)

@@ -1,20 +1,20 @@
 -- One slot of a replica, or of a snapshot under way: what it relies on, and that each move which is allowed keeps it.
-use Rattle.hx_model.specs.Lines.{upto}
-use Rattle.std.proofs.Common.{◌≡◌, ℕ, zero, suc, ◌<◌, ◌≤◌, ◌⊎◌, inl, inr, Bool, true, false, not, List, [], ◌∷◌, ◌++◌, map, length, Option, Some, None, refl}
-use Rattle.std.proofs.Common.{sym, ap, ◌∙◌, subst, arith, leb, eqb}
+use Rattle.std.proofs.Common.{◌≡◌, ℕ, zero, suc, ◌<◌, ◌≤◌, ◌⊎◌, inl, inr, Bool, true, false, not, List, [], ◌∷◌, ◌++◌, map, length, Option, None, Some, refl}
+use Rattle.std.proofs.Common.{sym, ap, ◌∙◌, subst, arith, eqb, leb}
 use Rattle.std.specs.Prelude.{⊤}
 use Rattle.std.specs.List.{filter, find, list_any}
-use Rattle.std.proofs.lemmas.Bool.{cond_both, eqb-true, leb-true, leb-false, false≢true, cases_lt}
+use Rattle.std.proofs.lemmas.Bool.{cases_lt, cond_both, eqb-true, false≢true, leb-false, leb-true}
 use Rattle.hx_model.specs.Types.{RegionId, Update}
 use Rattle.hx_types.specs.Words.{IsIn, provided, when_some}
+use Rattle.hx_model.specs.Lines.{upto}
 use Rattle.hx_model.specs.Holders.{IsPrefix, only_in}
 use Rattle.hx_model.specs.Neighbours.{is_end}
 use Rattle.hx_model.specs.Slots.{Acknowledge, Commit, Forget, Hold, KeyState, Move, Take, acknowledged, after_at, commits, follows, has_place, is_pending}
-use Rattle.hx_model.specs.Slots.{marks_after, moved, moved_all, offered, other_version, pending_above, pending_of, settled, taken, top_of, touches_after}
-use Rattle.hx_model.specs.Slots.{turns, kept_row, waits_below}
-use Rattle.hx_model.specs.ServerSteps.{SlotContext, accepting, tail_acks, next_at, resumed, with_commits}
-use Rattle.hx_law_lemmas.proofs.Lemmas.{any-in, in-append, in-filter, in-find, in_left, in_right, when_some_both, Sorted, in-only, in-upto, in-upto_from}
-use Rattle.hx_law_lemmas.proofs.Lemmas.{only-in, only-sorted, same_version, upto-low, upto-sorted, Following, More}
+use Rattle.hx_model.specs.Slots.{kept_row, marks_after, moved, moved_all, offered, other_version, pending_above, pending_of, settled, taken, top_of}
+use Rattle.hx_model.specs.Slots.{touches_after, turns, waits_below}
+use Rattle.hx_model.specs.ServerSteps.{SlotContext, accepting, next_at, resumed, tail_acks, with_commits}
+use Rattle.hx_law_lemmas.proofs.Lemmas.{Following, More, Sorted, any-in, in-append, in-filter, in-find, in-only, in-upto, in-upto_from, in_left, in_right}
+use Rattle.hx_law_lemmas.proofs.Lemmas.{only-in, only-sorted, same_version, upto-low, upto-sorted, when_some_both}
 use Rattle.hx_law_chains.proofs.Lines.{front-above, only-next, sorted-front}
 
 -- what is said of an update at a position: that a holder may keep it early, that each holder before has accepted it, that each after has committed it, and that no holder can come in between
@@ -78,6 +78,27 @@ prefix_more g n line longer t more l b p =
       floor = p.floor;
     }
 
+-- nor does it change with the floor, what is acknowledged and what is early
+prefix_with : (g : RegionId) (line : List Update) (t : KeyState) (floor : ℕ) (acked : List ℕ) (early : List Update) → floor ≤ top_of t → IsPrefix g line t
+    → IsPrefix g line (record t { floor = floor; acked = acked; early = early })
+prefix_with g line t floor acked early low p = record { list = p.list; object = p.object; marks = p.marks; touches = p.touches; floor = low }
+
+-- what it relies on stays where what is committed, early and acknowledged then may be so
+own_with : (line : List Update) (g : RegionId) (a : Around) (t : KeyState) (floor : ℕ) (marks : List ℕ) (waiting : List Update) → Own line g a t
+    → t.base.floor.0 ≤ floor → floor ≤ top_of t → ((u : Update) → IsIn u line → has_place g u ≡ true → u.version.0 ≤ floor → a.after u)
+    → ((u : Update) → IsIn u waiting → Waiting line g a u) → ((v : ℕ) → IsIn v marks → Acked line g a (top_of t) v)
+    → Own line g a (record t { floor = floor; acked = marks; early = waiting })
+own_with line g a t floor marks waiting own low high freed early acked = record {
+  content = prefix_with g line t floor marks waiting high own.content;
+  low = low;
+  top_line = own.top_line;
+  top_is = own.top_is;
+  taken = own.taken;
+  freed = freed;
+  early = early;
+  acked = acked;
+}
+
 -- a slot relies on the same where the line stays up to n, what it holds lies there, and what is said around it stays
 pub own_rely : (g : RegionId) (n : ℕ) (line longer : List Update) (a b : Around) (t : KeyState) → More n line longer → top_of t ≤ n
     → ((u : Update) → Waiting line g a u → u.version.0 ≤ n) → Kept a b → Own line g a t → Own longer g b t
@@ -111,14 +132,7 @@ own_rely g n line longer a b t more l early kept own = record {
 pub own_forget : (line : List Update) (g : RegionId) (a b : Around) (t : KeyState) → ((u : Update) → a.before u → b.before u)
     → ((u : Update) → a.after u → b.after u) → Own line g a t → Own line g b (moved Forget t)
 own_forget line g a b t before after own = record {
-  content = record {
-    list = own.content.list;
-    object = own.content.object;
-    marks = own.content.marks;
-    touches = own.content.touches;
-    floor =
-        own.content.floor;
-  };
+  content = prefix_with g line t t.floor [] [] own.content.floor own.content;
   low = own.low;
   top_line = own.top_line;
   top_is = own.top_is;
@@ -165,7 +179,7 @@ follows-after g v u = by (after_at g u)
     by (Some w) e = ap Some (eqb-true w v e)
 
 -- a test that finds an update holds of it
-find-true : (test : Update → Bool) (us : List Update) (u : Update) → find test us ≡ Some u → test u ≡ true
+pub find-true : (test : Update → Bool) (us : List Update) (u : Update) → find test us ≡ Some u → test u ≡ true
 find-true test [] u = λ e. absurd (cc)
 find-true test (x ∷ us) u =
     cond_both (test x) (Some x) (find test us) (λ o. o ≡ Some u → test u ≡ true)
@@ -221,9 +235,15 @@ pending-is v (u ∷ us) h =
       rising-push ws u h.1 (λ w i. f w (inr i)),
     )
 
-module _ (line : List Update) (g : RegionId) (a : Around) (line_sorted : Sorted line)
-    (low : (u : Update) → IsIn u line → u.version.0 ≤ length line)
-    (following : (u : Update) (v : ℕ) → IsIn u line → after_at g u ≡ Some v → Following line g u v) where
+-- a line is sorted and numbered, and each of its updates follows on the one before it in the region
+pub record Lined (line : List Update) (g : RegionId) : Type 0 where
+  pub sorted : Sorted line
+  pub low : (u : Update) → IsIn u line → u.version.0 ≤ length line
+  pub following : (u : Update) (v : ℕ) → IsIn u line → after_at g u ≡ Some v → Following line g u v
+
+module _ (line : List Update) (g : RegionId) (a : Around) (lined : Lined line g) where
+  open lined use {sorted as line_sorted, low, following}
+
   -- the part up to the top is sorted
   part-sorted : (t : KeyState) → Own line g a t → Sorted (t.accepted ++ only_in g (upto t.base.floor.0 line))
   part-sorted t own = subst Sorted own.content.list (only-sorted g (upto (top_of t) line) (upto-sorted (top_of t) line line_sorted))
@@ -296,76 +316,35 @@ module _ (line : List Update) (g : RegionId) (a : Around) (line_sorted : Sorted 
     floor_up = omega arith;
   }
   later-one t (Hold u) own k = record {
-    own = record {
-      content = record {
-        list = own.content.list;
-        object = own.content.object;
-        marks = own.content.marks;
-        touches = own.content.touches;
-        floor =
-            own.content.floor;
-      };
-      low = own.low;
-      top_line = own.top_line;
-      top_is = own.top_is;
-      taken = own.taken;
-      freed = own.freed;
-      early = λ w i. elim (in-append (filter (other_version u.version.0) t.early) (u ∷ []) w i) [
-        | inl j ↦ own.early w (in-filter (other_version u.version.0) t.early w j).0
-        | inr (inl e) ↦ subst (Waiting line g a) (sym e) k
-        | inr (inr j) ↦ absurd j
-      ];
-      acked = own.acked;
-    };
+    own = own_with line g a t t.floor t.acked (moved (Hold u) t).early own own.low own.content.floor own.freed
+        (λ w i. elim (in-append (filter (other_version u.version.0) t.early) (u ∷ []) w i) [
+          | inl j ↦ own.early w (in-filter (other_version u.version.0) t.early w j).0
+          | inr (inl e) ↦ subst (Waiting line g a) (sym e) k
+          | inr (inr j) ↦ absurd j
+        ])
+        own.acked;
     top_up = omega arith;
     floor_up = omega arith;
   }
   later-one t (Acknowledge v) own k = record {
-    own = record {
-      content = record {
-        list = own.content.list;
-        object = own.content.object;
-        marks = own.content.marks;
-        touches = own.content.touches;
-        floor =
-            own.content.floor;
-      };
-      low = own.low;
-      top_line = own.top_line;
-      top_is = own.top_is;
-      taken = own.taken;
-      freed = own.freed;
-      early = own.early;
-      acked = λ w i. elim i [
-        | inl e ↦ subst (Acked line g a (top_of t)) (sym e) k
-        | inr j ↦ own.acked w (in-filter (λ x. not (eqb x v)) t.acked w j).0
-      ];
-    };
+    own = own_with line g a t t.floor (moved (Acknowledge v) t).acked t.early own own.low own.content.floor own.freed own.early
+        (λ w i. elim i [
+          | inl e ↦ subst (Acked line g a (top_of t)) (sym e) k
+          | inr j ↦ own.acked w (in-filter (λ x. not (eqb x v)) t.acked w j).0
+        ]);
     top_up = omega arith;
     floor_up = omega arith;
   }
   later-one t (Commit u) own k = record {
-    own = record {
-      content = record {
-        list = own.content.list;
-        object = own.content.object;
-        marks = own.content.marks;
-        touches = own.content.touches;
-        floor =
-            (accepted-in t u own k.0).2;
-      };
-      low = (let b = own.low in let c = k.1 in omega (arith, b, c));
-      top_line = own.top_line;
-      top_is = own.top_is;
-      taken = own.taken;
-      freed = λ w i p l. elim (cases_lt t.floor w.version.0) [
-        | inl h ↦ (let b = own.low in let c = (accepted-in t u own k.0).2 in
-            subst a.after (sym (k.3 w (in-accepted t w own i p (omega (arith, b, h)) (omega (arith, l, c))) h l)) k.2)
-        | inr h ↦ own.freed w i p h
-      ];
-      early = own.early;
-      acked = λ w i. own.acked w (in-filter (λ x. not (eqb x u.version.0)) t.acked w i).0;
-    };
+    own = own_with line g a t u.version.0 (moved (Commit u) t).acked t.early own (let b = own.low in let c = k.1 in omega (arith, b, c))
+        (accepted-in t u own k.0).2
+        (λ w i p l. elim (cases_lt t.floor w.version.0) [
+          | inl h ↦ (let b = own.low in let c = (accepted-in t u own k.0).2 in
+              subst a.after (sym (k.3 w (in-accepted t w own i p (omega (arith, b, h)) (omega (arith, l, c))) h l)) k.2)
+          | inr h ↦ own.freed w i p h
+        ])
+        own.early
+        (λ w i. own.acked w (in-filter (λ x. not (eqb x u.version.0)) t.acked w i).0);
     top_up = omega arith;
     floor_up = k.1;
   }

@@ -5,7 +5,7 @@ use Rattle.hx_model.specs.Types.{Actor, Coordinator, Entry, Script, Server, Sess
 use Rattle.hx_types.specs.Fitting.{calls_of}
 use Rattle.hx_model.specs.Runs.{session_after, session_of}
 use Rattle.hx_model.specs.SessionSteps.{SessionState, session_step}
-use Rattle.hx_law_lemmas.proofs.Lemmas.{started_same, session_turn}
+use Rattle.hx_law_lemmas.proofs.Lemmas.{session_turn, started_same}
 
 -- each session has its name and its calls
 abbrev pub AreNamed : Script → List Entry → Type 0

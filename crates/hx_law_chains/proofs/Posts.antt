@@ -1,18 +1,17 @@
 -- What an installed replica posts of an update that it has accepted or committed, by its server's own configuration, is true for whoever may hear it.
 use Rattle.std.proofs.Common.{◌≡◌, ℕ, ◌≤◌, inl, inr, true, List, refl, sym, ap, subst, arith}
-use Rattle.hx_model.specs.Types.{At, Config, RegionId, Script, ServerId, Update}
+use Rattle.hx_model.specs.Types.{At, RegionId, Script, ServerId, Update}
 use Rattle.hx_types.specs.Words.{IsIn}
-use Rattle.hx_types.specs.Configs.{members_of}
 use Rattle.hx_types.specs.Spaces.{IsSpace}
 use Rattle.hx_model.specs.Neighbours.{region_at}
 use Rattle.hx_model.specs.Slots.{KeyState, has_place, top_of}
 use Rattle.hx_model.specs.ServerSteps.{next_at, prev_at}
-use Rattle.hx_law_lemmas.proofs.Lemmas.{Apart, after-order, before-in, head-order, places-apart}
-use Rattle.hx_law_epochs.proofs.Lemmas.{HasPlace, number-placed, placed-number, stands-cases, GrownOut}
+use Rattle.hx_law_lemmas.proofs.Lemmas.{Apart, places-apart}
+use Rattle.hx_law_epochs.proofs.Lemmas.{GrownOut, HasPlace, number-placed, placed-number, stands-cases}
 use Rattle.hx_law_epochs.specs.Epochs.{order}
 use Rattle.hx_law_chains.proofs.Between.{none-after, none-before}
-use Rattle.hx_law_chains.proofs.Hops.{Hops, next-hops, prev-hops}
-use Rattle.hx_law_chains.proofs.World.{AckOk, After, Before, Here, KeyOk, May, Ordered, UpdateOk, World, context, lawful-made}
+use Rattle.hx_law_chains.proofs.Hops.{Hops, hops-first, hops-second, next-hops, prev-hops}
+use Rattle.hx_law_chains.proofs.World.{AckOk, After, Before, Here, KeyOk, May, Ordered, UpdateOk, World, context, lawful-made, ways}
 
 -- an installed replica of a server that hasn't halted, with its slots
 pub record Seat (script : Script) (w : World) (g : RegionId) (i : ServerId) : Type 0 where
@@ -22,8 +21,20 @@ pub record Seat (script : Script) (w : World) (g : RegionId) (i : ServerId) : Ty
   pub installed : w.installed g i
   pub up : w.up i
 
-module _ (script : Script) (valid : IsSpace script.space) (w : World) (o : Ordered w) (ok : (key : List ℕ) → KeyOk script w key) (g : RegionId)
-    (i : ServerId) (seat : Seat script w g i) where
+-- a seat where all is kept
+pub record Seated : Type 1 where
+  pub script : Script
+  pub valid : IsSpace script.space
+  pub world : World
+  pub ordered : Ordered world
+  pub keys : (key : List ℕ) → KeyOk script world key
+  pub region : RegionId
+  pub server : ServerId
+  pub seat : Seat script world region server
+
+module _ (seated : Seated) where
+  open seated use {script, valid, world as w, ordered as o, keys as ok, region as g, server as i, seat}
+
   -- what the replica has accepted
   pub record Known (u : Update) : Type 0 where
     pub stands : IsIn u (w.line u.key)
@@ -36,7 +47,7 @@ module _ (script : Script) (valid : IsSpace script.space) (w : World) (o : Order
     pub done : u.version.0 ≤ (seat.slot u.key).floor
 
   -- the server has its own configuration
-  may-own : May w i (w.own i)
+  may-own : May (ways w) i (w.own i)
   may-own = record { up = seat.up; known = o.own i; later = omega arith }
 
   -- out of which the newest has grown
@@ -70,12 +81,11 @@ module _ (script : Script) (valid : IsSpace script.space) (w : World) (o : Order
 
     -- whom a hop goes to is listed, and has a place
     to-listed : (h : RegionId) (y : ServerId) → Hops (w.own i) u.places g i h y → IsIn y (order (w.own i) h) × HasPlace u.places h
-    to-listed h y (inl a) = (
-      subst (λ (r : RegionId). IsIn y (order (w.own i) r)) (sym a.same)
-          (before-in i y (order (w.own i) g) (after-order i y (members_of (w.own i) g) (o.differ (w.own i) (o.own i) g) a.after).0).1,
-      subst (HasPlace u.places) (sym a.same) here-placed,
-    )
-    to-listed h y (inr a) = ((head-order (w.own i) h y a.head).0, a.has_place)
+    to-listed h y hop = (hops-second (w.own i) (o.differ (w.own i) (o.own i)) u.places g i h y hop, by hop)
+      where
+        by : Hops (w.own i) u.places g i h y → HasPlace u.places h
+        by (inl a) = subst (HasPlace u.places) (sym a.same) here-placed
+        by (inr a) = a.has_place
 
     -- an update to the next replica is true
     pub passed : (y : ServerId) (n : ℕ) → next_at (context script w g i) u ≡ At y n → UpdateOk script w u.key i (region_at u.places n) y u
@@ -83,12 +93,18 @@ module _ (script : Script) (valid : IsSpace script.space) (w : World) (o : Order
         let hop = next-hops (w.own i) u.places apart (o.differ (w.own i) (o.own i)) g here-placed i home y n e in
         let there = to-listed (region_at u.places n) y hop in
         record {
-          region = g;
+          route = record {
+            region = g;
+            sender_placed = k.placed;
+            placed = number-placed u.places (region_at u.places n) there.1;
+            apart = apart;
+            config = w.own i;
+            known = o.own i;
+            first_in = home;
+            second_in = there.0;
+            hops = hop;
+          };
           from = seat.installed;
-          placed = number-placed u.places (region_at u.places n) there.1;
-          sender_placed = k.placed;
-          apart = apart;
-          route = record { config = w.own i; known = o.own i; first_in = home; second_in = there.0; hops = hop };
           accepted = λ l. (k.stands, here);
           heard = λ z. record {
             stands = k.stands;
@@ -140,7 +156,7 @@ module _ (script : Script) (valid : IsSpace script.space) (w : World) (o : Order
                 let grown = o.grown z.config w.config z.may.known o.newest (o.last z.config z.may.known) in
                 elim (none-after z.config w.config grown (o.listed w.config o.newest) u.places (apart u c.known) (o.differ z.config z.may.known)
                 (o.differ w.config o.newest) (region_at u.places n) y g i (here-placed u c.known) z.listed
-                (second z.config z.may.known (region_at u.places n) y hop2) now
+                (hops-second z.config (o.differ z.config z.may.known) u.places (region_at u.places n) y g i hop2) now
                 (own-grown.stays (region_at u.places n) y (o.up y z.may.up) there.0) hop2 h x ((ok u.key).listed h x t hold)
                 (λ q none b. (ok u.key).clear y z.config z.may (region_at u.places n) z.listed none x t
                 (subst (λ (r : RegionId). w.holds u.key r x t) q hold) b) a) [
@@ -151,13 +167,8 @@ module _ (script : Script) (valid : IsSpace script.space) (w : World) (o : Order
         }
       where
         from-placed : (h : RegionId) (y : ServerId) → Hops (w.own i) u.places h y g i → IsIn y (order (w.own i) h) × HasPlace u.places h
-        from-placed h y (inl a) = (
-          (before-in y i (order (w.own i) h) (after-order y i (members_of (w.own i) h) (o.differ (w.own i) (o.own i) h) a.after).0).0,
-          subst (HasPlace u.places) a.same (here-placed u c.known),
-        )
-        from-placed h y (inr a) = (a.first_in, (let m = here-placed u c.known in let q = a.up in omega (arith, m, q)))
-
-        second : (c : Config) → w.known c → (h : RegionId) (y : ServerId) → Hops c u.places h y g i → IsIn i (order c g)
-        second c k h y (inl a) = subst (λ (r : RegionId). IsIn i (order c r)) (sym a.same)
-            (before-in y i (order c h) (after-order y i (members_of c h) (o.differ c k h) a.after).0).1
-        second c k h y (inr a) = (head-order c g i a.head).0
+        from-placed h y hop = (hops-first (w.own i) (o.differ (w.own i) (o.own i)) u.places h y g i hop, by hop)
+          where
+            by : Hops (w.own i) u.places h y g i → HasPlace u.places h
+            by (inl a) = subst (HasPlace u.places) a.same (here-placed u c.known)
+            by (inr a) = (let m = here-placed u c.known in let q = a.up in omega (arith, m, q))

@@ -1,46 +1,32 @@
 -- Every run keeps all keys: by the entries of servers, and those of the coordinator and of sessions.
-use Rattle.hx_model.specs.Lines.{upto}
 use Rattle.std.proofs.Common.{◌≡◌, ℕ, ◌⊎◌, inl, inr, Bool, true, false, List, [], ◌∷◌, ◌++◌, None, refl, sym, ap, ◌∙◌, subst, arith, cond}
-use Rattle.std.proofs.lemmas.Bool.{cond_both, cond-true, cond-false, eqb-true}
+use Rattle.std.proofs.lemmas.Bool.{cond-false, cond-true, cond_both, eqb-true}
 use Rattle.hx_model.specs.Types.{Actor, Config, Coordinator, Deliver, Entry, Input, Message, Post, PostId, RegionId, Script, Server, ServerId, Session, Space}
-use Rattle.hx_model.specs.Types.{Update}
 use Rattle.hx_types.specs.declared.messages.Message.TheVariants as a_message
 use Rattle.hx_types.specs.Words.{IsBefore, IsIn, post, provided, same_server}
 use Rattle.hx_types.specs.Configs.{first_config, members_of}
 use Rattle.hx_types.specs.Fitting.{IsScript}
 use Rattle.hx_types.specs.Subspaces.{is_key_region}
+use Rattle.hx_model.specs.Lines.{upto}
 use Rattle.hx_model.specs.Histories.{line_notes, line_of}
 use Rattle.hx_model.specs.Neighbours.{member_after}
-use Rattle.hx_model.specs.Runs.{IsRun, Output, MayTake, coordinator_of, coordinator_after, has_halted, is_actor, made_of, server_after, server_of}
+use Rattle.hx_model.specs.Runs.{IsRun, MayTake, Output, coordinator_after, coordinator_of, has_halted, is_actor, server_after, server_of}
 use Rattle.hx_model.specs.ServerSteps.{Replica, ServerState, ServerStep, listed_regions, server_at_start, server_step, state_in}
 use Rattle.hx_model.specs.Slots.{KeyState, new_state, state_among}
 use Rattle.hx_law_lemmas.specs.Facts.{DeliversCall}
-use Rattle.hx_law_lemmas.specs.Words.{noted, posts_of}
+use Rattle.hx_law_lemmas.specs.Words.{posts_of}
 use Rattle.hx_law_lemmas.proofs.Lemmas.{after-nobody, arrived, in-append, in-map, replica-found}
 use Rattle.hx_law_epochs.specs.Epochs.{order}
-use Rattle.hx_law_epochs.proofs.Lemmas.{EpochsRun, IsKnown, Real, Widens, epochs-run, orderly-lists, widens}
-use Rattle.hx_law_chains.proofs.Calm.{calm-fixed, calm-key, calm-ordered, calm-valid}
+use Rattle.hx_law_epochs.proofs.Lemmas.{EpochsRun, IsKnown, Widens, epochs-run, orderly-lists, widens}
+use Rattle.hx_law_chains.proofs.Calm.{calm-stays}
 use Rattle.hx_law_chains.proofs.Elsewhere.{KeptAfter, elsewhere-kept}
-use Rattle.hx_law_chains.proofs.Entries.{input-served}
-use Rattle.hx_law_chains.proofs.Holders.{with_state_of, world_of}
+use Rattle.hx_law_chains.proofs.Entered.{made-by}
+use Rattle.hx_law_chains.proofs.Entries.{IsAsked, input-served}
+use Rattle.hx_law_chains.proofs.Holders.{with_state_of}
 use Rattle.hx_law_chains.proofs.Moves.{Around, Own}
-use Rattle.hx_law_chains.proofs.Serving.{Asked, Assigns, Late, Scene, Served, after, world}
+use Rattle.hx_law_chains.proofs.Serving.{Asked, Assigns, Late, Posted, Served, after, scene, world}
 use Rattle.hx_law_chains.proofs.Snapshots.{snapshots-kept}
-use Rattle.hx_law_chains.proofs.World.{Chained, Fixed, May, Ordered, Valid, World, around}
-
--- where all stand after a trace
-abbrev pub scene : Script → List Entry → Scene
-scene script t =
-    record {
-      script = script;
-      Real = Real script;
-      servers = λ s. server_of script s t;
-      config = (coordinator_of script t).config;
-      line =
-          λ key. line_of key t;
-      posts = posts_of t;
-      known = IsKnown script t;
-    }
+use Rattle.hx_law_chains.proofs.World.{Chained, Fixed, May, Ordered, World, around, ways}
 
 -- what an entry delivers
 abbrev pub delivered : Entry → Asked
@@ -93,13 +79,7 @@ module _ (script : Script) (valid : IsScript script) where
   start-chained : Chained script (world (scene script [])) []
   start-chained = record {
     ordered = start-ordered;
-    keyed = λ key. record {
-      lawful = tt;
-      listed = λ g s t h. listed key g s t h;
-      own = λ g s t h. own key g s t h;
-      clear =
-          λ s c m g i none z t h b. clear key s c m g i none z t h b;
-    };
+    keyed = λ key. record { lawful = tt; listed = listed key; own = own key; clear = clear key };
     valid = λ p i. absurd i;
   }
     where
@@ -118,7 +98,7 @@ module _ (script : Script) (valid : IsScript script) where
           subst (Own [] g (around script (world (scene script [])) key g s)) (sym (l.is ∙ new))
           (own-new g (around script (world (scene script [])) key g s) (is_key_region script.space l.at.replica.region) key)
 
-      clear : (key : List ℕ) (s : ServerId) (c : Config) → May (world (scene script [])) s c → (g : RegionId) → IsIn s (order c g)
+      clear : (key : List ℕ) (s : ServerId) (c : Config) → May (ways (world (scene script []))) s c → (g : RegionId) → IsIn s (order c g)
           → member_after s (members_of c g) ≡ None
           → (z : ServerId) (t : KeyState) → (world (scene script [])).holds key g z t → IsBefore s z (order (first_config script.space) g) → ⊥
       clear key s c m g i none z t h b =
@@ -151,8 +131,7 @@ module _ (script : Script) (valid : IsScript script) (older : List Entry) (epoch
 
   -- where all stand after, with other servers
   abbrev with-servers : (ServerId → ServerState) → World
-  with-servers M = world_of script (Real script) M (coordinator_of script older).config (noted (λ key. line_of key older) step.notes)
-      (step.posts ++ posts_of older) known2
+  with-servers M = world (record (after (scene script older) i step.state step.notes step.posts) { servers = M; known = known2 })
 
   -- what is kept with them
   record KeptWith (M : ServerId → ServerState) : Type 0 where
@@ -160,46 +139,36 @@ module _ (script : Script) (valid : IsScript script) (older : List Entry) (epoch
     pub fixed : (key : List ℕ) (v : ℕ) → Fixed script (world (scene script older)) key v → Fixed script (with-servers M) key v
         × (upto v (line_notes key (line_of key older) step.notes) ≡ upto v (line_of key older))
 
-  -- the servers, the lines and the posts after
-  abbrev M : ServerId → ServerState
-  M = with_state_of (λ j. server_of script j older) i step.state
-
-  abbrev L : List ℕ → List Update
-  L = noted (λ key. line_of key older) step.notes
-
-  abbrev posts : List Post
-  posts = step.posts ++ posts_of older
-
   -- what a step keeps whose keys and posts are true
   pub server-kept : Served (scene script older) asked i step.state step.notes step.posts
       → KeptAfter script valid older epochs known2 had (Server i) input step.posts step.notes
   server-kept served =
+      let now = after (scene script older) i step.state step.notes step.posts in
+      let calm = calm-stays now now.posts known2 (λ p j. inr j) (λ p j. j) wider.still
+      (λ d h. elim (wider.only d h) [ inl a ↦ a | inr e ↦ subst (IsKnown script older) (sym e) epochs.known.newest ])
+      served.stays.ordered served.stays.keys in
       let r = subst KeptWith (λ j s. servers-are s j) (record {
         chained = record {
-          ordered = calm-ordered script (Real script) M (coordinator_of script older).config L posts posts (IsKnown script older) known2 (λ p j. inr j)
-              (λ p j. j) wider.still less served.ordered served.keys;
-          keyed = calm-key script (Real script) M (coordinator_of script older).config L posts posts (IsKnown script older) known2 (λ p j. inr j) (λ p j. j)
-              wider.still less served.ordered served.keys;
-          valid = λ p j. still p.from p.to p.message (elim (in-append step.posts (posts_of older) p j)
-              [ inl k ↦ served.posts p k | inr k ↦ served.still p.from p.to p.message (had.valid p k) ]);
+          ordered = calm.ordered;
+          keyed = calm.keys;
+          valid = λ p j. calm.valid p.from p.to p.message (elim (in-append step.posts (posts_of older) p j)
+              [ inl k ↦ (served.posts p k).valid | inr k ↦ served.stays.valid p.from p.to p.message (had.valid p k) ]);
         };
-        fixed = λ key v f. (let h = served.fixed key v f in (
-          calm-fixed script (Real script) M (coordinator_of script older).config L posts posts (IsKnown script older) known2 (λ p j. inr j) (λ p j. j)
-              wider.still less served.ordered served.keys key v h.0,
-          h.1,
-        ));
+        fixed = λ key v f. (calm.fixed key v (served.stays.fixed key v f), served.same key v f);
       }) in
       record { chained = r.chained; fixed = r.fixed }
-    where
-      less : (d : Config) → known2 d → IsKnown script older d
-      less d h = elim (wider.only d h) [ inl a ↦ a | inr e ↦ subst (IsKnown script older) (sym e) epochs.known.newest ]
-
-      still : (from to : Actor) (m : Message) → Valid script (world (after (scene script older) i step.state step.notes step.posts)) from to m
-          → Valid script (with-servers M) from to m
-      still = calm-valid script (Real script) M (coordinator_of script older).config L posts posts (IsKnown script older) known2 (λ p j. inr j) (λ p j. j)
-          wider.still less served.ordered served.keys
 
 -- ---- all runs
+
+-- what a message that is delivered asks for
+is-delivered : (x : Entry) (id : PostId) (from : Actor) (m : Message) → x.input ≡ Deliver id from m → IsAsked (delivered x) from m
+is-delivered x id from (a_message.Call epoch number op) = by from
+  where
+    by : (from : Actor) → x.input ≡ Deliver id from (a_message.Call epoch number op) → IsAsked (delivered x) from (a_message.Call epoch number op)
+    by (Session u) e = record { id = id; epoch = epoch; op = op; input = e }
+    by other e = tt
+is-delivered x id from (a_message.Ask epoch number g terms) = λ e. (id, e)
+is-delivered x id from other = λ e. tt
 
 -- an entry of a server keeps all keys
 serves : (script : Script) → IsScript script → (x : Entry) (older : List Entry) → IsRun script (x ∷ older)
@@ -211,10 +180,13 @@ serves script valid x older run had i acts =
     let may = subst (λ (a : Actor). MayTake older a x.input) acts run.0.input in
     input-served (scene script older) (delivered x) valid.space had.ordered had.keyed epochs.epochs i
     (subst (λ (a : Actor). is_actor script a ≡ true) acts run.0.actor, subst (λ (a : Actor). has_halted script older a ≡ false) acts run.0.running)
-    (epochs.shaped i) (snapshots.joinable i) x.input (λ p j. (had.valid p j, snapshots.carried p j))
-    (λ id from m e. arrived id older (post from (Server i) m) (subst (MayTake older (Server i)) e may))
-    (λ id u epoch number op e. record { id = id; epoch = epoch; op = op; input = e })
-    (λ id from epoch number g terms e. (id, e))
+    (epochs.shaped i) (snapshots.joinable i) x.input
+    (λ id from m e. let j = arrived id older (post from (Server i) m) (subst (MayTake older (Server i)) e may) in record {
+      posted = j;
+      valid = had.valid (post from (Server i) m) j;
+      sends = snapshots.carried (post from (Server i) m) j;
+      asks = is-delivered x id from m e;
+    })
 
 module _ (script : Script) (valid : IsScript script) where
   -- what an entry keeps
@@ -227,10 +199,9 @@ module _ (script : Script) (valid : IsScript script) where
       by Coordinator e = elsewhere-kept script valid older epochs had x run.0 (λ i q. (let z : Coordinator ≡ Server i = sym e ∙ q in cc))
       by (Session u) e = elsewhere-kept script valid older epochs had x run.0 (λ i q. (let z : Session u ≡ Server i = sym e ∙ q in cc))
       by (Server i) e =
-          let made : made_of script older (Server i) x.input ≡ record { posts = x.outputs; notes = x.notes } = subst
-          (λ (a : Actor). made_of script older a x.input ≡ record { posts = x.outputs; notes = x.notes }) e run.0.made in
           subst (λ (a : Actor). KeptAfter script valid older epochs (IsKnown script (x ∷ older)) had a x.input x.outputs x.notes) (sym e)
-          (subst (λ (m : Output). KeptAfter script valid older epochs (IsKnown script (x ∷ older)) had (Server i) x.input m.posts m.notes) made
+          (subst (λ (m : Output). KeptAfter script valid older epochs (IsKnown script (x ∷ older)) had (Server i) x.input m.posts m.notes)
+          (made-by script x older run (Server i) e)
           (server-kept script valid older epochs (IsKnown script (x ∷ older))
           (subst (λ (a : Actor). Widens (IsKnown script older) (IsKnown script (x ∷ older)) (coordinator_of script older).config
           (coordinator_after a x.input (coordinator_of script older)).config) e (widens script valid older epochs x run.0)) had i x.input (delivered x)
@@ -249,17 +220,18 @@ module _ (script : Script) (valid : IsScript script) where
   -- what a server assigns
   pub lines-run : (x : Entry) (older : List Entry) → IsRun script (x ∷ older) → (i : ServerId) → x.actor ≡ Server i
       → (key : List ℕ) → (line_of key (x ∷ older) ≡ line_of key older) ⊎ Assigns (scene script older) (delivered x) key (line_of key (x ∷ older))
-  lines-run x older run i e key =
-      let made : made_of script older (Server i) x.input ≡ record { posts = x.outputs; notes = x.notes } = subst
-      (λ (a : Actor). made_of script older a x.input ≡ record { posts = x.outputs; notes = x.notes }) e run.0.made in
-      subst (λ (m : Output). (line_notes key (line_of key older) m.notes ≡ line_of key older)
-      ⊎ Assigns (scene script older) (delivered x) key (line_notes key (line_of key older) m.notes)) made
+  lines-run x older run i e key = subst (λ (m : Output). (line_notes key (line_of key older) m.notes ≡ line_of key older)
+      ⊎ Assigns (scene script older) (delivered x) key (line_notes key (line_of key older) m.notes)) (made-by script x older run (Server i) e)
       ((serves script valid x older run (chained-run older run.1) i e).lines key)
 
-  -- what its posts say
+  -- what is said of its posts
+  pub posted-run : (x : Entry) (older : List Entry) → IsRun script (x ∷ older) → (i : ServerId) → x.actor ≡ Server i → (p : Post) → IsIn p x.outputs
+      → let step = server_step script.space (server_of script i older) x.input in
+      Posted (scene script older) (delivered x) i step.state (world (after (scene script older) i step.state step.notes step.posts)) p
+  posted-run x older run i e p j = (serves script valid x older run (chained-run older run.1) i e).posts p
+      (subst (λ (ps : List Post). IsIn p ps) (sym (ap (λ (m : Output). m.posts) (made-by script x older run (Server i) e))) j)
+
+  -- a reply to a get answers the call that arrives, and rows the ask
   pub late-run : (x : Entry) (older : List Entry) → IsRun script (x ∷ older) → (i : ServerId) → x.actor ≡ Server i → (p : Post) → IsIn p x.outputs
       → Late (scene script older) (delivered x) i p.to p.message
-  late-run x older run i e p j =
-      let made : made_of script older (Server i) x.input ≡ record { posts = x.outputs; notes = x.notes } = subst
-      (λ (a : Actor). made_of script older a x.input ≡ record { posts = x.outputs; notes = x.notes }) e run.0.made in
-      (serves script valid x older run (chained-run older run.1) i e).late p (subst (λ (ps : List Post). IsIn p ps) (sym (ap (λ (m : Output). m.posts) made)) j)
+  late-run x older run i e p j = (posted-run x older run i e p j).late

@@ -1,32 +1,28 @@
 -- What a server's step posts and notes: replies, updates and acknowledgements, rows, words to the coordinator, and snapshots of its replicas;
 -- and at most one assigned update.
-use Rattle.std.proofs.Common.{◌≡◌, ℕ, ◌⊎◌, inl, inr, Bool, false, not, List, [], ◌∷◌, ◌++◌, map, Option, Some, None, refl, sym, subst, cond, ltb, leb}
+use Rattle.std.proofs.Common.{◌≡◌, ℕ, ◌⊎◌, inl, inr, false, List, [], ◌∷◌, ◌++◌, map, Option, None, Some, refl, sym, subst, leb, ltb}
 use Rattle.std.specs.Prelude.{⊤}
 use Rattle.std.specs.List.{filter, flat_map}
 use Rattle.std.proofs.lemmas.Bool.{cond_both}
-use Rattle.hx_model.specs.Types.{Actor, At, Blocked, Caller, Config, Coordinator, Decision, Deliver, End, Epoch, Halt, Hop, Input, Kept, Message, Note, Op}
-use Rattle.hx_model.specs.Types.{Post, RegionId, Server, ServerId, Session, Space, Term, Tick, Update}
+use Rattle.hx_model.specs.Types.{Caller, Config, Coordinator, Decision, Epoch, Input, Kept, Message, Note, Op, Post, RegionId, Server, ServerId, Space, Update}
 use Rattle.hx_types.specs.declared.messages.Message.TheVariants as a_message
 use Rattle.hx_types.specs.declared.outcomes.Decision.TheVariants as a_decision
 use Rattle.hx_types.specs.declared.traces.Note.TheVariants as a_note
 use Rattle.hx_types.specs.Words.{IsIn, post, provided, same_text}
 use Rattle.hx_types.specs.Configs.{joiner_for, leads, lists_joining, lists_ready}
-use Rattle.hx_types.specs.Effects.{is_write, key_of}
+use Rattle.hx_types.specs.Effects.{is_write}
 use Rattle.hx_types.specs.Subspaces.{is_key_region}
-use Rattle.hx_model.specs.Regions.{key_region}
 use Rattle.hx_model.specs.Leading.{StuckAt, decide, stuck_of}
-use Rattle.hx_model.specs.Hearing.{hears_ack, hears_snap, hears_update}
-use Rattle.hx_model.specs.Neighbours.{place_number, region_at}
-use Rattle.hx_model.specs.Slots.{Commit, KeyState, Move, Take, acknowledged, found_in, moved_all, offered, pending_of, pending_of_all, snapshot_of}
-use Rattle.hx_model.specs.Slots.{state_among, top_of}
-use Rattle.hx_model.specs.ServerSteps.{Replica, ServerState, ServerStep, SlotContext, SlotStep, Slots, accepting, ack_step, ack_to, acked, acked_of, adopted}
-use Rattle.hx_model.specs.ServerSteps.{adopted_posts, asked, asking_last, at_slot, by_moves, by_posts, call_at, call_step, called, called_by, context_of}
-use Rattle.hx_model.specs.ServerSteps.{decided, doubt_in, doubts_from, halting, if_installed, input_step, install_at, installed_slots, is_active, join_keys}
-use Rattle.hx_model.specs.ServerSteps.{join_slot, keys_of, known_to, leader_doubts, listed_regions, meeting, message_step, move_posts, next_at, offered_all}
-use Rattle.hx_model.specs.ServerSteps.{passed_on, pending_posts, pending_with, poll_post, ready_post, replica_for, replica_of, replica_or_new, replica_tick}
-use Rattle.hx_model.specs.ServerSteps.{reply, resumed, resumed_posts, saying, server_step, snap_posts, snap_to, snapped, state_from, state_in, tick_step}
-use Rattle.hx_model.specs.ServerSteps.{told_to, unmoved, update_step, update_to, updated, waiting_doubt, with_config, with_slots, write_step}
-use Rattle.hx_law_lemmas.proofs.Lemmas.{in-append, in-flat_map, in-map, in-provided, when_some_both, replica-found}
+use Rattle.hx_model.specs.Slots.{KeyState, Move, acknowledged, found_in, moved_all, offered, pending_of, pending_of_all, snapshot_of, state_among, top_of}
+use Rattle.hx_model.specs.ServerSteps.{Replica, ServerState, ServerStep, SlotContext, SlotStep, Slots, accepting, ack_step, ack_to, adopted, adopted_posts}
+use Rattle.hx_model.specs.ServerSteps.{asking_last, at_slot, by_moves, by_posts, call_step, context_of, decided, doubt_in, doubts_from, input_step}
+use Rattle.hx_model.specs.ServerSteps.{installed_slots, is_active, join_keys, join_slot, keys_of, known_to, leader_doubts, listed_regions, meeting, move_posts}
+use Rattle.hx_model.specs.ServerSteps.{offered_all, passed_on, pending_posts, poll_post, prev_at, ready_post, replica_of, replica_or_new, replica_tick, reply}
+use Rattle.hx_model.specs.ServerSteps.{resumed, resumed_posts, saying, server_step, snap_posts, snap_to, state_from, state_in, tick_step, unmoved, update_step}
+use Rattle.hx_model.specs.ServerSteps.{waiting_doubt, with_config, with_slots, write_step}
+use Rattle.hx_law_lemmas.proofs.Lemmas.{in-flat_map, in-map, replica-found, when_some_both}
+use Rattle.hx_law_chains.proofs.SlotPosts.{each-acked, each-both, each-moved, each-one, each-passed, each-told, each-under}
+use Rattle.hx_law_chains.proofs.Table.{Rows, by-input}
 
 -- what servers post, and of which snapshots
 abbrev pub OfServer : (RegionId → List Kept → List Update → Type 0) → Message → Type 0
@@ -57,9 +53,9 @@ module _ (Sent : RegionId → List Kept → List Update → Type 0) where
   none : AllOf []
   none p i = absurd i
 
-  -- two lists
-  both : (ps qs : List Post) → AllOf ps → AllOf qs → AllOf (ps ++ qs)
-  both ps qs a b p i = elim (in-append ps qs p i) [ inl j ↦ a p j | inr j ↦ b p j ]
+  -- a post is such
+  abbrev Of : Post → Type 0
+  Of p = OfServer Sent p.message
 
   -- posts of each of some
   each : {A : Type 0} (f : A → List Post) (xs : List A) → ((x : A) → AllOf (f x)) → AllOf (flat_map f xs)
@@ -69,45 +65,25 @@ module _ (Sent : RegionId → List Kept → List Update → Type 0) where
   each-in : {A : Type 0} (f : A → List Post) (xs : List A) → ((x : A) → IsIn x xs → AllOf (f x)) → AllOf (flat_map f xs)
   each-in f xs h p i = let r = in-flat_map f xs p i in h r.0 r.1 p r.2
 
-  -- posts under a condition
-  under : (b : Bool) (ps : List Post) → AllOf ps → AllOf (provided b ps)
-  under b ps h p i = h p (in-provided b ps p i).1
-
-  -- one post
-  one : (p : Post) → OfServer Sent p.message → AllOf (p ∷ [])
-  one p h q (inl e) = subst (λ (x : Post). OfServer Sent x.message) (sym e) h
-  one p h q (inr i) = absurd i
-
   -- ---- posts of a slot
 
   -- an update that is passed on
-  passed : (context : SlotContext) (u : Update) (hop : Hop) → AllOf (update_to context u hop)
-  passed context u (At s place) = one (post (Server context.server) (Server s) (a_message.Update context.config.epoch (region_at u.places place) u)) tt
-  passed context u other = none
+  passed : (context : SlotContext) (u : Update) → AllOf (passed_on context u)
+  passed context u = each-passed context Of u (λ y n e. tt)
 
   -- an acknowledgement
-  acks : (context : SlotContext) (u : Update) (hop : Hop) → AllOf (ack_to context u hop)
-  acks context u (At s place) =
-      one (post (Server context.server) (Server s) (a_message.Ack context.config.epoch (region_at u.places place) context.region u.key u.version)) tt
-  acks context u other = none
-
-  -- what is told of a commit
-  told : (context : SlotContext) (u : Update) (hop : Hop) → AllOf (told_to context u hop)
-  told context u (At s place) = acks context u (At s place)
-  told context u End = one (reply context u.caller u.version u.answer) tt
-  told context u (Blocked g) = none
+  acks : (context : SlotContext) (u : Update) → AllOf (ack_to context u (prev_at context u))
+  acks context u = each-acked context Of u (λ y n e. tt)
 
   -- what is posted with moves
-  moves : (context : SlotContext) (m : Move) → AllOf (move_posts context m)
-  moves context (Take u) = passed context u _
-  moves context (Commit u) = told context u _
-  moves context other = none
+  moves : (context : SlotContext) (ms : List Move) → AllOf (flat_map (move_posts context) ms)
+  moves context ms = each-moved context Of ms (λ u j. passed context u) (λ u j. each-told context Of u (λ y n e. tt) (λ e. tt))
 
   -- what is said of a joiner
   readies : (s : ServerState) (g : RegionId) → AllOf (ready_post s g)
   readies s g =
       let ready = post (Server s.id) Coordinator (a_message.Ready s.config.epoch g) in
-      under (lists_joining s.config g s.id) (ready ∷ []) (one ready tt)
+      each-under Of (lists_joining s.config g s.id) (ready ∷ []) (each-one Of ready tt)
 
   -- the replica's snapshot may be sent
   abbrev pub MaySend : Replica → Type 0
@@ -116,7 +92,7 @@ module _ (Sent : RegionId → List Kept → List Update → Type 0) where
   -- a snapshot
   snaps : (s : ServerState) (r : Replica) (o : Option ServerId) → MaySend r → AllOf (snap_to s r o)
   snaps s r None h = none
-  snaps s r (Some j) h = λ p i. elim i [ inl e ↦ subst (λ (x : Post). OfServer Sent x.message) (sym e) h | inr k ↦ absurd k ]
+  snaps s r (Some j) h = each-one Of _ h
 
   -- ---- steps of a slot
 
@@ -127,7 +103,7 @@ module _ (Sent : RegionId → List Kept → List Update → Type 0) where
 
   -- moves
   by-moves : (context : SlotContext) (ms : List Move) → SlotWell (by_moves context ms)
-  by-moves context ms = record { posts = each (move_posts context) ms (moves context); notes = inl refl }
+  by-moves context ms = record { posts = moves context ms; notes = inl refl }
 
   -- posts
   by-posts : (ps : List Post) → AllOf ps → SlotWell (by_posts ps)
@@ -137,28 +113,28 @@ module _ (Sent : RegionId → List Kept → List Update → Type 0) where
   update-well : (context : SlotContext) (t : KeyState) (u : Update) → SlotWell (update_step context t u)
   update-well context t u =
       cond_both (leb u.version.0 (top_of t)) (by_posts (known_to context t u)) _ SlotWell
-      (λ e. by-posts (known_to context t u) (under (leb u.version.0 t.floor) _ (acks context u _)))
+      (λ e. by-posts (known_to context t u) (each-under Of (leb u.version.0 t.floor) _ (acks context u)))
       (λ e. by-moves context _)
 
   -- a decision
   decided-well : (context : SlotContext) (t : KeyState) (caller : Caller) (d : Decision) → SlotWell (decided context t caller d)
   decided-well context t caller a_decision.Old = by-posts [] none
-  decided-well context t caller (a_decision.Again v answer) = by-posts (reply context caller v answer ∷ []) (one (reply context caller v answer) tt)
+  decided-well context t caller (a_decision.Again v answer) = by-posts (reply context caller v answer ∷ []) (each-one Of (reply context caller v answer) tt)
   decided-well context t caller (a_decision.Wait v) = by-posts (waiting_doubt context caller v (stuck_of context.config t)) (by (stuck_of context.config t))
     where
       by : (o : Option StuckAt) → AllOf (waiting_doubt context caller v o)
       by None = none
-      by (Some x) = under (leb x.version.0 v.0) (doubt_in context caller v x.region ∷ []) (one (doubt_in context caller v x.region) tt)
-  decided-well context t caller (a_decision.Stuck g) = by-posts _ (one (doubt_in context caller (record { 0 = 0 }) g) tt)
+      by (Some x) = each-under Of (leb x.version.0 v.0) (doubt_in context caller v x.region ∷ []) (each-one Of (doubt_in context caller v x.region) tt)
+  decided-well context t caller (a_decision.Stuck g) = by-posts _ (each-one Of (doubt_in context caller (record { 0 = 0 }) g) tt)
   decided-well context t caller (a_decision.Assign u) =
-      record { posts = each (move_posts context) (accepting context t (offered context.region t u)) (moves context); notes = inr (u, refl) }
+      record { posts = moves context (accepting context t (offered context.region t u)); notes = inr (u, refl) }
 
   -- a call
   call-well : (context : SlotContext) (t : KeyState) (caller : Caller) (op : Op) → SlotWell (call_step context t caller op)
   call-well context t caller op =
       cond_both (is_write op) (write_step context t caller op) _ SlotWell
       (λ e. decided-well context t caller (decide context.space context.config context.region t caller op))
-      (λ e. by-posts _ (λ p i. elim i [ inl q ↦ subst (λ (x : Post). OfServer Sent x.message) (sym q) tt | inr k ↦ absurd k ]))
+      (λ e. by-posts _ (each-one Of _ tt))
 
   -- ---- a server's step
 
@@ -183,59 +159,7 @@ module _ (Sent : RegionId → List Kept → List Update → Type 0) where
   meets : (s : ServerState) (epoch : Epoch) (step : ServerStep) → Plain step → Plain (meeting s epoch step)
   meets s epoch step h =
       let first = provided (ltb s.config.epoch.0 epoch.0) (poll_post s ∷ []) in
-      record { posts = both first step.posts (under _ (poll_post s ∷ []) (one (poll_post s) tt)) h.posts; notes = h.notes }
-
-  -- a call at the leader's slot
-  leading : (space : Space) (s : ServerState) (caller : Caller) (op : Op) (key : List ℕ) (r : Replica) → Plain (call_at space s r key caller op)
-  leading space s caller op key r =
-      let step = call_step (context_of space s r.region) (state_in space r key) caller op in
-      cond_both (leads space s.config s.id r.region) (at_slot s r (state_in space r key) step) (unmoved s) Plain
-      (λ t. at-slot s r (state_in space r key) step (call-well (context_of space s r.region) (state_in space r key) caller op))
-      (λ t. rests s)
-
-  -- a call on a key
-  calls-on : (space : Space) (s : ServerState) (caller : Caller) (op : Op) (o : Option (List ℕ)) → Plain (called space s caller op o)
-  calls-on space s caller op None = rests s
-  calls-on space s caller op (Some key) =
-      when_some_both (replica_for s (key_region space key)) (unmoved s) (λ (r : Replica). call_at space s r key caller op) Plain
-      (λ e. rests s)
-      (λ r e. leading space s caller op key r)
-
-  -- a call
-  calls : (space : Space) (s : ServerState) (from : Actor) (number : ℕ) (op : Op) → Plain (called_by space s from number op)
-  calls space s (Session u) number op = calls-on space s (record { session = u; number = number }) op (key_of op)
-  calls space s other number op = rests s
-
-  -- an update
-  updates : (space : Space) (s : ServerState) (from : Actor) (u : Update) (o : Option Replica) → Plain (updated space s from u o)
-  updates space s from u None = rests s
-  updates space s from u (Some r) =
-      let step = update_step (context_of space s r.region) (state_in space r u.key) u in
-      cond_both (hears_update s.config u (place_number r.region u.places) s.id from) (at_slot s r (state_in space r u.key) step) (unmoved s) Plain
-      (λ t. at-slot s r (state_in space r u.key) step (update-well (context_of space s r.region) (state_in space r u.key) u))
-      (λ t. rests s)
-
-  -- an acknowledgement
-  acknowledges : (space : Space) (s : ServerState) (from : Actor) (key : List ℕ) (v : ℕ) (by : RegionId) (o : Option Replica)
-      → Plain (acked space s from key v by o)
-  acknowledges space s from key v by None = rests s
-  acknowledges space s from key v by (Some r) = of (pending_with v (state_in space r key))
-    where
-      of : (p : Option Update) → Plain (acked_of space s from by r (state_in space r key) v p)
-      of None = rests s
-      of (Some u) =
-          let context = context_of space s r.region in
-          let state = state_in space r key in
-          cond_both (hears_ack s.config u (place_number r.region u.places) s.id from by) (at_slot s r state (ack_step context state v)) (unmoved s) Plain
-          (λ t. at-slot s r state (ack_step context state v) (by-moves context (acknowledged state v)))
-          (λ t. rests s)
-
-  -- an ask
-  asks : (s : ServerState) (from : Actor) (epoch : Epoch) (number : ℕ) (terms : List Term) (o : Option Replica) → Plain (asked s from epoch number terms o)
-  asks s from epoch number terms None = rests s
-  asks s from epoch number terms (Some r) =
-      let found = post (Server s.id) from (a_message.Found epoch number r.region (found_in r.region terms r.states)) in
-      says s (provided (lists_ready s.config r.region s.id) (found ∷ [])) (under (lists_ready s.config r.region s.id) (found ∷ []) (one found tt))
+      record { posts = each-both Of first step.posts (each-under Of _ (poll_post s ∷ []) (each-one Of (poll_post s) tt)) h.posts; notes = h.notes }
 
   -- a snapshot that is installed
   joins : (context : SlotContext) (us : List Update) (slots : Slots) → AllOf slots.posts → (keys : List (List ℕ))
@@ -245,8 +169,8 @@ module _ (Sent : RegionId → List Kept → List Update → Type 0) where
       let mine = filter (λ (u : Update). same_text u.key key) us in
       let state = state_among (is_key_region context.space context.region) key slots.states in
       joins context us (join_slot context mine slots state)
-      (both slots.posts (flat_map (move_posts context) (accepting context state (offered_all context.region state mine))) h
-      (each (move_posts context) (accepting context state (offered_all context.region state mine)) (moves context))) rest
+      (each-both Of slots.posts (flat_map (move_posts context) (accepting context state (offered_all context.region state mine))) h
+      (moves context (accepting context state (offered_all context.region state mine)))) rest
 
   -- a snapshot at a replica that isn't installed
   takes : (space : Space) (s : ServerState) (snapshot : List Kept) (pending : List Update) (r : Replica)
@@ -254,41 +178,22 @@ module _ (Sent : RegionId → List Kept → List Update → Type 0) where
   takes space s snapshot pending r =
       let start : Slots = record { states = map (state_from (is_key_region space r.region)) snapshot; posts = [] } in
       record {
-        posts = both (installed_slots (context_of space s r.region) snapshot pending).posts (ready_post s r.region)
+        posts = each-both Of (installed_slots (context_of space s r.region) snapshot pending).posts (ready_post s r.region)
             (joins (context_of space s r.region) pending start none (keys_of pending))
             (readies s r.region);
         notes = inl refl;
       }
 
-  -- a snapshot
-  snapshots : (space : Space) (s : ServerState) (from : Actor) (snapshot : List Kept) (pending : List Update) (o : Option Replica)
-      → Plain (snapped space s from snapshot pending o)
-  snapshots space s from snapshot pending None = rests s
-  snapshots space s from snapshot pending (Some r) =
-      let here = saying s (ready_post s r.region) in
-      let new = with_slots s r (installed_slots (context_of space s r.region) snapshot pending) in
-      cond_both (not (hears_snap s.config r.region s.id from)) (unmoved s) (cond r.installed here new) Plain
-      (λ t. rests s)
-      (
-      λ t. cond_both r.installed here new Plain
-      (λ i. says s (ready_post s r.region) (readies s r.region))
-      (λ i. takes space s snapshot pending r)
-      )
-
-  -- a halt
-  halts : (s : ServerState) → Plain (halting s)
-  halts s = record { posts = one (post (Server s.id) Coordinator a_message.Gone) tt; notes = inl refl }
-
   -- an update that is passed on again
   sends : (context : SlotContext) (states : List KeyState) → AllOf (pending_posts context states)
   sends context states =
       each (λ (t : KeyState). flat_map (passed_on context) (pending_of t)) states
-      (λ t. each (passed_on context) (pending_of t) (λ u. passed context u (next_at context u)))
+      (λ t. each (passed_on context) (pending_of t) (passed context))
 
   -- a poll after what is posted
   asks-last : (s : ServerState) (ps : List Post) → AllOf ps → AllOf (asking_last s ps)
   asks-last s [] h = none
-  asks-last s (p ∷ ps) h = both (p ∷ ps) (poll_post s ∷ []) h (one (poll_post s) tt)
+  asks-last s (p ∷ ps) h = each-both Of (p ∷ ps) (poll_post s ∷ []) h (each-one Of (poll_post s) tt)
 
   -- a tick
   ticks : (space : Space) (s : ServerState) → ((r : Replica) → IsIn r s.replicas → MaySend r) → Plain (tick_step space s)
@@ -297,9 +202,9 @@ module _ (Sent : RegionId → List Kept → List Update → Type 0) where
       of : (r : Replica) → IsIn r s.replicas → AllOf (replica_tick space s r)
       of r i =
           let context = context_of space s r.region in
-          under (is_active s.config r) (snap_posts s r ++ pending_posts context r.states ++ ready_post s r.region)
-          (both (snap_posts s r ++ pending_posts context r.states) (ready_post s r.region)
-          (both (snap_posts s r) (pending_posts context r.states) (snaps s r (joiner_for s.config r.region s.id) (may r i)) (sends context r.states))
+          each-under Of (is_active s.config r) (snap_posts s r ++ pending_posts context r.states ++ ready_post s r.region)
+          (each-both Of (snap_posts s r ++ pending_posts context r.states) (ready_post s r.region)
+          (each-both Of (snap_posts s r) (pending_posts context r.states) (snaps s r (joiner_for s.config r.region s.id) (may r i)) (sends context r.states))
           (readies s r.region))
 
   -- a configuration that is adopted
@@ -317,20 +222,19 @@ module _ (Sent : RegionId → List Kept → List Update → Type 0) where
           let after = moved_all (resumed context t) t in
           let sent = flat_map (passed_on context) (pending_of t) in
           let moved = flat_map (move_posts context) (resumed context t) in
-          both (sent ++ moved) (leader_doubts context after)
-          (both sent moved
-          (each (passed_on context) (pending_of t) (λ u. passed context u (next_at context u)))
-          (each (move_posts context) (resumed context t) (moves context)))
-          (under (leads context.space context.config context.server context.region) (doubts_from context after (stuck_of context.config after))
+          each-both Of (sent ++ moved) (leader_doubts context after)
+          (each-both Of sent moved (each (passed_on context) (pending_of t) (passed context)) (moves context (resumed context t)))
+          (each-under Of (leads context.space context.config context.server context.region) (doubts_from context after (stuck_of context.config after))
           (doubts context after (stuck_of context.config after)))
 
       of : (r : Replica) → IsIn r s.replicas → AllOf (adopted_posts space s r)
       of r i =
           let context = context_of space s r.region in
           let moved = flat_map (resumed_posts context) r.states in
-          under (is_active s.config r) (snap_posts s r ++ moved ++ ready_post s r.region)
-          (both (snap_posts s r ++ moved) (ready_post s r.region)
-          (both (snap_posts s r) moved (snaps s r (joiner_for s.config r.region s.id) (may r i)) (each (resumed_posts context) r.states (resumes context)))
+          each-under Of (is_active s.config r) (snap_posts s r ++ moved ++ ready_post s r.region)
+          (each-both Of (snap_posts s r ++ moved) (ready_post s r.region)
+          (each-both Of (snap_posts s r) moved (snaps s r (joiner_for s.config r.region s.id) (may r i))
+          (each (resumed_posts context) r.states (resumes context)))
           (readies s r.region))
 
   -- the replicas of a newer configuration
@@ -343,33 +247,34 @@ module _ (Sent : RegionId → List Kept → List Update → Type 0) where
       (λ e. new m.0)
       (λ y e. may y (replica-found m.0 s.replicas y e).0))
 
-  -- an install
-  installs : (space : Space) (s : ServerState) (c : Config) → ((r : Replica) → IsIn r s.replicas → MaySend r)
-      → ((g : RegionId) → MaySend (record { region = g; installed = false; states = [] })) → Plain (install_at space s c)
-  installs space s c may new =
-      cond_both (ltb s.config.epoch.0 c.epoch.0) (adopted space (with_config s c)) (unmoved s) Plain
-      (λ t. adopts space (with_config s c) (newer s c may new))
-      (λ t. rests s)
-
-  -- each message
-  messages : (space : Space) (s : ServerState) → ((r : Replica) → IsIn r s.replicas → MaySend r)
-      → ((g : RegionId) → MaySend (record { region = g; installed = false; states = [] })) → (from : Actor) (m : Message) → Plain (message_step space s from m)
-  messages space s may new from (a_message.Call epoch number op) = meets s epoch _ (calls space s from number op)
-  messages space s may new from (a_message.Update epoch g u) = meets s epoch _ (updates space s from u (if_installed (replica_for s g)))
-  messages space s may new from (a_message.Ack epoch g by key version) =
-      meets s epoch _ (acknowledges space s from key version.0 by (if_installed (replica_for s g)))
-  messages space s may new from (a_message.Ask epoch number g terms) = meets s epoch _ (asks s from epoch number terms (if_installed (replica_for s g)))
-  messages space s may new from (a_message.Install config) = installs space s config may new
-  messages space s may new from a_message.Die = halts s
-  messages space s may new from (a_message.Snap epoch g snapshot pending) = meets s epoch _ (snapshots space s from snapshot pending (replica_for s g))
-  messages space s may new from other = rests s
+  -- the rows
+  rows : (space : Space) (s : ServerState) → ((r : Replica) → IsIn r s.replicas → MaySend r)
+      → ((g : RegionId) → MaySend (record { region = g; installed = false; states = [] })) → Rows space s (λ from m. ⊤) Plain
+  rows space s may new = record {
+    still = rests s;
+    met = meets s;
+    ticks = ticks space s may;
+    halts = record { posts = each-one Of (post (Server s.id) Coordinator a_message.Gone) tt; notes = inl refl };
+    call = λ u epoch number op key r a z q l. (let caller : Caller = record { session = u; number = number } in
+        at-slot s r (state_in space r key) (call_step (context_of space s r.region) (state_in space r key) caller op)
+        (call-well (context_of space s r.region) (state_in space r key) caller op));
+    update = λ from epoch g u r a z t. at-slot s r (state_in space r u.key)
+        (update_step (context_of space s r.region) (state_in space r u.key) u) (update-well (context_of space s r.region) (state_in space r u.key) u);
+    ack = λ from epoch g by key v r u a z f t. at-slot s r (state_in space r key)
+        (ack_step (context_of space s r.region) (state_in space r key) v.0)
+        (by-moves (context_of space s r.region) (acknowledged (state_in space r key) v.0));
+    ask = λ from epoch number g terms r a z. (let found = post (Server s.id) from (a_message.Found epoch number r.region (found_in r.region terms r.states)) in
+        says s (provided (lists_ready s.config r.region s.id) (found ∷ []))
+        (each-under Of (lists_ready s.config r.region s.id) (found ∷ []) (each-one Of found tt)));
+    snap = λ from epoch g snapshot pending r a z t. cond_both r.installed (saying s (ready_post s r.region))
+        (with_slots s r (installed_slots (context_of space s r.region) snapshot pending)) Plain
+        (λ i. says s (ready_post s r.region) (readies s r.region))
+        (λ i. takes space s snapshot pending r);
+    install = λ from config a l. adopts space (with_config s config) (newer s config may new);
+  }
 
   -- each input
   pub server-plain : (space : Space) (s : ServerState) (input : Input) → ((r : Replica) → IsIn r s.replicas → MaySend r)
       → ((g : RegionId) → MaySend (record { region = g; installed = false; states = [] })) → Plain (server_step space s input)
-  server-plain space s input may new = cond_both s.halted (unmoved s) (input_step space s input) Plain (λ t. rests s) (λ t. by input)
-    where
-      by : (input : Input) → Plain (input_step space s input)
-      by Tick = ticks space s may
-      by Halt = halts s
-      by (Deliver id from m) = messages space s may new from m
+  server-plain space s input may new = cond_both s.halted (unmoved s) (input_step space s input) Plain (λ t. rests s)
+      (λ t. by-input space s (λ from m. ⊤) Plain (rows space s may new) input (λ id from m e. tt))

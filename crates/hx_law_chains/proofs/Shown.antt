@@ -1,15 +1,15 @@
 -- What a slot at a key's own region shows is what the line up to its top shows, whether it began from a snapshot or not.
-use Rattle.hx_model.specs.Lines.{upto}
-use Rattle.std.proofs.Common.{◌≡◌, ℕ, ◌≤◌, true, List, [], ◌∷◌, ◌++◌, None, refl, sym, ap, ◌∙◌, arith, cond, leb, inl}
+use Rattle.std.proofs.Common.{◌≡◌, ℕ, ◌≤◌, inl, true, List, [], ◌∷◌, ◌++◌, None, refl, sym, ap, ◌∙◌, arith, cond, leb}
 use Rattle.std.proofs.lemmas.Bool.{cond-true, le-leb}
 use Rattle.hx_model.specs.Types.{RegionId, Space, Update}
 use Rattle.hx_types.specs.Words.{IsIn, provided}
+use Rattle.hx_model.specs.Lines.{upto}
 use Rattle.hx_model.specs.Holders.{only_in}
 use Rattle.hx_model.specs.Regions.{key_region}
 use Rattle.hx_model.specs.Slots.{KeyState, kept_of, kept_row, latest_of, mark_among, marks_after, object_in, object_of, pending_above, top_above, top_of}
 use Rattle.hx_model.specs.Slots.{touches_after}
-use Rattle.hx_law_lemmas.proofs.Lemmas.{only-in, top-numbered, upto-low, upto_upto, only-key, AllMade, made-numbered, made-sorted, made-upto, slot_of}
-use Rattle.hx_law_lemmas.proofs.Lemmas.{length-upto}
+use Rattle.hx_law_lemmas.proofs.Lemmas.{AllMade, length-upto, made-numbered, made-sorted, made-upto, only-in, only-key, slot_of, top-numbered, upto-low}
+use Rattle.hx_law_lemmas.proofs.Lemmas.{upto_upto}
 use Rattle.hx_law_folds.specs.Folding.{IsSlotOf, ShowSame}
 use Rattle.hx_law_folds.proofs.Lemmas.{kept-marks-line, kept-touches-line, latest-line, marks-line, object-line, touches-line}
 use Rattle.hx_law_chains.proofs.Lines.{sorted-descends}

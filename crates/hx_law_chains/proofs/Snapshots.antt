@@ -10,18 +10,19 @@ use Rattle.hx_types.specs.Words.{IsIn, post, same_server, text_below}
 use Rattle.hx_types.specs.Fitting.{IsScript}
 use Rattle.hx_types.specs.Subspaces.{is_key_region}
 use Rattle.hx_model.specs.Holders.{snap_state}
-use Rattle.hx_model.specs.Runs.{IsRun, Output, MayTake, coordinator_of, made_of, server_after, server_of, session_of}
+use Rattle.hx_model.specs.Runs.{IsRun, MayTake, Output, coordinator_of, made_of, server_after, server_of, session_of}
 use Rattle.hx_model.specs.ServerSteps.{Replica, ServerState, server_step}
 use Rattle.hx_model.specs.SessionSteps.{SessionState}
 use Rattle.hx_model.specs.Slots.{Forget, KeyState, moved, pending_of_all, snapshot_of, state_among}
 use Rattle.hx_law_lemmas.specs.Words.{posts_of}
-use Rattle.hx_law_lemmas.proofs.Lemmas.{in-append, arrived, started, session_turn, SaysOf, Ascend, state_key}
+use Rattle.hx_law_lemmas.proofs.Lemmas.{Ascend, SaysOf, arrived, in-append, session_turn, started, state_key}
 use Rattle.hx_law_posts.proofs.Lemmas.{posts_stay_sound}
 use Rattle.hx_law_folds.specs.Folding.{CanBeSent, CanJoin, HasFloors, InputJoins, IsJoinableReplica, IsJoinableServer, IsSlotOf, KeysAscend, folded}
 use Rattle.hx_law_folds.specs.Laws.{SendsJoin}
-use Rattle.hx_law_folds.proofs.Lemmas.{among-slot-turn, can-join, joinable-stays, keys-differ, sent-ascends, sent-floors, start-joinable, all-weaker}
-use Rattle.hx_law_folds.proofs.Lemmas.{among-marks, sent, sound-joins}
+use Rattle.hx_law_folds.proofs.Lemmas.{all-weaker, among-marks, among-slot-turn, can-join, joinable-stays, keys-differ, sent, sent-ascends, sent-floors}
+use Rattle.hx_law_folds.proofs.Lemmas.{sound-joins, start-joinable}
 use Rattle.hx_law_chains.proofs.CoordinatorPosts.{OfCoordinator, coordinator-plain}
+use Rattle.hx_law_chains.proofs.Entered.{made-by}
 use Rattle.hx_law_chains.proofs.ServerPosts.{OfServer, server-plain}
 
 -- what holds of all holds of each
@@ -152,23 +153,22 @@ module _ (script : Script) (valid : IsScript script) (older : List Entry) (x : E
   sends-now : (p : Post) → IsIn p x.outputs → Sends script.space p.message
   sends-now p i = by x.actor refl
     where
-      made-posts : (a : Actor) → x.actor ≡ a → (made_of script older a x.input).posts ≡ x.outputs
-      made-posts a e = ap (λ (m : Output). m.posts) (subst (λ (b : Actor). made_of script older b x.input ≡ record { posts = x.outputs; notes = x.notes })
-          e run.0.made)
+      here : (a : Actor) → x.actor ≡ a → IsIn p (made_of script older a x.input).posts
+      here a e = subst (λ (ps : List Post). IsIn p ps) (sym (ap (λ (m : Output). m.posts) (made-by script x older run a e))) i
 
       by : (a : Actor) → x.actor ≡ a → Sends script.space p.message
       by Coordinator e = coordinator-sends script.space p.message
-          ((coordinator-plain (coordinator_of script older) x.input).posts p (subst (λ (ps : List Post). IsIn p ps) (sym (made-posts Coordinator e)) i))
+          ((coordinator-plain (coordinator_of script older) x.input).posts p (here Coordinator e))
       by (Session u) e =
           let turn = session_turn script.space x.input (session_of script u older) in
           session-sends script.space (started turn.start (session_of script u older)) _ _ p.message
-          (turn.turn.says p (subst (λ (ps : List Post). IsIn p ps) (sym (made-posts (Session u) e)) i)).1
+          (turn.turn.says p (here (Session u) e)).1
       by (Server j) e =
           server-sends script.space p.message
           ((server-plain (Carries script.space) script.space (server_of script j older) x.input
           (λ r k. replica-carries script.space r (each-of (IsJoinableReplica script.space) (server_of script j older).replicas r (had.joinable j) k))
           (λ g. replica-carries script.space (record { region = g; installed = false; states = [] }) (record { slots = tt; ascend = tt }))).posts p
-          (subst (λ (ps : List Post). IsIn p ps) (sym (made-posts (Server j) e)) i))
+          (here (Server j) e))
 
   -- an entry keeps it
   snapshots-after : SnapshotsKept script (x ∷ older)

@@ -7,14 +7,14 @@ use Rattle.hx_types.specs.Words.{IsIn, same_text}
 use Rattle.hx_types.specs.Subspaces.{is_key_region}
 use Rattle.hx_model.proofs.Lemmas.{eq_of_same_text, same_text_self}
 use Rattle.hx_model.specs.Holders.{kept_among, snap_state}
-use Rattle.hx_model.specs.ServerSteps.{Slots, SlotContext, accepting, installed_slots, join_keys, keys_of, move_posts, offered_all, passed_on, resumed}
+use Rattle.hx_model.specs.ServerSteps.{SlotContext, Slots, accepting, installed_slots, join_keys, keys_of, move_posts, offered_all, passed_on, resumed}
 use Rattle.hx_model.specs.ServerSteps.{state_from}
 use Rattle.hx_model.specs.Slots.{Forget, KeyState, kept_of, moved, moved_all, pending_of, snapshot_of, state_among}
 use Rattle.hx_law_lemmas.proofs.Lemmas.{in-append}
 use Rattle.hx_law_folds.specs.Folding.{CanBeSent, CanJoin, folded}
 use Rattle.hx_law_folds.specs.Laws.{over}
-use Rattle.hx_law_folds.proofs.Lemmas.{Once, after_join, among-slot-turn, ascend-once, from-kept, installed, keys-ascend, other, some, joining-posts}
-use Rattle.hx_law_folds.proofs.Lemmas.{all-weaker, among-marks, kept-sent, pending-sent, sent}
+use Rattle.hx_law_folds.proofs.Lemmas.{Once, after_join, all-weaker, among-marks, among-slot-turn, ascend-once, from-kept, installed, joining-posts, kept-sent}
+use Rattle.hx_law_folds.proofs.Lemmas.{keys-ascend, other, pending-sent, sent, some}
 use Rattle.hx_law_chains.proofs.Snapshots.{Carries}
 
 -- forgetting twice is forgetting once
@@ -89,8 +89,8 @@ module _ (context : SlotContext) (snapshot : List Kept) (pending : List Update) 
       ∙ ap (λ (t : KeyState). moved_all (resumed context t) t) (sym (sent-is key))
 
   -- what is posted of a key
-  abbrev pub Posted : Post → List ℕ → Type 0
-  Posted p key =
+  abbrev PostsOf : Post → List ℕ → Type 0
+  PostsOf p key =
       let t = snap_state context.space context.region key snapshot pending in
       IsIn p (flat_map (passed_on context) (pending_of t) ++ flat_map (move_posts context) (resumed context t))
 
@@ -126,7 +126,7 @@ module _ (context : SlotContext) (snapshot : List Kept) (pending : List Update) 
       ∙ ap (λ (t : KeyState). flat_map (passed_on context) (pending_of t) ++ flat_map (move_posts context) (resumed context t)) (sym (sent-is key))
 
   -- each post of the installed slots is of some key
-  pub taken-posts : (p : Post) → IsIn p (installed_slots context snapshot pending).posts → (key : List ℕ) × Posted p key
+  pub taken-posts : (p : Post) → IsIn p (installed_slots context snapshot pending).posts → (key : List ℕ) × PostsOf p key
   taken-posts p i = elim (join-post context pending p (keys_of pending) first (ascend-once (keys_of pending) (keys-ascend pending)) i) [
     | inl j ↦ absurd j
     | inr j ↦ (j.0, subst (λ (ps : List Post). IsIn p ps) (key-posts j.0) j.2)

@@ -1,6 +1,5 @@
 -- Where all stand: the newest configuration and each server's own, the lines, what holds updates at each position of a region, and what is said of a key's holders and of posts. A post is judged by who may still hear it, in whatever configuration the receiver has or may come to have.
-use Rattle.hx_model.specs.Lines.{line_object, upto}
-use Rattle.std.proofs.Common.{◌≡◌, ℕ, ◌<◌, ◌≤◌, ◌⊎◌, inl, inr, true, false, List, [], ◌∷◌, length, None, Some, sym, subst}
+use Rattle.std.proofs.Common.{◌≡◌, ℕ, ◌<◌, ◌≤◌, ◌⊎◌, inl, inr, true, false, List, [], ◌∷◌, length, None, Some, sym, subst, arith}
 use Rattle.std.specs.Prelude.{⊤}
 use Rattle.std.proofs.lemmas.Bool.{cond_both}
 use Rattle.hx_model.specs.Types.{Actor, Answer, At, Blocked, Caller, Config, End, Hop, Message, Op, Post, RegionId, Script, ServerId, SessionId, Space, Update}
@@ -11,14 +10,15 @@ use Rattle.hx_types.specs.Words.{IsBefore, IsIn}
 use Rattle.hx_types.specs.Effects.{effect_of, is_write, key_of}
 use Rattle.hx_types.specs.Configs.{head_of, members_of}
 use Rattle.hx_types.specs.Fitting.{call_of, is_doubt}
+use Rattle.hx_model.specs.Lines.{line_object, upto}
 use Rattle.hx_model.specs.Regions.{key_region}
 use Rattle.hx_model.specs.Places.{places_of}
 use Rattle.hx_model.specs.Leading.{first_lost}
 use Rattle.hx_model.specs.Neighbours.{member_after, next_of, place_number, prev_of, region_at}
 use Rattle.hx_model.specs.Slots.{KeyState, has_place, top_of, touches_after}
 use Rattle.hx_model.specs.ServerSteps.{SlotContext, get_answer, next_at}
-use Rattle.hx_law_lemmas.proofs.Lemmas.{Numbered, Sorted, numbered-sorted, AllMade, Made, Apart, Differ, at_server, at_session}
-use Rattle.hx_law_epochs.proofs.Lemmas.{PrecedesInChain, GrownOut, ListsServers}
+use Rattle.hx_law_lemmas.proofs.Lemmas.{AllMade, Apart, Differ, Made, Numbered, Sorted, at_server, at_session, numbered-sorted}
+use Rattle.hx_law_epochs.proofs.Lemmas.{GrownOut, ListsServers, PrecedesInChain}
 use Rattle.hx_law_epochs.specs.Epochs.{order}
 use Rattle.hx_law_chains.proofs.Hops.{Hops}
 use Rattle.hx_law_chains.proofs.Moves.{Around, Own}
@@ -101,11 +101,21 @@ pub record World : Type 1 where
   pub installed : RegionId → ServerId → Type 0
   pub known : Config → Type 0
 
+-- which configuration each server has, which servers haven't halted, and which configurations are known: by these posts are heard
+pub record Ways : Type 1 where
+  pub own : ServerId → Config
+  pub up : ServerId → Type 0
+  pub known : Config → Type 0
+
+-- those of where all stand
+abbrev pub ways : World → Ways
+ways w = record { own = w.own; up = w.up; known = w.known }
+
 -- the server has this configuration, or may come to have it
-pub record May (w : World) (s : ServerId) (c : Config) : Type 0 where
-  pub up : w.up s
-  pub known : w.known c
-  pub later : (w.own s).epoch.0 ≤ c.epoch.0
+pub record May (v : Ways) (s : ServerId) (c : Config) : Type 0 where
+  pub up : v.up s
+  pub known : v.known c
+  pub later : (v.own s).epoch.0 ≤ c.epoch.0
 
 -- what is kept of configurations: each later one has grown out of each earlier one, the newest is the last, each server's own is known and lists its installed replicas, who hasn't halted is a server of the newest, and an installed replica that it lists is a holder
 pub record Ordered (w : World) : Type 0 where
@@ -124,29 +134,48 @@ abbrev pub context : Script → World → RegionId → ServerId → SlotContext
 context script w g s = record { space = script.space; config = w.own s; server = s; region = g }
 
 -- an update of x may be heard at a position
-pub record HearsUpdate (w : World) (x : ServerId) (g : RegionId) (s : ServerId) (u : Update) : Type 0 where
+pub record HearsUpdate (v : Ways) (x : ServerId) (g : RegionId) (s : ServerId) (u : Update) : Type 0 where
   pub config : Config
-  pub may : May w s config
+  pub may : May v s config
   pub listed : IsIn s (order config g)
   pub place : ℕ
   pub at : prev_of config u.places (place_number g u.places) s ≡ At x place
 
 -- an acknowledgement of x, of its replica of a region, may be heard at a position
-pub record HearsAck (w : World) (x : ServerId) (by : RegionId) (g : RegionId) (s : ServerId) (u : Update) : Type 0 where
+pub record HearsAck (v : Ways) (x : ServerId) (by : RegionId) (g : RegionId) (s : ServerId) (u : Update) : Type 0 where
   pub config : Config
-  pub may : May w s config
+  pub may : May v s config
   pub listed : IsIn s (order config g)
   pub place : ℕ
   pub at : next_of config u.places (place_number g u.places) s ≡ At x place
   pub region : region_at u.places place ≡ by
 
--- two positions are neighbours in a known configuration
-pub record Route (w : World) (u : Update) (q : RegionId) (x : ServerId) (g : RegionId) (s : ServerId) : Type 0 where
+-- the way of an update to a position: from a region of x, its neighbour in a configuration that was issued
+pub record Route (issued : Config → Type 0) (x : ServerId) (g : RegionId) (s : ServerId) (u : Update) : Type 0 where
+  pub region : RegionId
+  pub sender_placed : has_place region u ≡ true
+  pub placed : has_place g u ≡ true
+  pub apart : Apart u.places
   pub config : Config
-  pub known : w.known config
-  pub first_in : IsIn x (order config q)
+  pub known : issued config
+  pub first_in : IsIn x (order config region)
   pub second_in : IsIn s (order config g)
-  pub hops : Hops config u.places q x g s
+  pub hops : Hops config u.places region x g s
+
+-- it stays so where more configurations are known
+abbrev pub route-known : (known known' : Config → Type 0) → ((c : Config) → known c → known' c) → (x : ServerId) (g : RegionId) (s : ServerId) (u : Update)
+    → Route known x g s u → Route known' x g s u
+route-known known known' more x g s u r = record {
+  region = r.region;
+  sender_placed = r.sender_placed;
+  placed = r.placed;
+  apart = r.apart;
+  config = r.config;
+  known = more r.config r.known;
+  first_in = r.first_in;
+  second_in = r.second_in;
+  hops = r.hops;
+}
 
 module _ (script : Script) (w : World) (key : List ℕ) where
   -- one position stands before another in an update's chain
@@ -205,7 +234,7 @@ module _ (script : Script) (w : World) (key : List ℕ) where
     pub lawful : Lawful script w.known key (w.line key)
     pub listed : (g : RegionId) (s : ServerId) (t : KeyState) → w.holds key g s t → IsIn s (order w.config g)
     pub own : (g : RegionId) (s : ServerId) (t : KeyState) → w.holds key g s t → Own (w.line key) g (around g s) t
-    pub clear : (s : ServerId) (c : Config) → May w s c → (g : RegionId) → IsIn s (order c g) → member_after s (members_of c g) ≡ None
+    pub clear : (s : ServerId) (c : Config) → May (ways w) s c → (g : RegionId) → IsIn s (order c g) → member_after s (members_of c g) ≡ None
         → (z : ServerId) (t : KeyState) → w.holds key g z t → IsBefore s z (order w.config g) → ⊥
 
   -- an update that may be heard at a position
@@ -216,14 +245,10 @@ module _ (script : Script) (w : World) (key : List ℕ) where
 
   -- an update under way from x: an installed replica beside the position posted it, which has accepted it if the newest configuration lists it; and what holds where it may be heard
   pub record UpdateOk (x : ServerId) (g : RegionId) (s : ServerId) (u : Update) : Type 0 where
-    pub region : RegionId
-    pub from : w.installed region x
-    pub placed : has_place g u ≡ true
-    pub sender_placed : has_place region u ≡ true
-    pub apart : Apart u.places
-    pub route : Route w u region x g s
-    pub accepted : IsIn x (order w.config region) → IsIn u (w.line key) × Here region x u
-    pub heard : HearsUpdate w x g s u → Sending g s u
+    pub route : Route w.known x g s u
+    pub from : w.installed route.region x
+    pub accepted : IsIn x (order w.config route.region) → IsIn u (w.line key) × Here route.region x u
+    pub heard : HearsUpdate (ways w) x g s u → Sending g s u
 
   -- an acknowledgement under way from x: its version stands in the line and is accepted by the whole chain; an installed replica posted it, which has committed it if the newest configuration lists it; and what holds where it may be heard
   pub record AckOk (x : ServerId) (by : RegionId) (g : RegionId) (s : ServerId) (v : ℕ) : Type 0 where
@@ -235,7 +260,7 @@ module _ (script : Script) (w : World) (key : List ℕ) where
     pub sender_placed : has_place by update ≡ true
     pub everywhere : Everywhere update
     pub committed : IsIn x (order w.config by) → Done by x update
-    pub heard : HearsAck w x by g s update → IsIn s (order w.config g) × After g s update
+    pub heard : HearsAck (ways w) x by g s update → IsIn s (order w.config g) × After g s update
 
   -- what a reply tells: a doubt about a write, a committed update, or the object after a committed version
   abbrev pub Told : Caller → Version → Answer → Op → Type 0
@@ -266,3 +291,87 @@ module _ (script : Script) (w : World) where
     pub ordered : Ordered w
     pub keyed : (key : List ℕ) → KeyOk script w key
     pub valid : (p : Post) → IsIn p posts → Valid p.from p.to p.message
+
+-- what is kept where all come to stand otherwise: configurations, keys, that posts are true, and what is fixed
+pub record Stays (script : Script) (w w' : World) : Type 0 where
+  pub ordered : Ordered w'
+  pub keys : (key : List ℕ) → KeyOk script w' key
+  pub valid : (from to : Actor) (m : Message) → Valid script w from to m → Valid script w' from to m
+  pub fixed : (key : List ℕ) (v : ℕ) → Fixed script w key v → Fixed script w' key v
+
+-- where nothing changes
+pub stays-same : (script : Script) (w : World) → Ordered w → ((key : List ℕ) → KeyOk script w key) → Stays script w w
+stays-same script w o ok = record { ordered = o; keys = ok; valid = λ from to m h. h; fixed = λ key v f. f }
+
+-- one change after another
+pub stays-then : (script : Script) (w w' w'' : World) → Stays script w w' → Stays script w' w'' → Stays script w w''
+stays-then script w w' w'' a b = record {
+  ordered = b.ordered;
+  keys = b.keys;
+  valid = λ from to m h. b.valid from to m (a.valid from to m h);
+  fixed = λ key v f. b.fixed key v (a.fixed key v f);
+}
+
+-- ---- holders that come from holders at the same positions
+
+module _ (script : Script) (w w' : World) (key : List ℕ) where
+  -- a holder of before, that has no more
+  pub record Source (g : RegionId) (s : ServerId) (t : KeyState) : Type 0 where
+    pub old : KeyState
+    pub held : w.holds key g s old
+    pub top : top_of old ≤ top_of t
+    pub floor : old.floor ≤ t.floor
+
+  -- a position that is an installed replica's stays so, where installed replicas do
+  pub filled-stays : ((g : RegionId) (s : ServerId) → w.installed g s → w'.installed g s) → (u : Update) (h : Hop) → Filled script w key u h
+      → Filled script w' key u h
+  filled-stays kept u (At y n) f = kept (region_at u.places n) y f
+  filled-stays kept u End f = tt
+  filled-stays kept u (Blocked r) f = f
+
+  -- each holder comes from one, and chains keep their order
+  pub record Comes : Type 0 where
+    pub source : (g : RegionId) (s : ServerId) (t : KeyState) → w'.holds key g s t → Source g s t
+    pub stood : (u : Update) (g : RegionId) (s : ServerId) (h : RegionId) (x : ServerId) → IsIn x (order w.config h) → Ahead script w' key u g s h x
+        → Ahead script w key u g s h x
+    pub listed : (g : RegionId) (s : ServerId) (t : KeyState) → w.holds key g s t → IsIn s (order w.config g)
+
+  module _ (comes : Comes) where
+    open comes use {source, stood, listed}
+
+    -- what was accepted before a position stays so
+    pub before-stays : (g : RegionId) (s : ServerId) (u : Update) → IsIn s (order w.config g) → Before script w key g s u → Before script w' key g s u
+    before-stays g s u i b h x t k a =
+        let c = source h x t k in
+        let d = b h x c.old c.held (stood u h x g s i a) in
+        let e = c.top in
+        omega (arith, d, e)
+
+    -- what was committed after it too
+    pub after-stays : (g : RegionId) (s : ServerId) (u : Update) → After script w key g s u → After script w' key g s u
+    after-stays g s u b h x t k a =
+        let c = source h x t k in
+        let d = b h x c.old c.held (stood u g s h x (listed h x c.old c.held) a) in
+        let e = c.floor in
+        omega (arith, d, e)
+
+    -- what was accepted at it
+    pub here-stays : (g : RegionId) (s : ServerId) (u : Update) → Here script w key g s u → Here script w' key g s u
+    here-stays g s u b t k = (let c = source g s t k in let d = b c.old c.held in let e = c.top in omega (arith, d, e))
+
+    -- what was committed at it
+    pub done-stays : (g : RegionId) (s : ServerId) (u : Update) → Done script w key g s u → Done script w' key g s u
+    done-stays g s u b t k = (let c = source g s t k in let d = b c.old c.held in let e = c.floor in omega (arith, d, e))
+
+    -- what was accepted everywhere
+    pub everywhere-stays : (u : Update) → Everywhere script w key u → Everywhere script w' key u
+    everywhere-stays u b h x t k p = (let c = source h x t k in let d = b h x c.old c.held p in let e = c.top in omega (arith, d, e))
+
+    -- what is committed along chains
+    pub along-stays : (v : ℕ) → ((u : Update) → IsIn u (w'.line key) → u.version.0 ≤ v → IsIn u (w.line key)) → Along script w key v → Along script w' key v
+    along-stays v back a u i q g s t k p = (let c = source g s t k in let d = a u (back u i q) q g s c.old c.held p in let e = c.floor in omega (arith, d, e))
+
+    -- what is fixed
+    pub fixed-stays : (v : ℕ) → v ≤ length (w'.line key) → Fixed script w key v → Fixed script w' key v
+    fixed-stays v l f =
+        (l, λ s t k. (let c = source (key_region script.space key) s t k in let d = f.1 s c.old c.held in let e = c.top in omega (arith, d, e)))

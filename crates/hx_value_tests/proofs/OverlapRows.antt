@@ -12,7 +12,8 @@ use Rattle.hx_model.specs.Runs.{coordinator_of, server_of}
 use Rattle.hx_model.specs.ServerSteps.{ServerState}
 use Rattle.hx_model.specs.Slots.{has_place, top_of}
 use Rattle.hx_model.proofs.Lemmas.{epoch, first_update, region, replica, second_update, server, shop, the_key, version}
-use Rattle.hx_law_chains.specs.Chains.{AckStands, HearsNeighbour, IsDropped, IsHeld, MayHave, RunsHearNeighbours, RunsPostsStand, StandsEarlier, UpdateStands}
+use Rattle.hx_law_chains.specs.Chains.{AckStands, HearsNeighbour, IsDropped, IsHeld, MayHave, StandsEarlier, UpdateStands}
+use Rattle.hx_law_chains.proofs.Lemmas.{runs_hear_neighbours, runs_posts_stand}
 use Rattle.hx_value_tests.proofs.OverlapRun.{ack, adopting, its_ack, its_last, its_leader, its_line, its_meeting, its_run, its_script, its_update}
 use Rattle.hx_value_tests.proofs.OverlapRun.{last_slot, leader_slot, meeting, newest, old, resent, resent_name, script, trace, update}
 
@@ -66,44 +67,43 @@ is_blue u (inr (inr i)) v = absurd i
 
 -- ---- by the law on posts under way
 
-module _ (law : RunsPostsStand) where
-  -- the update of the server that is left out stands
-  update_stands : UpdateStands script trace (Server (server 2)) (region 1) (server 3) second_update
-  update_stands = law script its_script trace its_run (Server (server 2)) (server 3) update its_update
+-- the update of the server that is left out stands
+update_stands : UpdateStands script trace (Server (server 2)) (region 1) (server 3) second_update
+update_stands = runs_posts_stand script its_script trace its_run (Server (server 2)) (server 3) update its_update
 
-  -- in the key's line
-  blue_stands : IsIn second_update (line_of the_key trace)
-  blue_stands = update_stands.stands old third_may refl third_hears
+-- in the key's line
+blue_stands : IsIn second_update (line_of the_key trace)
+blue_stands = update_stands.stands old third_may refl third_hears
 
-  -- and the leader has accepted it, who is before server 3 by the newest configuration
-  leader_has_blue : 2 ≤ top_of leader_slot
-  leader_has_blue =
-      update_stands.accepted old third_may refl third_hears (region 0) (server 1) leader_slot refl leader_is_held second_stands_earlier
+-- and the leader has accepted it, who is before server 3 by the newest configuration
+leader_has_blue : 2 ≤ top_of leader_slot
+leader_has_blue =
+    update_stands.accepted old third_may refl third_hears (region 0) (server 1) leader_slot refl leader_is_held second_stands_earlier
 
-  -- its sender is server 2
-  sender_is : server 2 ≡ update_stands.sent.server
-  sender_is = (let e = update_stands.sent.from_is in cc)
+-- its sender is server 2
+sender_is : server 2 ≡ update_stands.sent.server
+sender_is = (let e = update_stands.sent.from_is in cc)
 
-  -- the acknowledgement of that server stands too
-  ack_stands : AckStands script trace (Server (server 2)) (region 0) (region 0) (server 1) the_key (version 1)
-  ack_stands = law script its_script trace its_run (Server (server 2)) (server 1) ack its_ack
+-- the acknowledgement of that server stands too
+ack_stands : AckStands script trace (Server (server 2)) (region 0) (region 0) (server 1) the_key (version 1)
+ack_stands = runs_posts_stand script its_script trace its_run (Server (server 2)) (server 1) ack its_ack
 
-  -- it is of red
-  of_red : first_update ≡ ack_stands.update
-  of_red = sym (is_red ack_stands.update (subst (λ (line : List Update). IsIn ack_stands.update line) its_line ack_stands.stands) ack_stands.version)
+-- it is of red
+of_red : first_update ≡ ack_stands.update
+of_red = sym (is_red ack_stands.update (subst (λ (line : List Update). IsIn ack_stands.update line) its_line ack_stands.stands) ack_stands.version)
 
-  -- which the leader has accepted
-  leader_has_red : 1 ≤ top_of leader_slot
-  leader_has_red =
-      ack_stands.accepted (region 0) (server 1) leader_slot (subst (λ (u : Update). has_place (region 0) u ≡ true) of_red refl) leader_is_held
+-- which the leader has accepted
+leader_has_red : 1 ≤ top_of leader_slot
+leader_has_red =
+    ack_stands.accepted (region 0) (server 1) leader_slot (subst (λ (u : Update). has_place (region 0) u ≡ true) of_red refl) leader_is_held
 
-  -- and server 3 has committed it, who is after the leader by the newest configuration
-  last_has_red : 1 ≤ last_slot.floor
-  last_has_red =
-      ack_stands.committed old first_may refl
-      (subst (λ (u : Update). hears_ack old u (place_number (region 0) u.places) (server 1) (Server (server 2)) (region 0) ≡ true) of_red first_hears)
-      (region 1) (server 3) last_slot (subst (λ (u : Update). has_place (region 1) u ≡ true) of_red refl) last_is_held
-      (subst (λ (u : Update). StandsEarlier (coordinator_of script trace).config u (region 0) (server 1) (region 1) (server 3)) of_red first_stands_earlier)
+-- and server 3 has committed it, who is after the leader by the newest configuration
+last_has_red : 1 ≤ last_slot.floor
+last_has_red =
+    ack_stands.committed old first_may refl
+    (subst (λ (u : Update). hears_ack old u (place_number (region 0) u.places) (server 1) (Server (server 2)) (region 0) ≡ true) of_red first_hears)
+    (region 1) (server 3) last_slot (subst (λ (u : Update). has_place (region 1) u ≡ true) of_red refl) last_is_held
+    (subst (λ (u : Update). StandsEarlier (coordinator_of script trace).config u (region 0) (server 1) (region 1) (server 3)) of_red first_stands_earlier)
 
 -- an update that stands in no line wouldn't do
 abbrev unassigned : Update
@@ -140,21 +140,20 @@ not_heard = refl
 heard_later : hears_update newest second_update (place_number (region 1) second_update.places) (server 3) (Server (server 1)) ≡ true
 heard_later = refl
 
-module _ (law : RunsHearNeighbours) where
-  -- it is heard or dropped, and so dropped
-  is_dropped : IsDropped before (server_of script (server 3) (meeting ∷ adopting)) (epoch 2) meeting.outputs
-  is_dropped = elim (law script its_script meeting adopting its_meeting (server 3) refl resent_name (Server (server 1)) resent refl) [
-    | inl h ↦ absurd (false≢true (sym not_heard ∙ h))
-    | inr d ↦ d
-  ]
+-- it is heard or dropped, and so dropped
+is_dropped : IsDropped before (server_of script (server 3) (meeting ∷ adopting)) (epoch 2) meeting.outputs
+is_dropped = elim (runs_hear_neighbours script its_script meeting adopting its_meeting (server 3) refl resent_name (Server (server 1)) resent refl) [
+  | inl h ↦ absurd (false≢true (sym not_heard ∙ h))
+  | inr d ↦ d
+]
 
-  -- nothing of the server changes
-  it_stays : server_of script (server 3) (meeting ∷ adopting) ≡ before
-  it_stays = is_dropped.state
+-- nothing of the server changes
+it_stays : server_of script (server 3) (meeting ∷ adopting) ≡ before
+it_stays = is_dropped.state
 
-  -- and it posts a Poll and nothing else
-  it_asks : meeting.outputs ≡ poll ∷ []
-  it_asks = is_dropped.posted
+-- and it posts a Poll and nothing else
+it_asks : meeting.outputs ≡ poll ∷ []
+it_asks = is_dropped.posted
 
 -- a drop without the Poll wouldn't do
 not_silent : ¬ HearsNeighbour shop (server 3) before before [] (Server (server 1)) resent
