@@ -1,21 +1,12 @@
 -- What is said of each item and those above it is said along the history, newest first.
-use Rattle.std.proofs.Common.{◌≡◌, ℕ, suc, inl, inr, List, [], ◌∷◌, ◌++◌, map, take, reverse, Option, None, Some, refl, sym, ap, ◌∙◌, subst, append_assoc}
-use Rattle.std.specs.List.{slice_get}
-use Rattle.std.specs.Option.{IfSome}
-use Rattle.std.proofs.lemmas.List.{reverse-append}
-use Rattle.hx_model.specs.Types.{Item, Space}
-use Rattle.hx_types.specs.Words.{IsIn}
-use Rattle.hx_model.specs.Legal.{IsEffect, IsLegal, object_now}
-use Rattle.hx_model.specs.Linear.{EachOnce}
+use Rattle.hx_law_lemmas.proofs.Lemmas.Vocabulary.{[], ap, append-nil, append_assoc, EachOnce, IfSome, inl, inr, IsEffect, IsIn, IsLegal, Item, List, map, None}
+use Rattle.hx_law_lemmas.proofs.Lemmas.Vocabulary.{object_now, Option, reverse, reverse-append, slice_get, Some, Space, subst, suc, sym, take, ℕ, ◌++◌, ◌∙◌}
+use Rattle.hx_law_lemmas.proofs.Lemmas.Vocabulary.{◌∷◌, ◌≡◌}
 
 -- R holds of each item and the older ones
 abbrev pub Along : (List Item → Item → Type 0) → List Item → Type 0
 Along R [] = Unit {0}
 Along R (x ∷ older) = R older x × Along R older
-
-nil : {A : Type 0} (xs : List A) → xs ++ [] ≡ xs
-nil [] = refl
-nil {A} (x ∷ xs) = ap (λ (l : List A). x ∷ l) (nil xs)
 
 onto : (x : Item) (xs older : List Item) → reverse (x ∷ xs) ++ older ≡ reverse xs ++ (x ∷ older)
 onto x xs older = ap (λ (l : List Item). l ++ older) (reverse-append (x ∷ []) xs) ∙ append_assoc (reverse xs) (x ∷ []) older
@@ -34,12 +25,12 @@ module _ {A : Type 0} (f : A → Item) (R : List Item → Item → Type 0) where
 
   pub along_all : (xs : List A) → ((k : ℕ) → IfSome (slice_get xs k) (λ x. R (reverse (map f (take k xs))) (f x))) → Along R (reverse (map f xs))
   along_all xs all =
-      subst (Along R) (nil (reverse (map f xs)))
+      subst (Along R) (append-nil (reverse (map f xs)))
       (along [] xs tt (λ k. by (slice_get xs k) k (all k)))
     where
       by : (o : Option A) (k : ℕ) → IfSome o (λ x. R (reverse (map f (take k xs))) (f x)) → IfSome o (λ x. R (reverse (map f (take k xs)) ++ []) (f x))
       by None k h = tt
-      by (Some y) k h = subst (λ (l : List Item). R l (f y)) (sym (nil (reverse (map f (take k xs))))) h
+      by (Some y) k h = subst (λ (l : List Item). R l (f y)) (sym (append-nil (reverse (map f (take k xs))))) h
 
 -- effects along a history make it legal
 pub along_legal : (space : Space) (items : List Item) → Along (λ older x. IsEffect space (object_now older) x) items → IsLegal space items

@@ -1,74 +1,24 @@
 -- A block whose lines keep every clause is consistent.
-use Rattle.std.proofs.Common.{◌≡◌, ◌≢◌, ℕ, zero, suc, ◌⊎◌, inl, inr, Bool, true, false, not, ◌&&◌, List, [], ◌∷◌, ◌++◌, map, take, reverse, cond, Option, None, Some, refl, sym, ap, ◌∙◌, subst, append_assoc}
-use Rattle.std.specs.List.{find, list_all, list_any, slice_get}
-use Rattle.std.specs.Option.{IfSome, is_some, option_map}
-use Rattle.std.proofs.lemmas.Bool.{and_from, and_parts, false≢true, not-true, or_left, or_right}
-use Rattle.std.proofs.lemmas.List.{reverse-append}
-use Rattle.std.proofs.lemmas.Option.{slice_get-map}
-use Rattle.hx_model.specs.Types.{Answer, Caller, Item, Op, Row, Search}
-use Rattle.hx_types.specs.Effects.{key_of}
-use Rattle.hx_types.specs.Fitting.{is_refused}
-use Rattle.hx_types.specs.Posts.{keys_ascend}
-use Rattle.hx_types.specs.Words.{IsBefore, IsIn, same_text, text_below, when_some}
-use Rattle.hx_model.specs.Histories.{CallEnd}
-use Rattle.hx_model.specs.Legal.{IsEffect, IsLegal, object_now}
-use Rattle.hx_model.specs.Linear.{EachOnce}
-use Rattle.hx_model.specs.Searching.{FinishedSearch}
+use Rattle.hx_law_lemmas.proofs.Lemmas.Vocabulary.{[], and_from, and_parts, Answer, ap, Bool, CallEnd, Caller, cond, EachOnce, false, false≢true, find}
+use Rattle.hx_law_lemmas.proofs.Lemmas.Vocabulary.{FinishedSearch, IfSome, inl, inr, is_refused, IsBefore, IsEffect, IsIn, IsLegal, Item, key_of, keys_ascend}
+use Rattle.hx_law_lemmas.proofs.Lemmas.Vocabulary.{List, list_all, list_any, map, None, not, not-true, object_now, Op, Option, option_map, or_left, or_right}
+use Rattle.hx_law_lemmas.proofs.Lemmas.Vocabulary.{refl, reverse, Row, same_text, Search, slice_get, slice_get-map, Some, subst, suc, sym, take, text_below}
+use Rattle.hx_law_lemmas.proofs.Lemmas.Vocabulary.{true, when_some, zero, ℕ, ◌&&◌, ◌∙◌, ◌∷◌, ◌≡◌, ◌≢◌, ◌⊎◌}
+use Rattle.hx_law_lemmas.proofs.Lemmas.{in-map, in-reverse, map-in, of-reverse}
+use Rattle.std.specs.Option.{is_some}
 use Rattle.hx_law_folds.proofs.Lemmas.{below-trans}
 use Rattle.hx_report_lines.specs.declared.blocks.Block.{Block}
 use Rattle.hx_report_lines.specs.declared.calls.CallLine.{CallLine}
 use Rattle.hx_report_lines.specs.declared.histories.HistoryLines.{HistoryLines}
 use Rattle.hx_report_lines.specs.declared.histories.ItemLine.{ItemLine}
 use Rattle.hx_audit.specs.Accounts.{IsAnsweredBy, IsCallBy, IsSearchTrueBy, IsTrueRowBy, ended_before}
-use Rattle.hx_audit.specs.Clauses.{HasItem, IsEffectOfCall, IsInTime, IsKnown, IsRowOf, IsTrueAt, ended_before_begin, is_above, is_in_time, is_known, is_on, is_refused_call, row_above}
+use Rattle.hx_audit.specs.Clauses.{HasItem, IsEffectOfCall, IsInTime, IsKnown, IsRowOf, IsTrueAt, ended_before_begin, is_above, is_in_time, is_known, is_on}
+use Rattle.hx_audit.specs.Clauses.{is_refused_call, row_above}
 use Rattle.hx_audit.specs.Told.{account_of, call_at, end_told, item_told, items_at, op_told, same_caller, search_told}
 use Rattle.hx_audit.proofs.Lemmas.{one_caller, same_self, one_key}
 use Rattle.hx_law_audit.proofs.Along.{Along, along_all, along_each, along_legal, along_once, along_part}
 
 -- ---- lists
-
-pub in_map : {A B : Type 0} (f : A → B) (x : A) (xs : List A) → IsIn x xs → IsIn (f x) (map f xs)
-in_map f x [] i = absurd i
-in_map f x (y ∷ xs) (inl e) = inl (ap f e)
-in_map f x (y ∷ xs) (inr i) = inr (in_map f x xs i)
-
-of_map : {A B : Type 0} (f : A → B) (y : B) (xs : List A) → IsIn y (map f xs) → (x : A) × IsIn x xs × (y ≡ f x)
-of_map f y [] i = absurd i
-of_map f y (x ∷ xs) (inl e) = (x, inl refl, e)
-of_map f y (x ∷ xs) (inr i) = let r = of_map f y xs i in (r.0, inr r.1, r.2)
-
-onto : {A : Type 0} (x : A) (xs older : List A) → reverse (x ∷ xs) ++ older ≡ reverse xs ++ (x ∷ older)
-onto {A} x xs older = ap (λ (l : List A). l ++ older) (reverse-append (x ∷ []) xs) ∙ append_assoc (reverse xs) (x ∷ []) older
-
-nil : {A : Type 0} (xs : List A) → xs ++ [] ≡ xs
-nil [] = refl
-nil {A} (x ∷ xs) = ap (λ (l : List A). x ∷ l) (nil xs)
-
-in_onto : {A : Type 0} (y : A) (xs older : List A) → IsIn y xs ⊎ IsIn y older → IsIn y (reverse xs ++ older)
-in_onto y [] older (inl i) = absurd i
-in_onto y [] older (inr i) = i
-in_onto y (x ∷ xs) older (inl (inl e)) = subst (IsIn y) (sym (onto x xs older)) (in_onto y xs (x ∷ older) (inr (inl e)))
-in_onto y (x ∷ xs) older (inl (inr i)) = subst (IsIn y) (sym (onto x xs older)) (in_onto y xs (x ∷ older) (inl i))
-in_onto y (x ∷ xs) older (inr i) = subst (IsIn y) (sym (onto x xs older)) (in_onto y xs (x ∷ older) (inr (inr i)))
-
-of_onto : {A : Type 0} (y : A) (xs older : List A) → IsIn y (reverse xs ++ older) → IsIn y xs ⊎ IsIn y older
-of_onto y [] older i = inr i
-of_onto {A} y (x ∷ xs) older i = by (of_onto y xs (x ∷ older) (subst (IsIn y) (onto x xs older) i))
-  where
-    by : IsIn y xs ⊎ IsIn y (x ∷ older) → IsIn y (x ∷ xs) ⊎ IsIn y older
-    by (inl j) = inl (inr j)
-    by (inr (inl e)) = inl (inl e)
-    by (inr (inr j)) = inr j
-
-pub in_reverse : {A : Type 0} (y : A) (xs : List A) → IsIn y xs → IsIn y (reverse xs)
-in_reverse y xs i = subst (IsIn y) (nil (reverse xs)) (in_onto y xs [] (inl i))
-
-of_reverse : {A : Type 0} (y : A) (xs : List A) → IsIn y (reverse xs) → IsIn y xs
-of_reverse y xs i = by (of_onto y xs [] (subst (IsIn y) (sym (nil (reverse xs))) i))
-  where
-    by : IsIn y xs ⊎ IsIn y [] → IsIn y xs
-    by (inl j) = j
-    by (inr j) = absurd j
 
 any_in : {A : Type 0} (p : A → Bool) (x : A) (xs : List A) → IsIn x xs → p x ≡ true → list_any p xs ≡ true
 any_in p x [] i t = absurd i
@@ -94,7 +44,7 @@ abbrev pub Told : Block → List ItemLine → List Item
 Told b xs = reverse (map (item_told b.calls) xs)
 
 pub in_told : (b : Block) (y : Item) (xs : List ItemLine) → IsIn y (Told b xs) → (x : ItemLine) × IsIn x xs × (y ≡ item_told b.calls x)
-in_told b y xs i = of_map (item_told b.calls) y xs (of_reverse y (map (item_told b.calls) xs) i)
+in_told b y xs i = in-map (item_told b.calls) xs y (of-reverse (map (item_told b.calls) xs) y i)
 
 -- each item is the effect of its call
 legal_lines : (b : Block) (h : HistoryLines) → ((k : ℕ) → IsEffectOfCall b h k) → Along (λ older x. IsEffect b.space (object_now older) x) (Told b h.items)
@@ -211,7 +161,7 @@ answered b has key c answer u = by (call_at b.calls c) refl u.called u.ended
         let f = found_in (λ (m : CallLine). same_caller m.caller c) b.calls l q in
         let op : l.op ≡ u.op = cc in
         let item = has l f.0 key (record { entry = u.entry; version = u.version; answer = answer }) (ap key_of op ∙ u.on_key) ended u.not_refused in
-        (item_told b.calls item.item, in_reverse (item_told b.calls item.item) (map (item_told b.calls) (items_at b.histories key)) (in_map (item_told b.calls) item.item (items_at b.histories key) item.stands), item.of_caller ∙ one_caller l.caller c f.1, item.answered)
+        (item_told b.calls item.item, in-reverse (map (item_told b.calls) (items_at b.histories key)) (item_told b.calls item.item) (map-in (item_told b.calls) (items_at b.histories key) item.item item.stands), item.of_caller ∙ one_caller l.caller c f.1, item.answered)
 
 -- rows ascend where each stands above the one before
 abbrev above_at : Option Row → List Row → ℕ → Option Row

@@ -1,21 +1,13 @@
 -- What is consistent keeps every clause.
-use Rattle.std.proofs.Common.{◌≡◌, ◌≢◌, ℕ, zero, suc, ◌⊎◌, inl, inr, Bool, true, false, not, ◌&&◌, ◌+◌, List, [], ◌∷◌, ◌++◌, map, take, reverse, Option, None, Some, refl, sym, ap, ◌∙◌, subst, append_assoc}
-use Rattle.std.specs.List.{All, list_all, list_any, slice_get}
-use Rattle.std.specs.Option.{IfSome, is_some, option_map}
-use Rattle.std.proofs.lemmas.Bool.{and_from, and_parts, cond-false, cond-true, false_from_ne_true, false≢true, not-false, not_from_false, or_cases}
-use Rattle.std.proofs.lemmas.List.{reverse-append}
-use Rattle.std.proofs.lemmas.List.Elements.{All-head, All-tail}
-use Rattle.hx_model.specs.Types.{Answer, Caller, Item, Op, Row, Search}
+use Rattle.hx_law_lemmas.proofs.Lemmas.Vocabulary.{[], All, All-head, All-tail, and_from, and_parts, Answer, ap, append_assoc, Bool, CallEnd, Caller}
+use Rattle.hx_law_lemmas.proofs.Lemmas.Vocabulary.{cond-false, cond-true, EachOnce, false, false_from_ne_true, false≢true, FinishedSearch, IfSome, inl, inr}
+use Rattle.hx_law_lemmas.proofs.Lemmas.Vocabulary.{is_doubt, is_refused, IsBefore, IsIn, IsLegal, Item, key_of, keys_ascend, List, list_all, list_any, map}
+use Rattle.hx_law_lemmas.proofs.Lemmas.Vocabulary.{None, not, not-false, not_from_false, Op, Option, option_map, or_cases, refl, reverse, reverse-append, Row}
+use Rattle.hx_law_lemmas.proofs.Lemmas.Vocabulary.{same_text, same_text_self, Search, slice_get, Some, subst, suc, sym, take, text_below, true, when_some, zero}
+use Rattle.hx_law_lemmas.proofs.Lemmas.Vocabulary.{ℕ, ◌&&◌, ◌++◌, ◌+◌, ◌∙◌, ◌∷◌, ◌≡◌, ◌≢◌, ◌⊎◌}
+use Rattle.hx_law_lemmas.proofs.Lemmas.{in-reverse, map-in}
+use Rattle.std.specs.Option.{is_some}
 use Rattle.hx_types.specs.declared.calls.Answer.TheVariants as an_answer
-use Rattle.hx_types.specs.Effects.{key_of}
-use Rattle.hx_types.specs.Fitting.{is_doubt, is_refused}
-use Rattle.hx_types.specs.Posts.{keys_ascend}
-use Rattle.hx_types.specs.Words.{IsBefore, IsIn, same_text, text_below, when_some}
-use Rattle.hx_model.specs.Histories.{CallEnd}
-use Rattle.hx_model.specs.Legal.{IsLegal}
-use Rattle.hx_model.specs.Linear.{EachOnce}
-use Rattle.hx_model.specs.Searching.{FinishedSearch}
-use Rattle.hx_model.proofs.Lemmas.{same_text_self}
 use Rattle.hx_report_lines.specs.declared.blocks.Block.{Block}
 use Rattle.hx_report_lines.specs.declared.calls.CallLine.{CallLine}
 use Rattle.hx_report_lines.specs.declared.histories.HistoryLines.{HistoryLines}
@@ -25,12 +17,14 @@ use Rattle.hx_audit.specs.declared.verdicts.Clause.{Clause}
 use Rattle.hx_audit.specs.declared.verdicts.Clause.TheVariants as clauses
 use Rattle.hx_audit.specs.declared.verdicts.Verdict.TheVariants as verdicts
 use Rattle.hx_audit.specs.Accounts.{IsAnsweredBy, IsCallBy, IsLinearBy, IsSearchTrueBy, ended_before}
-use Rattle.hx_audit.specs.Clauses.{HasItem, IsEffectOfCall, IsInTime, IsKnown, IsRowOf, IsTrueAt, ended_before_begin, is_above, is_in_time, is_known, is_on, is_refused_call, row_above, KeepsInCall, KeepsInHistory}
+use Rattle.hx_audit.specs.Clauses.{HasItem, IsEffectOfCall, IsInTime, IsKnown, IsRowOf, IsTrueAt, ended_before_begin, is_above, is_in_time, is_known, is_on}
+use Rattle.hx_audit.specs.Clauses.{is_refused_call, row_above, KeepsInCall, KeepsInHistory}
 use Rattle.hx_audit.specs.Told.{account_of, call_at, end_told, item_told, items_at, same_caller, search_told}
-use Rattle.hx_audit.specs.Verdicts.{IsVerdict, KeepsInPiece, Placed, block_from, block_lines, blocks_from, call_lines, calls_from, histories_from, history_lines, lines_of_calls, space_lines}
+use Rattle.hx_audit.specs.Verdicts.{IsVerdict, KeepsInPiece, Placed, block_from, block_lines, blocks_from, call_lines, calls_from, histories_from}
+use Rattle.hx_audit.specs.Verdicts.{history_lines, lines_of_calls, space_lines}
 use Rattle.hx_audit.proofs.Lemmas.{caller_differs, caller_trans, one_caller, same_self, faults, own_items}
 use Rattle.hx_law_audit.proofs.Along.{Along}
-use Rattle.hx_law_audit.proofs.Consistent.{LinearLines, TimelyBy, Told, found_in, in_map, in_reverse, in_told}
+use Rattle.hx_law_audit.proofs.Consistent.{LinearLines, TimelyBy, Told, found_in, in_told}
 use Rattle.hx_law_audit.specs.Meaning.{IsConsistent}
 
 -- what holds along a history holds at each place
@@ -70,7 +64,7 @@ any_has p (y ∷ xs) t = elim (or_cases (p y) (list_any p xs) t) [
 ]
 
 to_told : (b : Block) (x : ItemLine) (xs : List ItemLine) → IsIn x xs → IsIn (item_told b.calls x) (Told b xs)
-to_told b x xs i = in_reverse (item_told b.calls x) (map (item_told b.calls) xs) (in_map (item_told b.calls) x xs i)
+to_told b x xs i = in-reverse (map (item_told b.calls) xs) (item_told b.calls x) (map-in (item_told b.calls) xs x i)
 
 -- what stands at a place stands in the list
 in_place : {A : Type 0} (xs : List A) (k : ℕ) (x : A) → slice_get xs k ≡ Some x → IsIn x xs

@@ -1,6 +1,5 @@
 -- Where the verdict is yes, each block is consistent.
-use Rattle.std.proofs.Common.{suc}
-use Rattle.hx_types.specs.Words.{IsIn}
+use Rattle.hx_law_lemmas.proofs.Lemmas.Vocabulary.{IsIn, suc}
 use Rattle.hx_report_lines.specs.declared.blocks.Block.{Block}
 use Rattle.hx_report_lines.specs.declared.histories.HistoryLines.{HistoryLines}
 use Rattle.hx_audit.specs.declared.verdicts.Clause.TheVariants as clauses

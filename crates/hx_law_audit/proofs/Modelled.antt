@@ -1,9 +1,7 @@
 -- Of a run, the definitions by an account say what the model's do.
-use Rattle.std.proofs.Common.{◌≡◌, ℕ, ◌&&◌, ◌↔◌, List, [], ◌∷◌, cond, Option, None, Some, refl, sym, ap, subst}
-use Rattle.hx_model.specs.Types.{Entry, Item, Row, Script}
-use Rattle.hx_model.specs.Histories.{history_of}
-use Rattle.hx_model.specs.Linear.{IsLinear, began_before}
-use Rattle.hx_model.specs.Searching.{FinishedSearch, IsChangeShown, IsSearchTrue, IsSearchWhole, IsTrueRow, ItemWithNewer, changes_object, last_change}
+use Rattle.hx_law_lemmas.proofs.Lemmas.Vocabulary.{[], ap, began_before, changes_object, cond, Entry, FinishedSearch, history_of, IsChangeShown, IsLinear}
+use Rattle.hx_law_lemmas.proofs.Lemmas.Vocabulary.{IsSearchTrue, IsSearchWhole, IsTrueRow, Item, ItemWithNewer, last_change, List, None, Option, refl, Row}
+use Rattle.hx_law_lemmas.proofs.Lemmas.Vocabulary.{Script, Some, subst, sym, ℕ, ◌&&◌, ◌↔◌, ◌∷◌, ◌≡◌}
 use Rattle.hx_audit.specs.Accounts as by
 use Rattle.hx_law_audit.specs.Meaning.{AccountsAgree, run_account}
 

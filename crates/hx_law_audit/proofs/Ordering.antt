@@ -1,12 +1,7 @@
 -- Where the verdict is yes, the items of all keys have one order.
-use Rattle.std.proofs.Common.{◌≡◌, ℕ, ◌<◌, ◌≤◌, true, false, List, [], ◌∷◌, map, reverse, ltb, Option, None, Some, refl, sym, ap, subst}
-use Rattle.std.specs.List.{find}
-use Rattle.std.specs.Option.{option_map}
-use Rattle.std.proofs.lemmas.Bool.{lt-ltb}
-use Rattle.hx_model.specs.Types.{Answer, Caller, Item}
-use Rattle.hx_types.specs.Words.{IsIn, same_text, when_some}
-use Rattle.hx_model.specs.Histories.{CallEnd}
-use Rattle.hx_model.specs.Linear.{EachOnce}
+use Rattle.hx_law_lemmas.proofs.Lemmas.Vocabulary.{[], Answer, ap, CallEnd, Caller, EachOnce, false, find, IsIn, Item, List, lt-ltb, ltb, map, None, Option}
+use Rattle.hx_law_lemmas.proofs.Lemmas.Vocabulary.{option_map, refl, reverse, same_text, Some, subst, sym, true, when_some, ℕ, ◌<◌, ◌∷◌, ◌≡◌, ◌≤◌}
+use Rattle.hx_law_lemmas.proofs.Lemmas.{map-in}
 use Rattle.hx_law_order.specs.Order.{AreInTime, NoneTwice}
 use Rattle.hx_law_order.proofs.Lemmas.{in-time-of-different, histories_have}
 use Rattle.hx_report_lines.specs.declared.blocks.Block.{Block}
@@ -16,7 +11,7 @@ use Rattle.hx_audit.specs.Accounts.{IsLinearBy, ended_before}
 use Rattle.hx_audit.specs.Told.{account_of, call_at, end_told, item_told, same_caller}
 use Rattle.hx_audit.proofs.Lemmas.{one_key}
 use Rattle.hx_law_audit.specs.Meaning.{EndsFollow, YesMeansOneOrder, times_told}
-use Rattle.hx_law_audit.proofs.Consistent.{found_in, in_map, in_told}
+use Rattle.hx_law_audit.proofs.Consistent.{found_in, in_told}
 use Rattle.hx_law_audit.proofs.Meant.{yes_means}
 
 -- items of different calls differ
@@ -63,7 +58,7 @@ key_told b key x i = by (find (λ (h : HistoryLines). same_text h.key key) b.his
     by None q j = absurd (in_told b x [] j).1
     by (Some h) q j =
         let f = found_in (λ (y : HistoryLines). same_text y.key key) b.histories h q in
-        subst (λ k. IsIn k (map (λ (y : HistoryLines). y.key) b.histories)) (one_key h.key key f.1) (in_map (λ (y : HistoryLines). y.key) h b.histories f.0)
+        subst (λ k. IsIn k (map (λ (y : HistoryLines). y.key) b.histories)) (one_key h.key key f.1) (map-in (λ (y : HistoryLines). y.key) b.histories h f.0)
 
 in_time : (b : Block) → EndsFollow b → ((key : List ℕ) → IsLinearBy (account_of b) b.space key) → AreInTime (times_told b) (λ key. (account_of b).history_of key)
 in_time b follow linear =

@@ -1,13 +1,13 @@
 -- What is kept at every line of a report is kept by the calls and histories of each block.
-use Rattle.std.proofs.Common.{ℕ, ◌+◌, inl, inr, List, [], ◌∷◌, ◌++◌, refl, sym, subst}
-use Rattle.hx_types.specs.Words.{IsIn}
+use Rattle.hx_law_lemmas.proofs.Lemmas.Vocabulary.{[], inl, inr, IsIn, List, refl, subst, sym, ℕ, ◌++◌, ◌+◌, ◌∷◌}
 use Rattle.hx_report_lines.specs.declared.blocks.Block.{Block}
 use Rattle.hx_report_lines.specs.declared.calls.CallLine.{CallLine}
 use Rattle.hx_report_lines.specs.declared.histories.HistoryLines.{HistoryLines}
 use Rattle.hx_report_lines.specs.Values.{ReportValue}
 use Rattle.hx_audit.specs.declared.verdicts.Clause.{Clause}
 use Rattle.hx_audit.specs.Clauses.{KeepsInCall, KeepsInHistory}
-use Rattle.hx_audit.specs.Verdicts.{IsKept, KeepsInPiece, OfCall, OfHistory, Placed, block_from, block_lines, blocks_from, call_lines, calls_from, histories_from, history_lines, lines_of_calls, space_lines}
+use Rattle.hx_audit.specs.Verdicts.{IsKept, KeepsInPiece, OfCall, OfHistory, Placed, block_from, block_lines, blocks_from, call_lines, calls_from}
+use Rattle.hx_audit.specs.Verdicts.{histories_from, history_lines, lines_of_calls, space_lines}
 
 in_left : {A : Type 0} (x : A) (xs ys : List A) → IsIn x xs → IsIn x (xs ++ ys)
 in_left x [] ys i = absurd i

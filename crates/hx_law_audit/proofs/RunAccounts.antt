@@ -1,16 +1,8 @@
 -- What a report of a run tells of calls and histories is what the run tells.
-use Rattle.std.proofs.Common.{◌≡◌, ◌≢◌, ℕ, inl, inr, Bool, true, false, List, [], ◌∷◌, map, reverse, cond, Option, None, Some, refl, sym, ap, ◌∙◌, subst}
-use Rattle.std.specs.Prelude.{IsSome}
-use Rattle.std.specs.List.{find}
-use Rattle.std.specs.Option.{option_map}
-use Rattle.std.proofs.lemmas.Bool.{false≢true}
-use Rattle.std.proofs.lemmas.List.{reverse-reverse}
-use Rattle.hx_model.specs.Types.{Caller, Entry, Item, Op, Script, Search}
-use Rattle.hx_types.specs.Fitting.{TraceFits, call_of}
-use Rattle.hx_types.specs.Words.{IsIn, same_text, when_some}
-use Rattle.hx_model.specs.Histories.{CallEnd, begin_of, end_of, history_of, note_of_end, record_at}
-use Rattle.hx_model.specs.Linear.{IsCall, IsLinear}
-use Rattle.hx_model.proofs.Lemmas.{same_text_self}
+use Rattle.hx_law_lemmas.proofs.Lemmas.Vocabulary.{[], ap, begin_of, Bool, call_of, CallEnd, Caller, cond, end_of, Entry, false, false≢true, find, history_of}
+use Rattle.hx_law_lemmas.proofs.Lemmas.Vocabulary.{inl, inr, IsCall, IsIn, IsLinear, IsSome, Item, List, map, None, note_of_end, Op, Option, option_map}
+use Rattle.hx_law_lemmas.proofs.Lemmas.Vocabulary.{record_at, refl, reverse, reverse-reverse, same_text, same_text_self, Script, Search, Some, subst, sym}
+use Rattle.hx_law_lemmas.proofs.Lemmas.Vocabulary.{TraceFits, true, when_some, ℕ, ◌∙◌, ◌∷◌, ◌≡◌, ◌≢◌}
 use Rattle.hx_history.specs.declared.key_histories.KeyHistory.{KeyHistory}
 use Rattle.hx_history.specs.Listed.{AreHistories, IsHistory, keys_of_histories}
 use Rattle.hx_law_lemmas.proofs.Lemmas.{all-in, of-reverse, began_at, begin_is, ended_at}

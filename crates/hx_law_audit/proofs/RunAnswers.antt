@@ -1,25 +1,14 @@
 -- The answers of a run belong to the space, and can be said where the script can.
-use Rattle.std.proofs.Common.{◌≡◌, ℕ, zero, suc, ◌+◌, ◌<◌, ◌≤◌, ◌^◌, ◌⊎◌, inl, inr, true, false, List, [], ◌∷◌, ◌++◌, map, length, Option, Some, None, refl, sym, ap, ◌∙◌, subst, arith}
-use Rattle.std.specs.Prelude.{IsSome, sum_by}
-use Rattle.std.specs.List.{All, flat_map, list_all}
-use Rattle.std.proofs.lemmas.Bool.{and_parts, false≢true}
-use Rattle.std.proofs.lemmas.List.Elements.{All-nil}
-use Rattle.std.proofs.lemmas.List.Sums.{sum_by-cons}
-use Rattle.hx_model.specs.Types.{Answer, Atomic, Caller, Cput, Del, Entry, Get, Item, Op, Put, Row, Script, Session, Space, Value, Version}
+use Rattle.hx_law_lemmas.proofs.Lemmas.Vocabulary.{[], All, All-nil, and_parts, Answer, AnsweredCall, ap, arith, Atomic, begin_of, call_of, Caller, Cput, Del}
+use Rattle.hx_law_lemmas.proofs.Lemmas.Vocabulary.{effect_of, Entry, false, false≢true, Fits, flat_map, Get, HasCause, history_of, inl, inr, is_rows, is_search}
+use Rattle.hx_law_lemmas.proofs.Lemmas.Vocabulary.{IsAnswerOf, IsFound, IsGiven, IsIn, IsLegal, IsRowOf, IsRun, IsScript, IsSome, IsSoundAnswer, Item}
+use Rattle.hx_law_lemmas.proofs.Lemmas.Vocabulary.{items_with_newer, ItemWithNewer, key_of, KeyFits, keys_ascend, length, List, list_all, list_of, map, None}
+use Rattle.hx_law_lemmas.proofs.Lemmas.Vocabulary.{numbered, object_now, Op, Option, Put, refl, Row, same_text, same_text_self, Script, Session, Some, Space}
+use Rattle.hx_law_lemmas.proofs.Lemmas.Vocabulary.{subst, suc, sum_by-cons, sym, text_below, TraceFits, true, Value, Version, when_some, zero, ℕ, ◌++◌, ◌+◌}
+use Rattle.hx_law_lemmas.proofs.Lemmas.Vocabulary.{◌<◌, ◌^◌, ◌∙◌, ◌∷◌, ◌≡◌, ◌≤◌, ◌⊎◌}
+use Rattle.std.specs.Prelude.{sum_by}
 use Rattle.hx_types.specs.declared.calls.Answer.TheVariants as an_answer
 use Rattle.hx_types.specs.declared.traces.Note.TheVariants as a_note
-use Rattle.hx_types.specs.Effects.{effect_of, key_of}
-use Rattle.hx_types.specs.Fitting.{IsScript, TraceFits, call_of, is_rows, numbered}
-use Rattle.hx_types.specs.Posts.{IsSoundAnswer, keys_ascend}
-use Rattle.hx_types.specs.Spaces.{Fits, IsAnswerOf, IsRowOf, KeyFits}
-use Rattle.hx_types.specs.Words.{IsIn, list_of, same_text, text_below, when_some}
-use Rattle.hx_model.specs.Causes.{AnsweredCall, HasCause, IsFound, IsGiven}
-use Rattle.hx_model.specs.Histories.{begin_of, history_of}
-use Rattle.hx_model.specs.Legal.{IsLegal, object_now}
-use Rattle.hx_model.specs.Runs.{IsRun}
-use Rattle.hx_model.specs.Searching.{ItemWithNewer, items_with_newer}
-use Rattle.hx_model.specs.SessionSteps.{is_search}
-use Rattle.hx_model.proofs.Lemmas.{same_text_self}
 use Rattle.hx_lex.specs.Spelling.{IsText}
 use Rattle.hx_law_texts.specs.Sayable.{CallIsSayable, IsSayable, IsSayableScript}
 use Rattle.hx_law_lemmas.proofs.Lemmas.{all-in, all-of, in-append, in-flat, in-slice_get, in_left, in_right, fits-key, below-differs, EndedAt, begin_is}

@@ -1,16 +1,8 @@
 -- The block of a run's report is one of a report.
-use Rattle.std.proofs.Common.{◌≡◌, ◌≢◌, ℕ, ◌+◌, ◌<◌, ◌^◌, inl, inr, Bool, true, List, [], ◌∷◌, map, length, Option, Some, None, refl, sym, ap, ◌∙◌, subst, arith}
-use Rattle.std.specs.Prelude.{nat_lt}
-use Rattle.std.specs.List.{All, list_all}
-use Rattle.std.proofs.lemmas.Bool.{and_parts, lt-ltb}
-use Rattle.std.proofs.lemmas.List.Elements.{All-cons, All-head, All-nil, All-tail}
-use Rattle.hx_model.specs.Types.{Config, Entry, Item, Script, ServerId, Totals, Value}
-use Rattle.hx_types.specs.Fitting.{IsScript}
-use Rattle.hx_types.specs.Posts.{keys_ascend}
-use Rattle.hx_types.specs.Spaces.{KeyFits}
-use Rattle.hx_types.specs.Words.{IsIn, text_below}
-use Rattle.hx_model.specs.Histories.{history_of}
-use Rattle.hx_model.specs.Runs.{IsRun}
+use Rattle.hx_law_lemmas.proofs.Lemmas.Vocabulary.{[], All, All-cons, All-head, All-nil, All-tail, and_parts, ap, arith, Bool, Config, Entry, history_of, inl}
+use Rattle.hx_law_lemmas.proofs.Lemmas.Vocabulary.{inr, IsIn, IsRun, IsScript, Item, KeyFits, keys_ascend, length, List, list_all, lt-ltb, map, nat_lt, None}
+use Rattle.hx_law_lemmas.proofs.Lemmas.Vocabulary.{Option, refl, Script, ServerId, Some, subst, sym, text_below, Totals, true, Value, ℕ, ◌+◌, ◌<◌, ◌^◌, ◌∙◌}
+use Rattle.hx_law_lemmas.proofs.Lemmas.Vocabulary.{◌∷◌, ◌≡◌, ◌≢◌}
 use Rattle.hx_history.specs.declared.key_histories.KeyHistory.{KeyHistory}
 use Rattle.hx_history.specs.Listed.{AreHistories, IsHistory}
 use Rattle.hx_lex.specs.Spelling.{IsText}

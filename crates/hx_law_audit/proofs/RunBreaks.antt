@@ -1,6 +1,5 @@
 -- The report of a run breaks nothing.
-use Rattle.std.proofs.Common.{inl, inr, [], refl, sym, ◌∙◌, subst}
-use Rattle.std.proofs.lemmas.List.Elements.{All-cons, All-nil}
+use Rattle.hx_law_lemmas.proofs.Lemmas.Vocabulary.{[], All-cons, All-nil, inl, inr, refl, subst, sym, ◌∙◌}
 use Rattle.hx_report_lines.specs.Values.{IsBlock, IsReportValue}
 use Rattle.hx_law_audit.specs.Meaning.{IsConsistent}
 use Rattle.hx_law_audit.specs.Running.{RunsBreakNothing}

@@ -1,23 +1,16 @@
 -- The lines of a run's calls are lines of a report, and ascend.
-use Rattle.std.proofs.Common.{◌≡◌, ℕ, zero, suc, ◌+◌, ◌<◌, ◌≤◌, ◌^◌, inl, inr, Bool, true, false, not, ◌&&◌, List, [], ◌∷◌, ◌++◌, map, length, cond, eqb, ltb, Option, Some, None, refl, sym, ap, ◌∙◌, subst, arith}
-use Rattle.std.specs.Prelude.{is_some, sum_by}
-use Rattle.std.specs.List.{All, flat_map}
-use Rattle.std.specs.Option.{option_map}
-use Rattle.std.proofs.lemmas.Bool.{and_from, eq-eqb, lt-ltb, or_left, or_right}
-use Rattle.std.proofs.lemmas.List.{append-nil, append_assoc}
-use Rattle.std.proofs.lemmas.List.Sums.{sum_by-cons}
-use Rattle.hx_model.specs.Types.{Answer, Caller, Entry, Op, Script, Search, Version}
-use Rattle.hx_types.specs.Fitting.{IsScript, calls_of, is_doubt, numbered}
-use Rattle.hx_types.specs.Spaces.{Fits}
-use Rattle.hx_types.specs.Words.{IsIn, below, list_of, when_some}
-use Rattle.hx_model.specs.Histories.{CallEnd, begin_of, callers_of, note_of_end, record_at, record_of}
-use Rattle.hx_model.specs.Lines.{no_version}
-use Rattle.hx_model.specs.Runs.{IsRun}
+use Rattle.hx_law_lemmas.proofs.Lemmas.Vocabulary.{[], All, and_from, Answer, ap, append-nil, append_assoc, arith, begin_of, below, Bool, CallEnd, Caller}
+use Rattle.hx_law_lemmas.proofs.Lemmas.Vocabulary.{callers_of, calls_of, cond, Entry, eq-eqb, eqb, false, Fits, flat_map, inl, inr, is_doubt, is_some, IsIn}
+use Rattle.hx_law_lemmas.proofs.Lemmas.Vocabulary.{IsRun, IsScript, length, List, list_of, lt-ltb, ltb, map, map-append, no_version, None, not, note_of_end}
+use Rattle.hx_law_lemmas.proofs.Lemmas.Vocabulary.{numbered, Op, Option, option_map, or_left, or_right, record_at, record_of, refl, Script, Search, Some, subst}
+use Rattle.hx_law_lemmas.proofs.Lemmas.Vocabulary.{suc, sum_by-cons, sym, true, Version, when_some, zero, ℕ, ◌&&◌, ◌++◌, ◌+◌, ◌<◌, ◌^◌, ◌∙◌, ◌∷◌, ◌≡◌, ◌≤◌}
+use Rattle.std.specs.Prelude.{sum_by}
 use Rattle.hx_law_texts.specs.Sayable.{CallIsSayable, IsSayableScript}
 use Rattle.hx_law_lemmas.proofs.Lemmas.{Pairwise, all-of, in-below, in-flat_map, in-map, in-slice_get, pairwise-append, BeganAt, EndedAt, began_at, ended_at}
 use Rattle.hx_law_searches.proofs.Lemmas.{runs_fit}
 use Rattle.hx_report_lines.specs.declared.calls.CallLine.{CallLine}
-use Rattle.hx_report_lines.specs.Values.{Ascends, AscendsFrom, IsCallOf, IsCaller, MaybeAnswerOf, MaybeIs64, VersionBy, VersionFits, caller_below, has_end, names_version}
+use Rattle.hx_report_lines.specs.Values.{Ascends, AscendsFrom, IsCallOf, IsCaller, MaybeAnswerOf, MaybeIs64, VersionBy, VersionFits, caller_below, has_end}
+use Rattle.hx_report_lines.specs.Values.{names_version}
 use Rattle.hx_law_audit.proofs.RunAnswers.{answer_good, op_good}
 use Rattle.hx_law_audit.proofs.RunEnds.{ends_sound}
 use Rattle.hx_law_audit.proofs.RunLines.{IsLineOf, call_line, call_lines, line_in, op_in, sure, version_by, version_of}
@@ -85,10 +78,6 @@ lower_number a b e l =
     or_right (ltb a.session.0 b.session.0) (eqb a.session.0 b.session.0 && ltb a.number b.number)
     (and_from (eqb a.session.0 b.session.0) (ltb a.number b.number) (eq-eqb a.session.0 b.session.0 e) (lt-ltb a.number b.number l))
 
-mapped_more : {A B : Type 0} (f : A → B) (xs : List A) (y : A) → map f (xs ++ y ∷ []) ≡ map f xs ++ f y ∷ []
-mapped_more f [] y = refl
-mapped_more f (x ∷ xs) y = ap (λ l. f x ∷ l) (mapped_more f xs y)
-
 flat_more : {A B : Type 0} (f : A → List B) (xs : List A) (y : A) → flat_map f (xs ++ y ∷ []) ≡ flat_map f xs ++ f y
 flat_more f [] y = append-nil (f y)
 flat_more f (x ∷ xs) y = ap (λ l. f x ++ l) (flat_more f xs y) ∙ sym (append_assoc (f x) (flat_map f xs) (f y))
@@ -96,7 +85,7 @@ flat_more f (x ∷ xs) y = ap (λ l. f x ++ l) (flat_more f xs y) ∙ sym (appen
 session_ascends : (u m : ℕ) → Pairwise IsBelow (map (λ n. record { session = record { 0 = u + 1 }; number = n + 1 }) (below m))
 session_ascends u zero = tt
 session_ascends u (suc m) =
-    subst (Pairwise IsBelow) (sym (mapped_more at (below m) m))
+    subst (Pairwise IsBelow) (sym (map-append at (below m) (m ∷ [])))
     (pairwise-append IsBelow (map at (below m)) (at m ∷ []) (session_ascends u m) ((λ x i. absurd i), tt)
     (λ z x i j. elim j [
       | inl e ↦ (let k = in-map at (below m) z i in let b = in-below m k.0 k.1 in

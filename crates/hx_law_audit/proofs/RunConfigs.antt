@@ -1,17 +1,9 @@
 -- The configurations that a run issues: each is of the space, and epochs and servers ascend.
-use Rattle.std.proofs.Common.{◌≡◌, ℕ, ◌+◌, ◌≤◌, inl, inr, List, [], ◌∷◌, ◌++◌, map, reverse, length, Some, None, refl, sym, ap, ◌∙◌, subst, arith}
-use Rattle.std.specs.List.{All, flat_map}
-use Rattle.std.proofs.lemmas.Bool.{eq-eqb, cond-true}
-use Rattle.std.proofs.lemmas.List.{append-nil, reverse-append}
-use Rattle.std.proofs.lemmas.List.Concat.{flat_map-append}
-use Rattle.hx_model.specs.Types.{Config, Entry, Epoch, Note, Script, Space}
+use Rattle.hx_law_lemmas.proofs.Lemmas.Vocabulary.{[], All, ap, append-nil, arith, below, cond-true, Config, config_noted, coordinator_of, Entry, Epoch, eq-eqb}
+use Rattle.hx_law_lemmas.proofs.Lemmas.Vocabulary.{first_config, flat_map, flat_map-append, inl, inr, is_lost, IsConfigOf, IsIn, IsRegionOf, IsRun, IsScript}
+use Rattle.hx_law_lemmas.proofs.Lemmas.Vocabulary.{length, List, lost_regions, map, map-append, None, Note, refl, reverse, reverse-append, Script, Some, Space}
+use Rattle.hx_law_lemmas.proofs.Lemmas.Vocabulary.{subst, sym, ℕ, ◌++◌, ◌+◌, ◌∙◌, ◌∷◌, ◌≡◌, ◌≤◌}
 use Rattle.hx_types.specs.declared.traces.Note.TheVariants as a_note
-use Rattle.hx_types.specs.Configs.{first_config, is_lost, lost_regions}
-use Rattle.hx_types.specs.Fitting.{IsScript}
-use Rattle.hx_types.specs.Spaces.{IsConfigOf, IsRegionOf}
-use Rattle.hx_types.specs.Words.{IsIn, below}
-use Rattle.hx_model.specs.Causes.{config_noted}
-use Rattle.hx_model.specs.Runs.{IsRun, coordinator_of}
 use Rattle.hx_law_lemmas.proofs.Lemmas.{all-of, in-append, in-below, in-filter, in-map}
 use Rattle.hx_law_posts.proofs.Lemmas.{first-of_space, epochs_stay_small}
 use Rattle.hx_law_epochs.proofs.Lemmas.{Notes, epochs-run, keeps-entry}
@@ -66,10 +58,6 @@ pub record ConfigsHold (script : Script) (trace : List Entry) : Type 0 where
 newest_good : (script : Script) → IsScript script → (trace : List Entry) → IsRun script trace → IsGoodConfig script (length trace) (coordinator_of script trace).config
 newest_good script valid trace run = let s = (epochs_stay_small script valid trace run).2 in record { of_space = s.0; epoch = s.1; rise = servers_rise script trace }
 
-numbered_more : {A B : Type 0} (f : A → B) (xs : List A) (y : A) → map f (xs ++ y ∷ []) ≡ map f xs ++ f y ∷ []
-numbered_more f [] y = refl
-numbered_more f (x ∷ xs) y = ap (λ l. f x ∷ l) (numbered_more f xs y)
-
 pub configs_hold : (script : Script) → IsScript script → (trace : List Entry) → IsRun script trace → ConfigsHold script trace
 configs_hold script valid [] run = record {
   each = λ c i. elim i [ inl e ↦ subst (IsGoodConfig script 0) (sym e) (record { of_space = first-of_space script.space valid.space; epoch = omega arith; rise = first_servers_rise script.space }) | inr j ↦ absurd j ];
@@ -103,7 +91,7 @@ configs_hold script valid (x ∷ older) run = by (configs_hold script valid olde
           ];
           rise =
               subst (λ l. RisesFrom None (map epoch_number l)) (sym same)
-              (subst (RisesFrom None) (sym (numbered_more epoch_number (configs_of script older) now))
+              (subst (RisesFrom None) (sym (map-append epoch_number (configs_of script older) (now ∷ [])))
               (rises_more None (map epoch_number (configs_of script older)) (epoch_number now) h.rise
               (λ n i. let m = in-map epoch_number (configs_of script older) n i in let l = h.low m.0 m.1 in let e = m.2 in omega (arith, l, next, e))
               (λ m e. absurd (cc))));

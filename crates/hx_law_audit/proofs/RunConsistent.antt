@@ -1,12 +1,7 @@
 -- The report of a run is consistent.
-use Rattle.std.proofs.Common.{◌≡◌, ℕ, List, [], map, Option, None, Some, sym, ap, ◌∙◌, subst}
-use Rattle.hx_model.specs.Types.{Caller, Entry, Item, Op, Script, Search, Space, Term}
-use Rattle.hx_types.specs.Fitting.{IsScript, TraceFits}
-use Rattle.hx_types.specs.Words.{IsIn, when_some}
-use Rattle.hx_model.specs.Histories.{CallEnd, begin_of, end_of, history_of, record_at}
-use Rattle.hx_model.specs.Linear.{IsLinear}
-use Rattle.hx_model.specs.Runs.{IsRun}
-use Rattle.hx_model.specs.Searching.{FinishedSearch, rows_in, search_of, terms_of, with_rows}
+use Rattle.hx_law_lemmas.proofs.Lemmas.Vocabulary.{[], ap, begin_of, CallEnd, Caller, end_of, Entry, FinishedSearch, history_of, IsIn, IsLinear, IsRun}
+use Rattle.hx_law_lemmas.proofs.Lemmas.Vocabulary.{IsScript, Item, List, map, None, Op, Option, record_at, rows_in, Script, Search, search_of, Some, Space}
+use Rattle.hx_law_lemmas.proofs.Lemmas.Vocabulary.{subst, sym, Term, terms_of, TraceFits, when_some, with_rows, ℕ, ◌∙◌, ◌≡◌}
 use Rattle.hx_history.specs.declared.key_histories.KeyHistory.{KeyHistory}
 use Rattle.hx_history.specs.Listed.{AreHistories, IsHistory}
 use Rattle.hx_law_lemmas.proofs.Lemmas.{all-in, of-reverse, began_at}

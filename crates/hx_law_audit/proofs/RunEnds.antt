@@ -1,46 +1,28 @@
 -- How the calls of a run end: with an answer of the space whose numbers are small, or as a search with rows.
-use Rattle.std.proofs.Common.{◌≡◌, ℕ, ◌+◌, ◌<◌, ◌≤◌, ◌⊎◌, inl, inr, Bool, true, false, List, [], ◌∷◌, map, length, Option, Some, None, refl, sym, ap, ◌∙◌, subst, arith, cond, eqb, ltb}
-use Rattle.std.specs.Prelude.{◌&&◌, slice_get}
-use Rattle.std.specs.List.{find, list_any}
-use Rattle.std.proofs.lemmas.Bool.{and_parts, cond_both, eqb-true}
-use Rattle.hx_model.specs.Types.{Actor, Add, Answer, Atomic, Caller, Config, Cput, Del, Deliver, Entry, Epoch, Get, Halt, Input, Message, Op, Planned, Post}
-use Rattle.hx_model.specs.Types.{PostId, Put, RegionId, Row, Script, Search, Session, SessionId, Space, Stop, Term, Tick, Version}
+use Rattle.hx_law_lemmas.proofs.Lemmas.Vocabulary.{[], Actor, Answer, ap, arith, below, call_of, Caller, chosen, cond_both, Config, Deliver, Entry, entry_at}
+use Rattle.hx_law_lemmas.proofs.Lemmas.Vocabulary.{eqb, eqb-true, find, inl, Input, inr, is_lost, is_rows, is_search, is_write, IsIn, IsRegionOf, IsRun}
+use Rattle.hx_law_lemmas.proofs.Lemmas.Vocabulary.{IsScript, IsSoundAnswer, IsSoundMessage, IsSpace, key_region, length, List, lost_answer, lowest_lost, map}
+use Rattle.hx_law_lemmas.proofs.Lemmas.Vocabulary.{MayTake, Message, no_version, None, numbered, Op, Option, plan_of, Planned, Post, post, post_named, PostId}
+use Rattle.hx_law_lemmas.proofs.Lemmas.Vocabulary.{query_regions, QueryRegions, refl, RegionId, Script, Search, Session, session_of, session_step, SessionId}
+use Rattle.hx_law_lemmas.proofs.Lemmas.Vocabulary.{SessionState, SessionStep, Some, Space, subspaces_of, subst, sym, Term, true, Version, when_some, ℕ, ◌&&◌}
+use Rattle.hx_law_lemmas.proofs.Lemmas.Vocabulary.{◌+◌, ◌∙◌, ◌∷◌, ◌≡◌, ◌≤◌, ◌⊎◌}
+use Rattle.std.specs.Prelude.{slice_get}
 use Rattle.hx_types.specs.declared.calls.Answer.TheVariants as an_answer
 use Rattle.hx_types.specs.declared.messages.Message.TheVariants as a_message
 use Rattle.hx_types.specs.declared.outcomes.Planned.TheVariants as a_plan
 use Rattle.hx_types.specs.declared.traces.Note.TheVariants as a_note
-use Rattle.hx_types.specs.Configs.{head_of, is_lost}
-use Rattle.hx_types.specs.Effects.{is_write}
-use Rattle.hx_types.specs.Fitting.{IsScript, call_of, is_rows, numbered}
-use Rattle.hx_types.specs.Posts.{IsSoundAnswer, IsSoundMessage}
-use Rattle.hx_types.specs.Spaces.{IsRegionOf, IsSpace}
-use Rattle.hx_types.specs.Subspaces.{axes_of, first_region, size_of, subspaces_of}
-use Rattle.hx_types.specs.Words.{IsIn, below, post, when_some}
-use Rattle.hx_model.specs.Lines.{no_version}
-use Rattle.hx_model.specs.Planning.{QueryRegions, chosen, lowest_lost, plan_of, query_regions}
-use Rattle.hx_model.specs.Regions.{key_region, meets, regions_of}
-use Rattle.hx_model.specs.Runs.{IsRun, MayTake, entry_at, post_named, session_of}
-use Rattle.hx_model.specs.SessionSteps.{SessionState, SessionStep, all_parts, ask_regions, awaits, begin, call_to, call_under_way, end_with_parts, ending, found_step, is_administrative, is_key_call, is_search, lacks_part, lost_answer, merged_parts, send, send_to, session_install, session_message, session_step, session_tick, staying, with_part, with_poll}
-use Rattle.hx_region.proofs.Lemmas.{within}
-use Rattle.hx_law_lemmas.proofs.Lemmas.{awaited, in-below, in-filter, in-find, in-map, when_some_both, place-region, EndedAt}
+use Rattle.hx_law_lemmas.proofs.Lemmas.{EndsBy, SessionDoes, Starts, session-does, query-region, in-find, when_some_both, place-region, EndedAt}
 use Rattle.hx_law_posts.proofs.Lemmas.{IsSoundConfig, bounds, sound_answer-up, kept-run, posts_stay_sound}
 use Rattle.hx_law_searches.proofs.Lemmas.{step_is}
 
 -- ---- the region that a search isn't planned for
-
-query_region : (space : Space) (terms : List Term) (s : ℕ) → s < length (subspaces_of space) → (g : RegionId) → IsIn g (query_regions space terms s).regions → IsRegionOf space g
-query_region space terms s l g i =
-    let f = in-filter (λ (h : RegionId). meets space h terms) (regions_of space s) g i in
-    let m = in-map (λ k. record { 0 = first_region space s + k }) (below (size_of (axes_of space s))) g f.0 in
-    let b = in-below (size_of (axes_of space s)) m.0 m.1 in
-    within space s g l (subst (λ (h : RegionId). (first_region space s ≤ h.0) × (h.0 < first_region space s + size_of (axes_of space s))) (sym m.2) (omega arith, omega (arith, b)))
 
 lowest_region : (space : Space) → IsSpace space → (config : Config) (terms : List Term) → IsRegionOf space (lowest_lost config (query_regions space terms 0).regions)
 lowest_region space valid config terms =
     let rs = (query_regions space terms 0).regions in
     when_some_both (find (is_lost config) rs) (record { 0 = 0 }) (λ (g : RegionId). g) (IsRegionOf space)
     (λ e. let l = place-region space valid 0 [] [] (omega arith) in omega (arith, l))
-    (λ g e. query_region space terms 0 (omega arith) g (in-find (is_lost config) rs g e))
+    (λ g e. query-region space terms 0 (omega arith) g (in-find (is_lost config) rs g e))
 
 abbrev LostIsOf : Space → Planned → Type 0
 LostIsOf space (a_plan.Regions subspace regions) = Unit {0}
@@ -64,18 +46,6 @@ module _ (space : Space) (valid : IsSpace space) (sessions n : ℕ) where
   record EndsSound (s : SessionState) (step : SessionStep) : Type 0 where
     pub ends : (k : ℕ) (v : Version) (a : Answer) → IsIn (a_note.Ended k v a) step.notes → (op : Op) × (numbered s.calls k ≡ Some op) × EndIsSound space sessions n op v a
 
-  quiet : (s : SessionState) (step : SessionStep) → step.notes ≡ [] → EndsSound s step
-  quiet s step e = record { ends = λ k v a i. absurd (subst (λ ns. IsIn (a_note.Ended k v a) ns) e i) }
-
-  ends-call : (s : SessionState) (v : Version) (answer : Answer) (op : Op) → numbered s.calls s.begun ≡ Some op → EndIsSound space sessions n op v answer → EndsSound s (ending s v answer)
-  ends-call s v answer op e h = record {
-    ends = λ k w a i. elim i [
-      | inl q ↦ (let m : k ≡ s.begun = cc in let y : v ≡ w = cc in let z : answer ≡ a = cc in
-          (op, ap (numbered s.calls) m ∙ e, subst (λ (b : Answer). EndIsSound space sessions n op w b) z (subst (λ (u : Version). EndIsSound space sessions n op u answer) y h)))
-      | inr j ↦ absurd j
-    ];
-  }
-
   -- a lost region is told with the epoch
   lost-sound : (s : SessionState) → IsSoundConfig space n s.config → (op : Op) (g : RegionId) → IsRegionOf space g → EndIsSound space sessions n op no_version (lost_answer s op g)
   lost-sound s config op g region = (
@@ -85,89 +55,52 @@ module _ (space : Space) (valid : IsSpace space) (sessions n : ℕ) where
         (λ t. inr (region, config.epoch)),
   )
 
-  sends-key : (s : SessionState) → IsSoundConfig space n s.config → (op : Op) (key : List ℕ) → numbered s.calls s.begun ≡ Some op → EndsSound s (send_to s op (key_region space key))
-  sends-key s config op key e =
-      let g = key_region space key in
-      cond_both (is_lost s.config g) (ending s no_version (lost_answer s op g)) (record { state = record s { sent = true }; posts = call_to s op (head_of s.config g); notes = [] }) (EndsSound s)
-      (λ t. ends-call s no_version (lost_answer s op g) op e (lost-sound s config op g (place-region space valid 0 key [] (omega arith))))
-      (λ t. quiet s _ refl)
+  -- so is each end of a step, where what arrives is sound
+  step-sound : (s : SessionState) → IsSoundConfig space n s.config → (input : Input)
+      → ((id : PostId) (from : Actor) (m : Message) → input ≡ Deliver id from m → (k : ℕ) × (k ≤ n) × IsSoundMessage (bounds space sessions k) m)
+      → EndsSound s (session_step space s input)
+  step-sound s config input arrives = record {
+    ends = λ number v a i. (let e = does.goes.ends number v a (there number v a does.starts i) in let r = how v a e.1 in (r.0, ap (λ (ops : List Op). numbered ops number) (sym does.calls) ∙ ap (numbered does.mid.calls) e.0 ∙ r.1, r.2));
+  }
+    where
+      does : SessionDoes space input s (session_step space s input)
+      does = session-does space s input
 
-  asks : (s : SessionState) → IsSoundConfig space n s.config → (terms : List Term) (plan : Planned) → LostIsOf space plan → numbered s.calls s.begun ≡ Some (Search terms) → EndsSound s (ask_regions s terms plan)
-  asks s config terms (a_plan.Regions m regions) l e = quiet s _ refl
-  asks s config terms (a_plan.Lost g) l e = ends-call s no_version (an_answer.Refused g s.config.epoch) (Search terms) e (omega arith, inr (l, config.epoch))
+      there : (number : ℕ) (v : Version) (a : Answer) → Starts s does.mid (session_step space s input).notes does.rest
+          → IsIn (a_note.Ended number v a) (session_step space s input).notes → IsIn (a_note.Ended number v a) does.rest
+      there number v a (inl (b, c, d, e)) i = subst (λ ns. IsIn (a_note.Ended number v a) ns) e i
+      there number v a (inr (b, c, d, f, e)) i = elim (subst (λ ns. IsIn (a_note.Ended number v a) ns) e i) [ inl q ↦ absurd (cc) | inr j ↦ j ]
 
-  sends : (s : SessionState) → IsSoundConfig space n s.config → (op : Op) → numbered s.calls s.begun ≡ Some op → EndsSound s (send space s op)
-  sends s config (Put key sets) e = sends-key s config (Put key sets) key e
-  sends s config (Get key) e = sends-key s config (Get key) key e
-  sends s config (Del key) e = sends-key s config (Del key) key e
-  sends s config (Cput key tests sets) e = sends-key s config (Cput key tests sets) key e
-  sends s config (Atomic key edits) e = sends-key s config (Atomic key edits) key e
-  sends s config (Search terms) e = asks s config terms (plan_of space s.config terms) (plan_lost space valid s.config terms) e
-  sends s config (Stop server) e = quiet s _ refl
-  sends s config (Add server g) e = quiet s _ refl
+      known : IsSoundConfig space n does.mid.config
+      known = elim does.config [
+        | inl e ↦ subst (IsSoundConfig space n) (sym e) config
+        | inr (id, from, c, q, e, higher) ↦ (let h = arrives id from (a_message.Install c) q in
+            subst (IsSoundConfig space n) (sym e) (record { of_space = h.2.1; epoch = (let low = h.2.0 in let l = h.1 in omega (arith, low, l)) }))
+      ]
 
-  begins-call : (s : SessionState) → IsSoundConfig space n s.config → (op : Op) → numbered s.calls (s.begun + 1) ≡ Some op → EndsSound s (begin space s op)
-  begins-call s config op e =
-      let t = sends (record s { begun = s.begun + 1; under_way = true; sent = false; parts = [] }) config op e in
-      record { ends = λ k v a i. elim i [ inl q ↦ absurd (cc) | inr j ↦ t.ends k v a j ] }
-
-  ticks : (s : SessionState) → IsSoundConfig space n s.config → EndsSound s (session_tick space s)
-  ticks s config =
-      cond_both s.under_way (when_some (numbered s.calls s.begun) (staying s) (λ (op : Op). with_poll (send space s op))) (when_some (numbered s.calls (s.begun + 1)) (staying s) (begin space s)) (EndsSound s)
-      (
-      λ t. when_some_both (numbered s.calls s.begun) (staying s) (λ (op : Op). with_poll (send space s op)) (EndsSound s) (λ e. quiet s _ refl)
-      (λ op e. let r = sends s config op e in record { ends = r.ends })
+      how : (v : Version) (a : Answer) → EndsBy space input does.mid v a
+          → (op : Op) × (numbered does.mid.calls does.mid.begun ≡ Some op) × EndIsSound space sessions n op v a
+      how v a (inl r) = let h = arrives r.id r.from (a_message.Reply does.mid.begun v a) r.input_is in let w = h.2.0 in let l = h.1 in (r.op, r.called, (omega (arith, w, l), inr (sound_answer-up space sessions h.0 n l a h.2.1)))
+      how v a (inr (inl r)) = (
+        r.op,
+        r.called,
+        subst (λ (w : Version). EndIsSound space sessions n r.op w a) (sym r.version)
+            (subst (EndIsSound space sessions n r.op no_version) (sym r.answer) (lost-sound does.mid known r.op (key_region space r.key) (place-region space valid 0 r.key [] (omega arith)))),
       )
-      (λ t. when_some_both (numbered s.calls (s.begun + 1)) (staying s) (begin space s) (EndsSound s) (λ e. quiet s _ refl) (λ op e. begins-call s config op e))
-
-  answers : (s : SessionState) (number : ℕ) (test : Op → Bool) (v : Version) (answer : Answer) → ((op : Op) → EndIsSound space sessions n op v answer)
-      → EndsSound s (cond (awaits s number test) (ending s v answer) (staying s))
-  answers s number test v answer sound = by (awaits s number test) refl
-    where
-      by : (b : Bool) → awaits s number test ≡ b → EndsSound s (cond b (ending s v answer) (staying s))
-      by false t = quiet s _ refl
-      by true t = let a = awaited s number test t in ends-call s v answer a.2.0 a.2.1 (sound a.2.0)
-
-  finds : (s : SessionState) (epoch : Epoch) (number : ℕ) (g : RegionId) (rows : List Row) → EndsSound s (found_step s epoch number g rows)
-  finds s epoch number g rows = by (awaits s number is_search && eqb epoch.0 s.config.epoch.0 && list_any (lacks_part g) s.parts) refl
-    where
-      by : (b : Bool) → (awaits s number is_search && eqb epoch.0 s.config.epoch.0 && list_any (lacks_part g) s.parts) ≡ b → EndsSound s (cond b (end_with_parts (record s { parts = map (with_part g rows) s.parts })) (staying s))
-      by false t = quiet s _ refl
-      by true t =
-          let p = and_parts (awaits s number is_search && eqb epoch.0 s.config.epoch.0) (list_any (lacks_part g) s.parts) t in
-          let q = and_parts (awaits s number is_search) (eqb epoch.0 s.config.epoch.0) p.0 in
-          let a = awaited s number is_search q.0 in
-          let parts = map (with_part g rows) s.parts in
-          cond_both (all_parts parts) (ending (record s { parts = parts }) no_version (an_answer.Rows (merged_parts parts))) (staying (record s { parts = parts })) (EndsSound s)
-          (λ z. let r = ends-call (record s { parts = parts }) no_version (an_answer.Rows (merged_parts parts)) a.2.0 a.2.1 (omega arith, inl (a.2.2, refl)) in record { ends = r.ends })
-          (λ z. quiet s _ refl)
-
-  under : (s : SessionState) (op : Op) → call_under_way s ≡ Some op → numbered s.calls s.begun ≡ Some op
-  under s op = by s.under_way
-    where
-      by : (b : Bool) → cond b (numbered s.calls s.begun) None ≡ Some op → numbered s.calls s.begun ≡ Some op
-      by true e = e
-      by false e = absurd (cc)
-
-  installs : (s : SessionState) (config : Config) → IsSoundConfig space n config → EndsSound s (session_install space s config)
-  installs s config h =
-      cond_both (ltb s.config.epoch.0 config.epoch.0)
-      (when_some (call_under_way s) (staying (record s { config = config })) (λ (op : Op). cond (is_administrative op) (staying (record s { config = config })) (send space (record s { config = config }) op))) (staying s) (EndsSound s)
-      (
-      λ t. when_some_both (call_under_way s) (staying (record s { config = config })) (λ (op : Op). cond (is_administrative op) (staying (record s { config = config })) (send space (record s { config = config }) op)) (EndsSound s)
-      (λ e. quiet s _ refl)
-      (λ op e. cond_both (is_administrative op) (staying (record s { config = config })) (send space (record s { config = config }) op) (EndsSound s)
-      (λ q. quiet s _ refl)
-      (λ q. let r = sends (record s { config = config }) h op (under s op e) in record { ends = r.ends }))
+      how v a (inr (inr (inl r))) = (
+        Search r.terms,
+        r.called,
+        subst (λ (w : Version). EndIsSound space sessions n (Search r.terms) w a) (sym r.version)
+            (subst (EndIsSound space sessions n (Search r.terms) no_version) (sym r.answer) (omega arith, inr (subst (LostIsOf space) r.plan (plan_lost space valid does.mid.config r.terms), known.epoch))),
       )
-      (λ t. quiet s _ refl)
-
-  messages : (k : ℕ) → k ≤ n → (s : SessionState) (m : Message) → IsSoundMessage (bounds space sessions k) m → EndsSound s (session_message space s m)
-  messages k l s (a_message.Reply number version answer) h = answers s number is_key_call version answer (λ op. (let v = h.0 in omega (arith, v, l), inr (sound_answer-up space sessions k n l answer h.1)))
-  messages k l s (a_message.Found epoch number g rows) h = finds s epoch number g rows
-  messages k l s (a_message.Install config) h = installs s config (record { of_space = h.1; epoch = (let e = h.0 in omega (arith, e, l)) })
-  messages k l s (a_message.Outcome number answer) h = answers s number is_administrative no_version answer (λ op. (omega arith, inr (sound_answer-up space sessions k n l answer h)))
-  messages k l s other h = quiet s _ refl
+      how v a (inr (inr (inr (inl r)))) = (
+        Search r.terms,
+        r.called,
+        subst (λ (w : Version). EndIsSound space sessions n (Search r.terms) w a) (sym r.version) (omega arith, inl (refl, ap is_rows r.answer)),
+      )
+      how v a (inr (inr (inr (inr r)))) =
+          let h = arrives r.id r.from (a_message.Outcome does.mid.begun a) r.input_is in
+          (r.op, r.called, subst (λ (w : Version). EndIsSound space sessions n r.op w a) (sym r.version) (omega arith, inr (sound_answer-up space sessions h.0 n h.1 a h.2)))
 
 -- ---- runs
 
@@ -189,11 +122,9 @@ named_low id trace p = by (entry_at id.entry trace) refl
 module _ (script : Script) (valid : IsScript script) where
   -- the input of a session's entry
   step_ends : (older : List Entry) → IsRun script older → (u : SessionId) (input : Input) → MayTake older (Session u) input → EndsSound script.space valid.space (length script.sessions) (length older) (session_of script u older) (session_step script.space (session_of script u older) input)
-  step_ends older run u Tick take = ticks script.space valid.space (length script.sessions) (length older) (session_of script u older) ((kept-run script valid older run).own u).config
-  step_ends older run u Halt take = quiet script.space valid.space (length script.sessions) (length older) (session_of script u older) _ refl
-  step_ends older run u (Deliver id from m) take =
-      messages script.space valid.space (length script.sessions) (length older) id.entry (named_low id older (post from (Session u) m) take) (session_of script u older) m
-      (posts_stay_sound script valid older run id (post from (Session u) m) take).message
+  step_ends older run u input take =
+      step-sound script.space valid.space (length script.sessions) (length older) (session_of script u older) ((kept-run script valid older run).own u).config input
+      (λ id from m e. let t = subst (MayTake older (Session u)) e take in (id.entry, named_low id older (post from (Session u) m) t, (posts_stay_sound script valid older run id (post from (Session u) m) t).message))
 
   -- a call that ended is the script's, and its end sound
   pub ends_sound : (trace : List Entry) → IsRun script trace → (c : Caller) (v : Version) (a : Answer) (k : ℕ) → EndedAt trace c v a k

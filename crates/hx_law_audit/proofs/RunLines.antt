@@ -1,14 +1,9 @@
 -- The lines that a run has in its report: its calls and histories, and which of them is whose.
-use Rattle.std.proofs.Common.{◌≡◌, ℕ, inl, inr, Bool, true, false, List, [], ◌∷◌, ◌++◌, map, cond, Option, None, Some, refl, sym, ap, ◌∙◌}
-use Rattle.std.specs.List.{flat_map}
-use Rattle.std.specs.Option.{option_map}
-use Rattle.std.proofs.lemmas.Bool.{false≢true}
-use Rattle.hx_model.specs.Types.{Answer, Caller, Entry, Item, Op, Record, Script, Search, Version}
+use Rattle.hx_law_lemmas.proofs.Lemmas.Vocabulary.{[], Answer, ap, begin_of, Bool, call_of, CallEnd, Caller, callers_of, cond, end_of, Entry, false, false≢true}
+use Rattle.hx_law_lemmas.proofs.Lemmas.Vocabulary.{flat_map, inl, inr, is_doubt, IsIn, Item, List, list_of, map, no_version, None, note_of_end, Op, Option}
+use Rattle.hx_law_lemmas.proofs.Lemmas.Vocabulary.{option_map, Record, record_at, record_of, records_of, refl, Script, Search, Some, sym, TraceFits, true}
+use Rattle.hx_law_lemmas.proofs.Lemmas.Vocabulary.{Version, when_some, ℕ, ◌++◌, ◌∙◌, ◌∷◌, ◌≡◌}
 use Rattle.hx_types.specs.declared.calls.Answer.TheVariants as an_answer
-use Rattle.hx_types.specs.Fitting.{TraceFits, call_of, is_doubt}
-use Rattle.hx_types.specs.Words.{IsIn, list_of, when_some}
-use Rattle.hx_model.specs.Histories.{CallEnd, begin_of, callers_of, end_of, note_of_end, record_at, record_of, records_of}
-use Rattle.hx_model.specs.Lines.{no_version}
 use Rattle.hx_history.specs.declared.key_histories.KeyHistory.{KeyHistory}
 use Rattle.hx_law_lemmas.proofs.Lemmas.{in-flat_map, in-map, began_at}
 use Rattle.hx_report_lines.specs.declared.calls.CallLine.{CallLine}

@@ -1,13 +1,13 @@
 -- What the notes of a trace that fits its script say of calls: who began is a caller of the script, and who ended began.
-use Rattle.std.proofs.Common.{◌≡◌, ℕ, suc, zero, ◌+◌, ◌<◌, inl, inr, Bool, true, false, List, [], ◌∷◌, ◌++◌, map, length, Option, Some, None, refl, sym, ap, ◌∙◌, subst, arith, eqb}
-use Rattle.std.specs.Prelude.{◌&&◌, not, is_some, reverse, slice_get}
-use Rattle.std.proofs.lemmas.Bool.{and_parts, cases_eq, eq-eqb, eqb-true, false≢true, or_right}
-use Rattle.hx_model.specs.Types.{Actor, Answer, Caller, Entry, Note, Op, Script, Session, Version}
+use Rattle.hx_law_lemmas.proofs.Lemmas.Vocabulary.{[], Actor, and_parts, Answer, ap, arith, below, Bool, call_of, Caller, callers_of, calls_of, cases_eq}
+use Rattle.hx_law_lemmas.proofs.Lemmas.Vocabulary.{ends_well, Entry, eq-eqb, eqb, eqb-true, false, false≢true, has_begun, has_ended, inl, inr, is_begin_of}
+use Rattle.hx_law_lemmas.proofs.Lemmas.Vocabulary.{is_some, IsIn, length, List, map, None, not, Note, note_fits, Noted, noted_in, notes_fit, numbered, Op}
+use Rattle.hx_law_lemmas.proofs.Lemmas.Vocabulary.{Option, or_right, refl, reverse, same_actor, Script, Session, Some, subst, suc, sym, TraceFits, true}
+use Rattle.hx_law_lemmas.proofs.Lemmas.Vocabulary.{Version, when_some, zero, ℕ, ◌&&◌, ◌++◌, ◌+◌, ◌<◌, ◌∙◌, ◌∷◌, ◌≡◌}
+use Rattle.std.specs.Prelude.{slice_get}
 use Rattle.hx_types.specs.declared.traces.Note.TheVariants as a_note
-use Rattle.hx_types.specs.Fitting.{Noted, TraceFits, call_of, calls_of, ends_well, has_begun, has_ended, is_begin_of, note_fits, noted_in, notes_fit, numbered}
-use Rattle.hx_types.specs.Words.{IsIn, below, same_actor, when_some}
-use Rattle.hx_model.specs.Histories.{callers_of}
-use Rattle.hx_law_lemmas.proofs.Lemmas.{any-in, in-append, in-flat, in-map, in-reverse, in_left, in_right, map-in, of-reverse, BeganAt, EndedAt, of_session}
+use Rattle.hx_law_lemmas.proofs.Lemmas.{get-below, any-in, in-append, in-flat, in-map, in-reverse, in_left, in_right, map-in, of-reverse, BeganAt, EndedAt}
+use Rattle.hx_law_lemmas.proofs.Lemmas.{of_session}
 
 abbrev said : Actor → Note → Noted
 said a n = record { actor = a; note = n }
@@ -113,11 +113,6 @@ below_in (suc n) k l = by (λ m. below_in n k m) (eqb k n) refl
     by lower true e = in_right (below n) (n ∷ []) k (inl (eqb-true k n e))
     by lower false e = in_left (below n) (n ∷ []) k (lower (let z : (k ≡ n) → ⊥ = λ q. false≢true (sym e ∙ eq-eqb k n q) in elim (cases_eq k n) [ inl q ↦ absurd (z q) | inr q ↦ omega (arith, l, q) ]))
 
-within : {A : Type 0} (xs : List A) (k : ℕ) (x : A) → slice_get xs k ≡ Some x → k < length xs
-within [] k x e = absurd (cc)
-within (y ∷ xs) zero x e = omega arith
-within (y ∷ xs) (suc k) x e = let r = within xs k x e in omega (arith, r)
-
 -- who has a call is a caller
 pub caller_in : (script : Script) (c : Caller) (op : Op) → call_of script c ≡ Some op → IsIn c (callers_of script)
 caller_in script c op e = by c.session.0 refl c.number refl e
@@ -127,7 +122,7 @@ caller_in script c op e = by c.session.0 refl c.number refl e
       where
         at : (o : Option (List Op)) → slice_get script.sessions u ≡ o → slice_get (when_some o [] (λ (calls : List Op). calls)) n ≡ Some op → u < length script.sessions
         at None z w = absurd (cc)
-        at (Some l) z w = within script.sessions u l z
+        at (Some l) z w = get-below script.sessions u l z
 
     by : (u : ℕ) → u ≡ c.session.0 → (n : ℕ) → n ≡ c.number → numbered (calls_of script c.session) c.number ≡ Some op → IsIn c (callers_of script)
     by zero p n q z = absurd (let w : numbered (when_some (numbered script.sessions 0) [] (λ (calls : List Op). calls)) n ≡ Some op = subst (λ m. numbered (when_some (numbered script.sessions 0) [] (λ (calls : List Op). calls)) m ≡ Some op) (sym q) (subst (λ m. numbered (when_some (numbered script.sessions m) [] (λ (calls : List Op). calls)) c.number ≡ Some op) (sym p) z) in none n w)
@@ -145,7 +140,7 @@ caller_in script c op e = by c.session.0 refl c.number refl e
         subst (λ m. numbered (when_some (numbered script.sessions m) [] F) (suc n) ≡ Some op) (sym p) (subst (λ m. numbered (calls_of script c.session) m ≡ Some op) (sym q) z) in
         let su : suc u ≡ u + 1 = omega arith in
         let few : n < length (when_some (numbered script.sessions (u + 1)) [] F) =
-        subst (λ m. n < length (when_some (numbered script.sessions m) [] F)) su (within (when_some (slice_get script.sessions u) [] F) n op w) in
+        subst (λ m. n < length (when_some (numbered script.sessions m) [] F)) su (get-below (when_some (slice_get script.sessions u) [] F) n op w) in
         subst (λ (d : Caller). IsIn d (callers_of script)) same
         (in-flat (λ u. map (λ n. record { session = record { 0 = u + 1 }; number = n + 1 }) (below (length (calls_of script (record { 0 = u + 1 }))))) (below (length script.sessions)) u (record { session = record { 0 = u + 1 }; number = n + 1 })
         (below_in (length script.sessions) u (calls_some u n w))

@@ -1,20 +1,14 @@
 -- Objects in legal histories belong to the space and can be said, where the operations do and can.
-use Rattle.std.proofs.Common.{◌≡◌, ℕ, ◌+◌, ◌-◌, ◌+ℤ◌, inl, inr, Bool, true, List, [], ◌∷◌, ◌++◌, length, Option, Some, None, Result, Ok, Err, refl, sym, subst}
-use Rattle.std.specs.Prelude.{FitsSigned, ℤ, nat_le, int_le, pos, negsuc}
-use Rattle.std.specs.Int.{w64}
-use Rattle.std.specs.List.{All, list_all, slice_get, slice_set}
-use Rattle.std.proofs.lemmas.Bool.{and_from, and_parts, cond_both, ltb-true}
-use Rattle.std.proofs.lemmas.Str.{IsUtf8-append, IsUtf8-nil}
-use Rattle.hx_model.specs.Types.{Answer, Assign, Atomic, Attribute, Cput, Del, Edit, EditKind, Effect, Get, Item, Kind, Op, Put, Space, Value}
-use Rattle.hx_types.specs.declared.limits.TheConstants.{LONGEST_TEXT}
+use Rattle.hx_law_lemmas.proofs.Lemmas.Vocabulary.{[], All, and_from, and_parts, and_then, Answer, Assign, Atomic, Attribute, Bool, changed_to, cond_both, Cput}
+use Rattle.hx_law_lemmas.proofs.Lemmas.Vocabulary.{default_of, defaults, Del, Edit, edit_of, edited_from, edited_value, EditKind, Effect, effect_of, Err, Fits}
+use Rattle.hx_law_lemmas.proofs.Lemmas.Vocabulary.{fits_64, FitsSigned, Get, inl, inr, int_le, IsIn, IsLegal, IsMaybeObjectOf, IsUtf8-append, IsUtf8-nil, Item}
+use Rattle.hx_law_lemmas.proofs.Lemmas.Vocabulary.{Kind, left_as, length, List, list_all, LONGEST_TEXT, ltb-true, nat_le, negsuc, None, object_now, Ok, Op}
+use Rattle.hx_law_lemmas.proofs.Lemmas.Vocabulary.{Option, pos, Put, refl, Result, slice_get, slice_set, Some, Space, subst, sym, tests_hold, true, Value, w64}
+use Rattle.hx_law_lemmas.proofs.Lemmas.Vocabulary.{written, ℕ, ℤ, ◌++◌, ◌+ℤ◌, ◌+◌, ◌-◌, ◌∷◌, ◌≡◌}
 use Rattle.hx_types.specs.declared.calls.Answer.TheVariants as an_answer
 use Rattle.hx_types.specs.declared.spaces.Kind.TheVariants as a_kind
 use Rattle.hx_types.specs.declared.values.EditKind.TheVariants as an_edit
 use Rattle.hx_types.specs.declared.values.Value.TheVariants as a_value
-use Rattle.hx_types.specs.Effects.{and_then, changed_to, default_of, defaults, edit_of, edited_from, edited_value, effect_of, fits_64, left_as, tests_hold, written}
-use Rattle.hx_types.specs.Spaces.{Fits, IsMaybeObjectOf}
-use Rattle.hx_types.specs.Words.{IsIn}
-use Rattle.hx_model.specs.Legal.{IsLegal, object_now}
 use Rattle.hx_lex.specs.Spelling.{IsText, is_plain}
 use Rattle.hx_law_texts.specs.Sayable.{BoundsAreSayable, CallIsSayable, IsSayable}
 use Rattle.hx_law_lemmas.proofs.Lemmas.{MadeWith, edited-both, all-in, all-of, in-slice_set, in-slice_get, in-map, when_some_both, effect-sound}

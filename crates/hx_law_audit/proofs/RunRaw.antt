@@ -1,16 +1,12 @@
 -- The lines of a run's trace: each is of plain bytes, and says first what it is.
-use Rattle.std.proofs.Common.{◌≡◌, ◌≢◌, ℕ, zero, suc, ◌+◌, ◌<◌, ◌⊎◌, inl, inr, Bool, true, false, not, ◌&&◌, List, [], ◌∷◌, ◌++◌, reverse, refl, sym, ap, ◌∙◌, subst, arith, eqb, ltb}
-use Rattle.std.specs.Prelude.{codes, ◌/◌, ◌%◌}
-use Rattle.std.specs.Fmt.{decimal, digits, digit_glyph, digits_onto}
-use Rattle.std.specs.List.{All, list_all}
-use Rattle.std.specs.Str.{IsAscii, IsUtf8}
-use Rattle.std.proofs.lemmas.Bool.{and_from, and_parts, cond-true, cond_both, eq-eqb, eqb-true, false≢true, lt-ltb, ltb-true}
-use Rattle.std.proofs.lemmas.List.{append_assoc}
-use Rattle.std.proofs.lemmas.Str.{IsUtf8-from_ascii}
-use Rattle.hx_model.specs.Types.{Actor, Coordinator, Entry, Input, Message, Post, PostId, Server, Session}
+use Rattle.std.specs.Fmt.{digits}
+use Rattle.hx_law_lemmas.proofs.Lemmas.Vocabulary.{[], Actor, All, and_from, and_parts, ap, append_assoc, arith, Bool, codes, cond-true, cond_both, Coordinator}
+use Rattle.hx_law_lemmas.proofs.Lemmas.Vocabulary.{decimal, digit_glyph, digits_onto, Entry, eq-eqb, eqb, eqb-true, false, false≢true, inl, Input, inr, IsAscii}
+use Rattle.hx_law_lemmas.proofs.Lemmas.Vocabulary.{IsIn, IsUtf8, IsUtf8-from_ascii, List, list_all, lt-ltb, ltb, ltb-true, Message, not, Post, PostId, refl}
+use Rattle.hx_law_lemmas.proofs.Lemmas.Vocabulary.{reverse, Server, Session, subst, suc, sym, true, zero, ℕ, ◌%◌, ◌&&◌, ◌++◌, ◌+◌, ◌/◌, ◌<◌, ◌∙◌, ◌∷◌, ◌≡◌, ◌≢◌}
+use Rattle.hx_law_lemmas.proofs.Lemmas.Vocabulary.{◌⊎◌}
 use Rattle.hx_types.specs.declared.messages.Message.TheVariants as a_message
 use Rattle.hx_types.specs.declared.traces.Input.TheVariants as an_input
-use Rattle.hx_types.specs.Words.{IsIn}
 use Rattle.hx_print.specs.Printing.{actor_text, post_name}
 use Rattle.hx_report.specs.Tracing.{field_text, input_text, message_text, post_head, reconfiguration_text}
 use Rattle.hx_law_lemmas.proofs.Lemmas.{all-of, in-append}

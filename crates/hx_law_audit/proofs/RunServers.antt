@@ -1,15 +1,14 @@
 -- The servers of each configuration of a run stand in ascending order.
-use Rattle.std.proofs.Common.{◌≡◌, ℕ, zero, suc, ◌+◌, ◌<◌, ◌≤◌, inl, inr, Bool, true, false, not, ◌&&◌, List, [], ◌∷◌, ◌++◌, map, cond, Option, Some, None, refl, sym, ap, ◌∙◌, subst, arith, eqb, ltb}
-use Rattle.std.specs.List.{filter}
-use Rattle.std.proofs.lemmas.Bool.{cond_both}
-use Rattle.hx_model.specs.Types.{Actor, Answer, Caller, Coordinator, Deliver, Entry, Epoch, Halt, Input, Message, RegionId, Script, Server, ServerId, Session}
-use Rattle.hx_model.specs.Types.{SessionId, Space, Stop, Tick}
+use Rattle.hx_law_lemmas.proofs.Lemmas.Vocabulary.{[], Actor, add_step, adds, administers, again, Answer, ap, arith, below, Bool, by_number, Caller, cond}
+use Rattle.hx_law_lemmas.proofs.Lemmas.Vocabulary.{cond_both, config_ready, config_without, Coordinator, coordinator_after, coordinator_message, coordinator_of}
+use Rattle.hx_law_lemmas.proofs.Lemmas.Vocabulary.{coordinator_step, CoordinatorState, CoordinatorStep, Deliver, Entry, Epoch, eqb, false, filter, first_config}
+use Rattle.hx_law_lemmas.proofs.Lemmas.Vocabulary.{gone_step, Halt, inl, Input, inr, is_lost, IsIn, issue, judged, List, lists_joining, ltb, map, map-append}
+use Rattle.hx_law_lemmas.proofs.Lemmas.Vocabulary.{Message, Newest, newest_of, None, not, Option, outcome, poll_step, post, ready_step, refl, RegionId, resting}
+use Rattle.hx_law_lemmas.proofs.Lemmas.Vocabulary.{same_server, Script, Server, server_in, ServerId, Session, SessionId, Some, Space, Stop, stop_step, stops}
+use Rattle.hx_law_lemmas.proofs.Lemmas.Vocabulary.{stops_answered, stops_left, subst, suc, sym, telling, Tick, to_server, true, with_number, with_task, zero, ℕ}
+use Rattle.hx_law_lemmas.proofs.Lemmas.Vocabulary.{◌&&◌, ◌++◌, ◌+◌, ◌<◌, ◌∙◌, ◌∷◌, ◌≡◌, ◌≤◌}
 use Rattle.hx_types.specs.declared.calls.Answer.TheVariants as an_answer
 use Rattle.hx_types.specs.declared.messages.Message.TheVariants as a_message
-use Rattle.hx_types.specs.Configs.{first_config, is_lost, lists_joining}
-use Rattle.hx_types.specs.Words.{IsIn, below, post, same_server, server_in}
-use Rattle.hx_model.specs.CoordinatorSteps.{CoordinatorState, CoordinatorStep, Newest, add_step, adds, administers, again, by_number, config_ready, config_without, coordinator_message, coordinator_step, gone_step, issue, judged, newest_of, outcome, poll_step, ready_step, resting, stop_step, stops, stops_answered, stops_left, telling, to_server, with_number, with_task}
-use Rattle.hx_model.specs.Runs.{coordinator_after, coordinator_of}
 use Rattle.hx_law_lemmas.proofs.Lemmas.{in-below, in-map}
 
 -- ---- ascending numbers
@@ -57,18 +56,14 @@ fewer test (Some m) (x ∷ xs) h = by (fewer test (Some x.0) xs h.1) (test x)
 
 -- ---- the first configuration
 
-mapped_more : {A B : Type 0} (f : A → B) (xs : List A) (y : A) → map f (xs ++ y ∷ []) ≡ map f xs ++ f y ∷ []
-mapped_more f [] y = refl
-mapped_more f (x ∷ xs) y = ap (λ l. f x ∷ l) (mapped_more f xs y)
-
 abbrev server_at : ℕ → ServerId
 server_at n = record { 0 = n + 1 }
 
 first_rise : (n : ℕ) → ServersRise (map server_at (below n))
 first_rise zero = tt
 first_rise (suc n) =
-    subst (λ l. RisesFrom None (map number_of l)) (sym (mapped_more server_at (below n) n))
-    (subst (RisesFrom None) (sym (mapped_more number_of (map server_at (below n)) (server_at n)))
+    subst (λ l. RisesFrom None (map number_of l)) (sym (map-append server_at (below n) (n ∷ [])))
+    (subst (RisesFrom None) (sym (map-append number_of (map server_at (below n)) (server_at n ∷ [])))
     (rises_more None (map number_of (map server_at (below n))) (n + 1) (first_rise n)
     (λ x i. let m = in-map number_of (map server_at (below n)) x i in let k = in-map server_at (below n) m.0 m.1 in let b = in-below n k.0 k.1 in let e : x ≡ k.0 + 1 = m.2 ∙ ap number_of k.2 in omega (arith, b, e))
     (λ m e. absurd (cc))))

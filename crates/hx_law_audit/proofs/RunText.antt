@@ -1,17 +1,11 @@
 -- The text of a run's report is that of its lines.
-use Rattle.std.proofs.Common.{◌≡◌, ℕ, ◌+◌, inl, inr, Bool, true, false, List, [], ◌∷◌, ◌++◌, map, reverse, Option, Some, None, refl, sym, ap, ◌∙◌}
-use Rattle.std.specs.Prelude.{codes}
 use Rattle.std.specs.Fmt.{digits}
-use Rattle.std.specs.List.{flat_map}
-use Rattle.std.proofs.lemmas.List.{append-nil, append_assoc}
-use Rattle.std.proofs.lemmas.List.Concat.{flat_map-append}
-use Rattle.hx_model.specs.Types.{Answer, Config, Entry, Item, Note, Op, Post, Record, Script, Search, Space, Totals, Version}
+use Rattle.hx_law_lemmas.proofs.Lemmas.Vocabulary.{[], Answer, ap, append-nil, append_assoc, Bool, call_of, codes, Config, Entry, false, first_config, flat_map}
+use Rattle.hx_law_lemmas.proofs.Lemmas.Vocabulary.{flat_map-append, inl, inr, IsIn, Item, List, lost_regions, map, None, Note, Op, Option, Post, Record}
+use Rattle.hx_law_lemmas.proofs.Lemmas.Vocabulary.{records_of, refl, reverse, Script, Search, Some, Space, sym, Totals, TraceFits, true, Version, when_some, ℕ}
+use Rattle.hx_law_lemmas.proofs.Lemmas.Vocabulary.{◌++◌, ◌+◌, ◌∙◌, ◌∷◌, ◌≡◌}
 use Rattle.hx_types.specs.declared.calls.Answer.TheVariants as an_answer
 use Rattle.hx_types.specs.declared.traces.Note.TheVariants as a_note
-use Rattle.hx_types.specs.Configs.{first_config, lost_regions}
-use Rattle.hx_types.specs.Fitting.{TraceFits, call_of}
-use Rattle.hx_types.specs.Words.{IsIn, when_some}
-use Rattle.hx_model.specs.Histories.{records_of}
 use Rattle.hx_history.specs.declared.key_histories.KeyHistory.{KeyHistory}
 use Rattle.hx_print.specs.Printing.{op_text, space_text}
 use Rattle.hx_report.specs.Driving.{driver_line, drivers_text}

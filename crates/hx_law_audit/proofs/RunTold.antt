@@ -1,11 +1,8 @@
 -- The lines of a legal history tell its answers.
-use Rattle.std.proofs.Common.{◌≡◌, inl, inr, List, [], ◌∷◌, Option, Some, None, refl, sym, ◌∙◌, ap}
-use Rattle.std.proofs.lemmas.Bool.{cond_both}
-use Rattle.hx_model.specs.Types.{Answer, Atomic, Cput, Del, Effect, Get, Item, Op, Put, Space, Value}
+use Rattle.hx_law_lemmas.proofs.Lemmas.Vocabulary.{[], Answer, ap, Atomic, changed_to, cond_both, Cput, Del, Effect, effect_of, Get, inl, inr, IsIn, IsLegal}
+use Rattle.hx_law_lemmas.proofs.Lemmas.Vocabulary.{Item, left_as, List, None, object_now, Op, Option, Put, refl, Some, Space, sym, tests_hold, Value, written}
+use Rattle.hx_law_lemmas.proofs.Lemmas.Vocabulary.{◌∙◌, ◌∷◌, ◌≡◌}
 use Rattle.hx_types.specs.declared.calls.Answer.TheVariants as an_answer
-use Rattle.hx_types.specs.Effects.{changed_to, effect_of, left_as, tests_hold, written}
-use Rattle.hx_types.specs.Words.{IsIn}
-use Rattle.hx_model.specs.Legal.{IsLegal, object_now}
 use Rattle.hx_law_lemmas.proofs.Lemmas.{atomic-both}
 use Rattle.hx_report_lines.specs.declared.histories.ItemWord.{ItemWord}
 use Rattle.hx_report_lines.specs.declared.histories.ItemWord.TheVariants as words

@@ -1,13 +1,10 @@
 -- Versions in the histories of a run are at most the number of entries plus 1.
-use Rattle.std.proofs.Common.{◌≡◌, ℕ, ◌+◌, ◌-◌, ◌≤◌, ◌⊎◌, inl, inr, Bool, true, false, not, ◌&&◌, List, [], ◌∷◌, ◌++◌, reverse, length, Option, Some, None, refl, sym, ap, ◌∙◌, subst, arith}
-use Rattle.std.proofs.lemmas.Bool.{cond_both}
-use Rattle.hx_model.specs.Types.{Actor, Answer, Caller, Coordinator, Entry, Item, Note, Op, Script, Server, Session, Update, Value, Version}
+use Rattle.hx_law_lemmas.proofs.Lemmas.Vocabulary.{[], Actor, Answer, ap, arith, Bool, call_of, Caller, cond_both, Coordinator, coordinator_of, Entry, false}
+use Rattle.hx_law_lemmas.proofs.Lemmas.Vocabulary.{get_item, get_items, gets_of, history_of, history_on, in_place, inl, inr, is_get_of, is_refused, IsIn, IsRun}
+use Rattle.hx_law_lemmas.proofs.Lemmas.Vocabulary.{IsScript, Item, length, line_note, line_notes, line_of, List, made_of, None, not, not_refused, Note, Op}
+use Rattle.hx_law_lemmas.proofs.Lemmas.Vocabulary.{Option, Output, provided, refl, reverse, same_text, Script, Server, server_of, Session, session_of, Some}
+use Rattle.hx_law_lemmas.proofs.Lemmas.Vocabulary.{subst, sym, true, Update, upto, Value, Version, write_item, ℕ, ◌&&◌, ◌++◌, ◌+◌, ◌-◌, ◌∙◌, ◌∷◌, ◌≡◌, ◌≤◌, ◌⊎◌}
 use Rattle.hx_types.specs.declared.traces.Note.TheVariants as a_note
-use Rattle.hx_types.specs.Fitting.{IsScript, call_of, is_refused}
-use Rattle.hx_types.specs.Words.{IsIn, provided, same_text}
-use Rattle.hx_model.specs.Histories.{get_item, get_items, gets_of, history_of, history_on, in_place, is_get_of, line_note, line_notes, line_of, not_refused, write_item}
-use Rattle.hx_model.specs.Lines.{upto}
-use Rattle.hx_model.specs.Runs.{IsRun, Output, coordinator_of, made_of, server_of, session_of}
 use Rattle.hx_law_lemmas.proofs.Lemmas.{line-numbered, in-append, in-flat_map, of-reverse, when_some_both, numbered-within as in-below, keeps_lines, EndedAt}
 use Rattle.hx_law_chains.proofs.Lemmas.{coordinator-plain, issued-line, AnySnapshot, AssignsOne, server-plain}
 use Rattle.hx_law_searches.proofs.Lemmas.{turn_is, facts, not_refused-in}

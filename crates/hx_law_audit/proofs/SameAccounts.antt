@@ -1,16 +1,9 @@
 -- Accounts that tell the same of calls and histories: what the definitions say by one they say by the other.
-use Rattle.std.proofs.Common.{◌≡◌, ℕ, false, not, ◌&&◌, List, [], ◌∷◌, cond, ltb, Option, None, Some, refl, sym, ap, ◌∙◌, subst}
-use Rattle.std.specs.Prelude.{IsSome}
-use Rattle.std.specs.List.{list_any}
-use Rattle.std.specs.Option.{option_map}
-use Rattle.hx_model.specs.Types.{Answer, Caller, Item, Op, Row, Space, Version}
-use Rattle.hx_types.specs.Fitting.{is_refused}
-use Rattle.hx_types.specs.Words.{IsIn, when_some}
-use Rattle.hx_model.specs.Histories.{CallEnd}
-use Rattle.hx_model.specs.Legal.{IsLegal}
-use Rattle.hx_model.specs.Linear.{EachOnce, StandsBefore}
-use Rattle.hx_model.specs.Searching.{FinishedSearch, ItemWithNewer, changes_object, items_with_newer}
-use Rattle.hx_audit.specs.Accounts.{Account, IsAnsweredBy, IsCallBy, IsChangeShownBy, IsLinearBy, IsSearchTrueBy, IsSearchWholeBy, IsTrueRowBy, began_before, ended_before, last_change, no_change_before, was_refused}
+use Rattle.hx_law_lemmas.proofs.Lemmas.Vocabulary.{[], Answer, ap, CallEnd, Caller, changes_object, cond, EachOnce, false, FinishedSearch, is_refused, IsIn}
+use Rattle.hx_law_lemmas.proofs.Lemmas.Vocabulary.{IsLegal, IsSome, Item, items_with_newer, ItemWithNewer, List, list_any, ltb, None, not, Op, Option}
+use Rattle.hx_law_lemmas.proofs.Lemmas.Vocabulary.{option_map, refl, Row, Some, Space, StandsBefore, subst, sym, Version, when_some, ℕ, ◌&&◌, ◌∙◌, ◌∷◌, ◌≡◌}
+use Rattle.hx_audit.specs.Accounts.{Account, IsAnsweredBy, IsCallBy, IsChangeShownBy, IsLinearBy, IsSearchTrueBy, IsSearchWholeBy, IsTrueRowBy, began_before}
+use Rattle.hx_audit.specs.Accounts.{ended_before, last_change, no_change_before, was_refused}
 
 -- what an end says but for its version
 pub record Stop : Type 0 where

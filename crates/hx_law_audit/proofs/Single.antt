@@ -1,6 +1,5 @@
 -- A report has one verdict.
-use Rattle.std.proofs.Common.{◌≡◌, ℕ, inl, inr, refl, subst}
-use Rattle.std.proofs.lemmas.Bool.{cases_order}
+use Rattle.hx_law_lemmas.proofs.Lemmas.Vocabulary.{cases_order, inl, inr, refl, subst, ℕ, ◌≡◌}
 use Rattle.hx_report_lines.specs.Values.{ReportValue}
 use Rattle.hx_audit.specs.declared.verdicts.Clause.{Clause}
 use Rattle.hx_audit.specs.declared.verdicts.Verdict.TheVariants as verdicts

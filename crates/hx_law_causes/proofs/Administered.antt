@@ -1,26 +1,20 @@
 -- In every run each outcome of an administrative call has its cause in the trace.
-use Rattle.std.proofs.Common.{◌≡◌, ℕ, ◌+◌, ◌≤◌, inl, inr, Bool, true, false, List, [], ◌∷◌, length, Option, Some, None, refl, sym, ap, ◌∙◌, subst, arith, eqb, ltb}
-use Rattle.std.proofs.lemmas.Bool.{cases_eq, cond-false, cond-true, eq-eqb, false≢true, lt-ltb, ne_eqb}
-use Rattle.hx_model.specs.Types.{Actor, Add, Answer, Caller, Config, Coordinator, Entry, Epoch, Message, Note, Op, Post, Script, Server, Session, SessionId}
-use Rattle.hx_model.specs.Types.{Stop}
+use Rattle.hx_law_lemmas.proofs.Lemmas.Vocabulary.{[], Actor, Add, Answer, any_joining, ap, arith, Bool, call_of, Caller, calls_of, cases_eq, cond-false}
+use Rattle.hx_law_lemmas.proofs.Lemmas.Vocabulary.{cond-true, Config, config_noted, Coordinator, coordinator_after, coordinator_of, coordinator_step}
+use Rattle.hx_law_lemmas.proofs.Lemmas.Vocabulary.{CoordinatorState, CoordinatorStep, Entry, Epoch, eq-eqb, eqb, false, false≢true, first_some, inl, inr}
+use Rattle.hx_law_lemmas.proofs.Lemmas.Vocabulary.{is_fulfilled, is_lost, IsIn, IsRun, IsScript, issued_after, length, List, lists_ready, lt-ltb, ltb, made_of}
+use Rattle.hx_law_lemmas.proofs.Lemmas.Vocabulary.{MayTake, members_of, Message, ne_eqb, None, Note, numbered, Op, Option, Output, Post, post, posts_of, refl}
+use Rattle.hx_law_lemmas.proofs.Lemmas.Vocabulary.{Script, Server, server_of, Session, session_after, session_of, SessionId, SessionState, Some, Stop, subst}
+use Rattle.hx_law_lemmas.proofs.Lemmas.Vocabulary.{sym, true, ℕ, ◌+◌, ◌∙◌, ◌∷◌, ◌≡◌, ◌≤◌}
 use Rattle.hx_types.specs.declared.calls.Answer.TheVariants as an_answer
 use Rattle.hx_types.specs.declared.messages.Message.TheVariants as a_message
 use Rattle.hx_types.specs.declared.traces.Note.TheVariants as a_note
-use Rattle.hx_types.specs.Words.{IsIn, first_some, post}
-use Rattle.hx_types.specs.Configs.{any_joining, is_lost, lists_ready, members_of}
-use Rattle.hx_types.specs.Fitting.{IsScript, call_of, calls_of, numbered}
-use Rattle.hx_model.specs.Causes.{config_noted, is_fulfilled, issued_after}
-use Rattle.hx_model.specs.CoordinatorSteps.{CoordinatorState, CoordinatorStep, coordinator_step}
-use Rattle.hx_model.specs.SessionSteps.{SessionState}
-use Rattle.hx_model.specs.Runs.{IsRun, Output, MayTake, coordinator_after, coordinator_of, made_of, server_of, session_after, session_of}
-use Rattle.hx_law_lemmas.specs.Words.{posts_of}
-use Rattle.hx_law_lemmas.proofs.Lemmas.{in-append, BeganAt, arrived}
+use Rattle.hx_law_lemmas.proofs.Lemmas.{AsksOf as Asks, SessionDoes, Starts, session-does, in-append, BeganAt, arrived}
 use Rattle.hx_law_epochs.proofs.Lemmas.{EpochsRun, IsKnown, Notes, epochs-run, keeps-entry, known-after, known-still}
 use Rattle.hx_law_chains.proofs.Lemmas.{OfCoordinator, coordinator-plain, AnySnapshot, OfServer, server-plain, named}
 use Rattle.hx_law_searches.proofs.Lemmas.{step_is}
 use Rattle.hx_law_causes.proofs.Coordinating.{Answers, AsksFor, ByStep, Given, Spoken, caller_of, coordinated, spoken-map, to-session}
 use Rattle.hx_law_causes.proofs.Outcomes.{Judged, administers_to, not_listed}
-use Rattle.hx_law_causes.proofs.Sessions.{Asks, SessionDoes, Starts, session-does}
 
 -- the call is the script's, and has begun
 abbrev pub Asked : Script → List Entry → Caller → Op → Type 0

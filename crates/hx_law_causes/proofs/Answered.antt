@@ -1,18 +1,12 @@
 -- What a history and a search of a run say of a call that ended in it: the call stands in its key's history with its answer, and its rows are those of the finished search.
-use Rattle.std.proofs.Common.{◌≡◌, ℕ, ◌+◌, inl, inr, false, if◌then◌else◌, eqb, List, [], ◌∷◌, ◌++◌, length, Option, Some, None, refl, sym, ap, ◌∙◌, subst, arith}
-use Rattle.std.proofs.lemmas.Bool.{cond_both, cond-false, cond-true, eq-eqb, false≢true}
-use Rattle.hx_model.specs.Types.{Answer, Caller, Entry, Item, Note, Op, Row, Script, Search, Session, Term, Version}
+use Rattle.hx_law_lemmas.proofs.Lemmas.Vocabulary.{[], Answer, AnsweredCall, ap, arith, begin_of, call_of, CallEnd, Caller, cond-false, cond-true, cond_both}
+use Rattle.hx_law_lemmas.proofs.Lemmas.Vocabulary.{effect_of, end_of, ends_in, Entry, eq-eqb, eqb, false, false≢true, first_some, history_of, if◌then◌else◌}
+use Rattle.hx_law_lemmas.proofs.Lemmas.Vocabulary.{inl, inr, is_doubt, is_refused, is_session, IsEffect, IsFound, IsGiven, IsIn, IsLegal, IsLinear, IsRun}
+use Rattle.hx_law_lemmas.proofs.Lemmas.Vocabulary.{IsScript, Item, key_of, length, List, None, Note, note_of_end, object_now, Op, Option, refl, Row, rows_in}
+use Rattle.hx_law_lemmas.proofs.Lemmas.Vocabulary.{Script, Search, search_of, Session, Some, subst, sym, Term, terms_of, Version, when_some, with_rows, ℕ, ◌++◌}
+use Rattle.hx_law_lemmas.proofs.Lemmas.Vocabulary.{◌+◌, ◌∙◌, ◌∷◌, ◌≡◌}
 use Rattle.hx_types.specs.declared.calls.Answer.TheVariants as an_answer
 use Rattle.hx_types.specs.declared.traces.Note.TheVariants as a_note
-use Rattle.hx_types.specs.Words.{IsIn, first_some, when_some}
-use Rattle.hx_types.specs.Effects.{effect_of, key_of}
-use Rattle.hx_types.specs.Fitting.{IsScript, call_of, is_doubt, is_refused}
-use Rattle.hx_model.specs.Causes.{AnsweredCall, IsFound, IsGiven}
-use Rattle.hx_model.specs.Histories.{CallEnd, begin_of, end_of, ends_in, history_of, is_session, note_of_end}
-use Rattle.hx_model.specs.Legal.{IsEffect, IsLegal, object_now}
-use Rattle.hx_model.specs.Linear.{IsLinear}
-use Rattle.hx_model.specs.Runs.{IsRun}
-use Rattle.hx_model.specs.Searching.{rows_in, search_of, terms_of, with_rows}
 use Rattle.hx_law_lemmas.proofs.Lemmas.{BeganAt, EndedAt, ended_at, begins_now}
 use Rattle.hx_law_searches.proofs.Lemmas.{calls_kept, turn_is, facts, runs_are_linear, runs_search_well, ended_unique}
 

@@ -1,22 +1,12 @@
 -- Every answer of every call of a run has its cause.
-use Rattle.hx_model.specs.Lines.{no_version, upto}
-use Rattle.std.proofs.Common.{◌≡◌, ℕ, ◌-◌, ◌≢◌, ◌⊎◌, inl, Bool, true, false, not, ◌&&◌, List, Some, refl, sym, ap, ◌∙◌, subst}
-use Rattle.std.proofs.lemmas.Bool.{and_parts, cond_both, false≢true}
-use Rattle.hx_model.specs.Types.{Add, Answer, Atomic, Caller, Config, Cput, Del, Entry, Epoch, Get, Op, Put, RegionId, Script, Search, ServerId, Stop, Term}
-use Rattle.hx_model.specs.Types.{Version}
+use Rattle.hx_law_lemmas.proofs.Lemmas.Vocabulary.{Add, and_parts, Answer, AnsweredCall, any_joining, ap, Atomic, Bool, call_of, Caller, cond_both, Config}
+use Rattle.hx_law_lemmas.proofs.Lemmas.Vocabulary.{config_of, Cput, Del, Entry, Epoch, false, false≢true, Get, HasCause, inl, is_fulfilled, is_lost, is_write}
+use Rattle.hx_law_lemmas.proofs.Lemmas.Vocabulary.{IsAddRefused, IsIssued, IsLostIn, IsRefused, IsRefusedFor, IsRun, IsScript, IsStopped, issued_after, key_of}
+use Rattle.hx_law_lemmas.proofs.Lemmas.Vocabulary.{key_region, line_of, List, lists_ready, lost_answer, lowest, members_of, no_version, not-true, Op, plan_of}
+use Rattle.hx_law_lemmas.proofs.Lemmas.Vocabulary.{Put, refl, refused_place, RegionId, Script, Search, server_in, server_named, ServerId, SessionState, Some}
+use Rattle.hx_law_lemmas.proofs.Lemmas.Vocabulary.{Stop, subst, sym, Term, true, upto, Version, was_sent, ℕ, ◌&&◌, ◌-◌, ◌∙◌, ◌≡◌, ◌≢◌, ◌⊎◌}
 use Rattle.hx_types.specs.declared.calls.Answer.TheVariants as an_answer
 use Rattle.hx_types.specs.declared.outcomes.Planned.TheVariants as a_plan
-use Rattle.hx_types.specs.Words.{server_in}
-use Rattle.hx_types.specs.Configs.{any_joining, is_lost, lists_ready, members_of}
-use Rattle.hx_types.specs.Effects.{is_write, key_of}
-use Rattle.hx_types.specs.Fitting.{IsScript, call_of}
-use Rattle.hx_model.specs.Causes.{AnsweredCall, HasCause, IsAddRefused, IsIssued, IsLostIn, IsRefused, IsRefusedFor, IsStopped, config_of, is_fulfilled, issued_after, refused_place, server_named, was_sent}
-use Rattle.hx_model.specs.Histories.{line_of}
-use Rattle.hx_model.specs.Planning.{plan_of}
-use Rattle.hx_model.specs.Regions.{key_region}
-use Rattle.hx_model.specs.Runs.{IsRun}
-use Rattle.hx_model.specs.SessionSteps.{SessionState, lost_answer}
-use Rattle.hx_region.proofs.Lemmas.{lowest}
 use Rattle.hx_law_lemmas.proofs.Lemmas.{BeganAt}
 use Rattle.hx_law_epochs.proofs.Lemmas.{IsKnown}
 use Rattle.hx_law_causes.proofs.Administered.{OutcomeCause, Passes, WasFulfilled}
@@ -33,10 +23,6 @@ module _ (script : Script) (valid : IsScript script) (trace : List Entry) (run :
   -- operations of one call are one
   pub same-op : (c : Caller) (a b : Op) → call_of script c ≡ Some a → call_of script c ≡ Some b → a ≡ b
   same-op c a b p q = let e : Some a ≡ Some b = sym p ∙ q in cc
-
-  not-true : (b : Bool) → not b ≡ true → b ≡ false
-  not-true true e = absurd (false≢true e)
-  not-true false e = refl
 
   -- the server that is named is none of them
   stopped-named : (op : Op) (config : Config) → not_listed op config ≡ true → (s : ServerId) × (server_named op ≡ Some s) × (server_in s config.servers ≡ false)

@@ -1,21 +1,16 @@
 -- Each step of the coordinator: what it answers was answered before, or is judged on its configuration or on the one that it issues.
-use Rattle.std.proofs.Common.{◌≡◌, ℕ, ◌+◌, ◌⊎◌, inl, inr, not, ◌&&◌, List, [], ◌∷◌, ◌++◌, map, Option, Some, None, refl, sym, ap, ◌∙◌, subst, eqb, ltb}
-use Rattle.std.specs.Prelude.{⊤}
-use Rattle.std.specs.List.{filter, flat_map}
-use Rattle.std.proofs.lemmas.Bool.{cond_both, eqb-true}
-use Rattle.hx_model.specs.Types.{Actor, Add, Answer, Caller, Config, Coordinator, Deliver, Halt, Input, Member, Message, Op, Post, RegionId, Server, ServerId}
-use Rattle.hx_model.specs.Types.{Session, SessionId, Stop, Tick}
+use Rattle.hx_law_lemmas.proofs.Lemmas.Vocabulary.{[], Actor, Add, Answer, Answered, any_joining, any_ready, ap, below, Caller, cond_both, Config, config_ready}
+use Rattle.hx_law_lemmas.proofs.Lemmas.Vocabulary.{config_with, config_without, Coordinator, coordinator_step, coordinator_tick, CoordinatorState}
+use Rattle.hx_law_lemmas.proofs.Lemmas.Vocabulary.{CoordinatorStep, Deliver, die_for, filter, flat_map, inl, Input, inr, is_newest_call, IsIn, issue}
+use Rattle.hx_law_lemmas.proofs.Lemmas.Vocabulary.{join_posts, last_ready_pair, List, map, Member, Message, Newest, newest_answered, None, not, Op, Option}
+use Rattle.hx_law_lemmas.proofs.Lemmas.Vocabulary.{outcome, Post, post, refl, resting, Server, ServerId, Session, session_posts, SessionId, Some, Stop}
+use Rattle.hx_law_lemmas.proofs.Lemmas.Vocabulary.{stops_answered, stops_left, stops_server, subst, sym, Task, telling, to_server, with_answer, with_newest}
+use Rattle.hx_law_lemmas.proofs.Lemmas.Vocabulary.{with_number, with_task, ⊤, ◌&&◌, ◌++◌, ◌+◌, ◌∙◌, ◌∷◌, ◌≡◌, ◌⊎◌}
 use Rattle.hx_types.specs.declared.calls.Answer.TheVariants as an_answer
 use Rattle.hx_types.specs.declared.messages.Message.TheVariants as a_message
 use Rattle.hx_types.specs.declared.traces.Note.TheVariants as a_note
-use Rattle.hx_types.specs.Words.{IsIn, below, post, server_in}
-use Rattle.hx_types.specs.Configs.{any_joining, any_ready, is_lost, lists_joining}
-use Rattle.hx_model.specs.CoordinatorSteps.{Answered, CoordinatorState, CoordinatorStep, Newest, Task, add_step, adds, again, by_number}
-use Rattle.hx_model.specs.CoordinatorSteps.{config_ready, config_with, config_without, coordinator_message, coordinator_step, coordinator_tick}
-use Rattle.hx_model.specs.CoordinatorSteps.{die_for, gone_step, is_newest_call, issue, join_posts, judged, last_ready_pair, newest_answered}
-use Rattle.hx_model.specs.CoordinatorSteps.{newest_of, outcome, ready_step, resting, session_posts, stop_step, stops, stops_answered}
-use Rattle.hx_model.specs.CoordinatorSteps.{stops_left, stops_server, telling, to_server, with_answer, with_newest, with_number, with_task}
-use Rattle.hx_law_lemmas.proofs.Lemmas.{in-with_newest, newest-in, in-append, in-filter, in-flat_map, in-map, in-provided}
+use Rattle.hx_law_lemmas.proofs.Lemmas.{call_by, coordinator-cases, each-append, each-flat, each-map, each-one, each-provided, in-with_newest, in-filter}
+use Rattle.hx_law_lemmas.proofs.Lemmas.{in-flat_map, in-map}
 use Rattle.hx_law_causes.proofs.Outcomes.{Judged, add-judged, judged-is, stop-judged}
 
 -- what is said of the session that is answered
@@ -96,7 +91,7 @@ module _ (Asked : Caller → Op → Type 0) (Old : Caller → Answer → Type 0)
 
   -- one post
   one : (G : Caller → Answer → Type 0) (p : Post) → Spoken G p.to p.message → (q : Post) → IsIn q (p ∷ []) → Spoken G q.to q.message
-  one G p h q i = elim i [ inl e ↦ subst (λ (x : Post). Spoken G x.to x.message) (sym e) h | inr j ↦ absurd j ]
+  one G = each-one (λ (p : Post). Spoken G p.to p.message)
 
   -- ---- an issue
 
@@ -128,18 +123,17 @@ module _ (Asked : Caller → Op → Type 0) (Old : Caller → Answer → Type 0)
     todo = todo;
     newest = answered-newest (Given (ByStep d (issue d' c answered left))) answered (λ a i. told a (well a i)) d'.newest
         (λ x i a q. up (caller_of x) a (newest x i a q));
-    posts = λ p i. elim (in-append (map (to_server (a_message.Install c)) c.servers ++ session_posts d'.sessions (a_message.Install c))
-        (map (λ (a : Answered). outcome a.caller a.answer) answered) p i) [
-          | inl j ↦ elim (in-append (map (to_server (a_message.Install c)) c.servers) (session_posts d'.sessions (a_message.Install c)) p j) [
-            | inl x ↦ to-each (Given (ByStep d (issue d' c answered left))) (a_message.Install c) c.servers p x
-            | inr x ↦ (let r = in-map (λ n. post Coordinator (Session (record { 0 = n + 1 })) (a_message.Install c)) (below d'.sessions) p x in
-                subst (λ (q : Post). Spoken (Given (ByStep d (issue d' c answered left))) q.to q.message) (sym r.2) tt)
-          ]
-          | inr j ↦ (let r = in-map (λ (a : Answered). outcome a.caller a.answer) answered p j in
-              subst (λ (q : Post). Spoken (Given (ByStep d (issue d' c answered left))) q.to q.message) (sym r.2) (told r.0 (well r.0 r.1)))
-        ];
+    posts = each-append Told (map (to_server (a_message.Install c)) c.servers ++ session_posts d'.sessions (a_message.Install c)) (map (λ (a : Answered). outcome a.caller a.answer) answered)
+        (
+        each-append Told (map (to_server (a_message.Install c)) c.servers) (session_posts d'.sessions (a_message.Install c)) (to-each (Given (ByStep d (issue d' c answered left))) (a_message.Install c) c.servers)
+        (each-map Told (λ n. post Coordinator (Session (record { 0 = n + 1 })) (a_message.Install c)) (below d'.sessions) (λ n i. tt))
+        )
+        (each-map Told (λ (a : Answered). outcome a.caller a.answer) answered (λ a i. told a (well a i)));
   }
     where
+      Told : Post → Type 0
+      Told p = Spoken (Given (ByStep d (issue d' c answered left))) p.to p.message
+
       up : (u : Caller) (a : Answer) → Now d u a → Given (ByStep d (issue d' c answered left)) u a
       up u a (inl h) = inl h
       up u a (inr (op, asked, j)) = inr (op, asked, inl j)
@@ -164,34 +158,10 @@ module _ (Asked : Caller → Op → Type 0) (Old : Caller → Answer → Type 0)
   -- ---- messages
 
   -- the Stops of the server that is gone are answered
-  hears-gone : (d : CoordinatorState) (from : Actor) → Answers d → Coordinated d (gone_step d from)
-  hears-gone d Coordinator h = rests d h
-  hears-gone d (Session u) h = rests d h
-  hears-gone d (Server s) h =
-      cond_both (server_in s d.config.servers)
-      (issue d (config_without d.config s) (stops_answered (config_without d.config s) s d.todo) (stops_left s d.todo)) (resting d) (Coordinated d)
-      (λ t. issues d d (config_without d.config s) (stops_answered (config_without d.config s) s d.todo) (stops_left s d.todo)
-      (λ x i. h.todo x (in-filter (λ (y : Task). not (stops_server s y)) d.todo x i).0)
-      (before-now d h)
-      (λ a i. stopped a (in-map done (filter (stops_server s) d.todo) a i)))
-      (λ t. rests d h)
-    where
-      done : Task → Answered
-      done x = record { caller = x.caller; answer = an_answer.Issued (config_without d.config s).epoch }
-
-      stopped : (a : Answered) → (x : Task) × IsIn x (filter (stops_server s) d.todo) × (a ≡ done x) → JudgedOn (config_without d.config s) a
-      stopped a (x, i, e) =
-          let r = in-filter (stops_server s) d.todo x i in
-          subst (JudgedOn (config_without d.config s)) (sym e) (x.op, h.todo x r.0, stop-judged ⊤ tt d.config s x.op r.1)
-
-  -- nobody is answered where a joiner is ready
-  hears-ready : (d : CoordinatorState) (g : RegionId) (from : Actor) → Answers d → Coordinated d (ready_step d g from)
-  hears-ready d g Coordinator h = rests d h
-  hears-ready d g (Session u) h = rests d h
-  hears-ready d g (Server s) h =
-      cond_both (not (is_lost d.config g) && lists_joining d.config g s) (issue d (config_ready d.config s g) [] d.todo) (resting d) (Coordinated d)
-      (λ t. issues d d (config_ready d.config s g) [] d.todo h.todo (before-now d h) (λ a i. absurd i))
-      (λ t. rests d h)
+  stopped : (d : CoordinatorState) (s : ServerId) → Answers d → (a : Answered) → IsIn a (stops_answered (config_without d.config s) s d.todo) → JudgedOn (config_without d.config s) a
+  stopped d s h =
+      each-map (JudgedOn (config_without d.config s)) (λ (x : Task). record { caller = x.caller; answer = an_answer.Issued (config_without d.config s).epoch }) (filter (stops_server s) d.todo)
+      (λ x i. let r = in-filter (stops_server s) d.todo x i in (x.op, h.todo x r.0, stop-judged ⊤ tt d.config s x.op r.1))
 
   -- ---- calls
 
@@ -206,11 +176,7 @@ module _ (Asked : Caller → Op → Type 0) (Old : Caller → Answer → Type 0)
   more-todo : (d : CoordinatorState) → Answers d → (caller : Caller) (op : Op) → Asked caller op → Parts d (with_task d caller op)
   more-todo d h caller op asked = record {
     config = refl;
-    todo = λ t i. elim (in-append d.todo (record { caller = caller; op = op } ∷ []) t i) [
-      | inl j ↦ h.todo t j
-      | inr (inl e) ↦ subst (λ (y : Task). Asked y.caller y.op) (sym e) asked
-      | inr (inr j) ↦ absurd j
-    ];
+    todo = each-append (λ (t : Task). Asked t.caller t.op) d.todo _ h.todo (each-one (λ (t : Task). Asked t.caller t.op) (record { caller = caller; op = op }) asked);
     newest = numbers d h caller None (λ a q. absurd (cc));
   }
 
@@ -220,51 +186,6 @@ module _ (Asked : Caller → Op → Type 0) (Old : Caller → Answer → Type 0)
       tells d (with_number d caller (Some answer)) refl h.todo
       (numbers d h caller (Some answer) (λ a q. (let z : answer ≡ a = cc in subst (Now d caller) z (inr (op, asked, j)))))
       (outcome caller answer ∷ []) (one (Now d) (outcome caller answer) (inr (op, asked, j)))
-
-  -- an old call is dropped, the newest is answered again
-  by-number : (d : CoordinatorState) → Answers d → (caller : Caller) (new : CoordinatorStep) → Coordinated d new → Coordinated d (by_number d caller (newest_of caller.session d.newest) new)
-  by-number d h caller new good = by (newest_of caller.session d.newest) refl
-    where
-      told : (n : Newest) → IsIn n d.newest → caller_of n ≡ caller → (o : Option Answer) → n.answer ≡ o → Coordinated d (again d caller o)
-      told n i c None e = rests d h
-      told n i c (Some a) e = keeps d h (outcome caller a ∷ []) (one (Now d) (outcome caller a) (inl (subst (λ (y : Caller). Old y a) c (h.newest n i a e))))
-
-      by : (o : Option Newest) → newest_of caller.session d.newest ≡ o → Coordinated d (by_number d caller o new)
-      by None e = good
-      by (Some n) e =
-          let r = newest-in caller.session d.newest n e in
-          cond_both (ltb caller.number n.number) (resting d) _ (Coordinated d) (λ t. rests d h)
-          (λ t. cond_both (eqb caller.number n.number) (again d caller n.answer) new (Coordinated d)
-          (λ q. told n r.0 (let z = eqb-true caller.number n.number q in λ j. record { session = r.1 j; number = sym z j }) n.answer refl)
-          (λ q. good))
-
-  hears-stop : (d : CoordinatorState) (number : ℕ) (s : ServerId) (u : SessionId) → Answers d → Asked (record { session = u; number = number }) (Stop s) → Coordinated d (stop_step d number s u)
-  hears-stop d number s u h asked =
-      let caller : Caller = record { session = u; number = number } in
-      by-number d h caller (stops d caller s)
-      (
-      cond_both (server_in s d.config.servers) _ _ (Coordinated d)
-      (λ t. (let p = more-todo d h caller (Stop s) asked in
-      tells d (with_task d caller (Stop s)) refl p.todo p.newest (to_server a_message.Die s ∷ []) (to-each (Now d) a_message.Die (s ∷ []))))
-      (λ t. answers-now d h caller (Stop s) (an_answer.Stopped d.config.epoch) asked (refl, ap not t))
-      )
-
-  hears-add : (d : CoordinatorState) (number : ℕ) (s : ServerId) (g : RegionId) (u : SessionId) → Answers d → Asked (record { session = u; number = number }) (Add s g) → Coordinated d (add_step d number s g u)
-  hears-add d number s g u h asked =
-      let caller : Caller = record { session = u; number = number } in
-      by-number d h caller (adds d caller s g (judged d.config s g)) (by (judged d.config s g) refl)
-    where
-      by : (o : Option Answer) → judged d.config s g ≡ o → Coordinated d (adds d (record { session = u; number = number }) s g o)
-      by (Some answer) e = answers-now d h (record { session = u; number = number }) (Add s g) answer asked (judged-is ⊥ d.config s g answer e)
-      by None e =
-          let caller : Caller = record { session = u; number = number } in
-          let c = config_with d.config s g in
-          issues d (with_number d caller None) c (record { caller = caller; answer = an_answer.Issued c.epoch } ∷ []) d.todo h.todo
-          (numbers d h caller None (λ a q. absurd (cc)))
-          (λ a i. elim i [
-            | inl q ↦ subst (JudgedOn (config_with d.config s g)) (sym q) (Add s g, asked, add-judged ⊤ tt d.config s g e)
-            | inr j ↦ absurd j
-          ])
 
   -- what is posted to stop servers
   dies : (G : Caller → Answer → Type 0) (ts : List Task) (p : Post) → IsIn p (flat_map (λ (t : Task). die_for t.op) ts) → Spoken G p.to p.message
@@ -276,17 +197,13 @@ module _ (Asked : Caller → Op → Type 0) (Old : Caller → Answer → Type 0)
 
   -- what is posted for joiners
   joins : (G : Caller → Answer → Type 0) (c : Config) (lists : List (List Member)) (p : Post) → IsIn p (flat_map (join_posts c) lists) → Spoken G p.to p.message
-  joins G c lists p i =
-      let r = in-flat_map (join_posts c) lists p i in
-      to-each G (a_message.Install c) (last_ready_pair r.0) p
-      (in-provided (any_ready r.0 && any_joining r.0) (map (to_server (a_message.Install c)) (last_ready_pair r.0)) p r.2).1
+  joins G c lists =
+      each-flat (λ (p : Post). Spoken G p.to p.message) (join_posts c) lists
+      (λ ms i. each-provided (λ (p : Post). Spoken G p.to p.message) (any_ready ms && any_joining ms) _ (to-each G (a_message.Install c) (last_ready_pair ms)))
 
   ticks : (d : CoordinatorState) → Answers d → Coordinated d (coordinator_tick d)
   ticks d h = keeps d h (flat_map (λ (t : Task). die_for t.op) d.todo ++ flat_map (join_posts d.config) d.config.regions)
-      (λ p i. elim (in-append (flat_map (λ (t : Task). die_for t.op) d.todo) (flat_map (join_posts d.config) d.config.regions) p i) [
-        | inl j ↦ dies (Now d) d.todo p j
-        | inr j ↦ joins (Now d) d.config d.config.regions p j
-      ])
+      (each-append (λ (p : Post). Spoken (Now d) p.to p.message) (flat_map (λ (t : Task). die_for t.op) d.todo) _ (dies (Now d) d.todo) (joins (Now d) d.config d.config.regions))
 
   -- what a message asks of the coordinator
   abbrev pub AsksFor : Actor → Message → Type 0
@@ -294,23 +211,22 @@ module _ (Asked : Caller → Op → Type 0) (Old : Caller → Answer → Type 0)
   AsksFor from (a_message.AddReplica number server g) = ToSession from (λ u. Asked (record { session = u; number = number }) (Add server g))
   AsksFor from other = ⊤
 
-  hears : (d : CoordinatorState) (from : Actor) (m : Message) → Answers d → AsksFor from m → Coordinated d (coordinator_message d from m)
-  hears d from a_message.Gone h v = hears-gone d from h
-  hears d Coordinator (a_message.StopServer number server) h v = rests d h
-  hears d (Server s) (a_message.StopServer number server) h v = rests d h
-  hears d (Session u) (a_message.StopServer number server) h v = hears-stop d number server u h v
-  hears d Coordinator (a_message.AddReplica number server g) h v = rests d h
-  hears d (Server s) (a_message.AddReplica number server g) h v = rests d h
-  hears d (Session u) (a_message.AddReplica number server g) h v = hears-add d number server g u h v
-  hears d from (a_message.Ready epoch g) h v = hears-ready d g from h
-  hears d from (a_message.Poll epoch) h v =
-      cond_both (ltb epoch.0 d.config.epoch.0) (telling d (post Coordinator from (a_message.Install d.config) ∷ [])) (resting d) (Coordinated d)
-      (λ t. keeps d h (post Coordinator from (a_message.Install d.config) ∷ []) (one (Now d) (post Coordinator from (a_message.Install d.config)) tt))
-      (λ t. rests d h)
-  hears d from other h v = rests d h
-
   -- each step
   pub coordinated : (d : CoordinatorState) (input : Input) → Answers d → ((id : _) (from : Actor) (m : Message) → input ≡ Deliver id from m → AsksFor from m) → Coordinated d (coordinator_step d input)
-  coordinated d Tick h v = ticks d h
-  coordinated d Halt h v = rests d h
-  coordinated d (Deliver id from m) h v = hears d from m h (v id from m refl)
+  coordinated d input h v = coordinator-cases d input (Coordinated d) (record {
+    rests = rests d h;
+    ticks = ticks d h;
+    polled = λ id from epoch i. keeps d h _ (one (Now d) (post Coordinator from (a_message.Install d.config)) tt);
+    gone = λ id s i. issues d d (config_without d.config s) (stops_answered (config_without d.config s) s d.todo) (stops_left s d.todo)
+        (λ x j. h.todo x (in-filter (λ (y : Task). not (stops_server s y)) d.todo x j).0) (before-now d h) (stopped d s h);
+    ready = λ id s epoch g i l. issues d d (config_ready d.config s g) [] d.todo h.todo (before-now d h) (λ a j. absurd j);
+    told = λ id u number m n a i j k l e. keeps d h _ (one (Now d) (outcome (call_by u number) a) (inl (subst (λ (y : Caller). Old y a) (λ x. record { session = k x; number = l x }) (h.newest n j a e))));
+    dies = λ id u number s i. (let p = more-todo d h (call_by u number) (Stop s) (v id (Session u) (a_message.StopServer number s) i) in
+        tells d (with_task d (call_by u number) (Stop s)) refl p.todo p.newest (to_server a_message.Die s ∷ []) (to-each (Now d) a_message.Die (s ∷ [])));
+    stopped = λ id u number s i t. answers-now d h (call_by u number) (Stop s) (an_answer.Stopped d.config.epoch) (v id (Session u) (a_message.StopServer number s) i) (refl, ap not t);
+    refused = λ id u number s g a i e. answers-now d h (call_by u number) (Add s g) a (v id (Session u) (a_message.AddReplica number s g) i) (judged-is ⊥ d.config s g a e);
+    joined = λ id u number s g i e. issues d (with_number d (call_by u number) None) (config_with d.config s g)
+        (record { caller = call_by u number; answer = an_answer.Issued (config_with d.config s g).epoch } ∷ []) d.todo h.todo (numbers d h (call_by u number) None (λ a q. absurd (cc)))
+        (each-one (JudgedOn (config_with d.config s g)) (record { caller = call_by u number; answer = an_answer.Issued (config_with d.config s g).epoch })
+        (Add s g, v id (Session u) (a_message.AddReplica number s g) i, add-judged ⊤ tt d.config s g e));
+  })

@@ -1,21 +1,12 @@
 -- A run in which leaders halt, a new one tells a doubt and refuses a write, and a joiner is made ready: so the premises of the laws can be met.
-use Rattle.std.proofs.Common.{◌≡◌, ◌≢◌, true, List, [], ◌∷◌, map, pos, Some, None, refl, arith}
-use Rattle.std.specs.Option.{option_map}
-use Rattle.hx_model.specs.Types.{Add, Assign, Config, Entry, Op, Put, Record, Script, Server, Session, Space}
+use Rattle.hx_law_lemmas.proofs.Lemmas.Vocabulary.{[], Add, All, All-from_recursion, arith, Assign, AssignFits, AssignsFit, Config, config_of, Entry, Fits}
+use Rattle.hx_law_lemmas.proofs.Lemmas.Vocabulary.{HasCauses, head_of, IsRun, IsScript, key_region, List, lists_joining, lists_ready, map, next_entry, None, Op}
+use Rattle.hx_law_lemmas.proofs.Lemmas.Vocabulary.{option_map, pos, Put, Record, records_of, refl, scheduled, Script, Server, Session, Some, Space, stepped}
+use Rattle.hx_law_lemmas.proofs.Lemmas.Vocabulary.{true, ◌∷◌, ◌≡◌, ◌≢◌}
 use Rattle.hx_types.specs.declared.calls.Answer.TheVariants as an_answer
 use Rattle.hx_types.specs.declared.spaces.Kind.TheVariants as a_kind
 use Rattle.hx_types.specs.declared.traces.Step.TheVariants as a_step
 use Rattle.hx_types.specs.declared.values.Value.TheVariants as a_value
-use Rattle.hx_types.specs.Configs.{head_of, lists_joining, lists_ready}
-use Rattle.hx_types.specs.Fitting.{IsScript}
-use Rattle.hx_types.specs.Spaces.{AssignFits, AssignsFit, Fits}
-use Rattle.hx_model.specs.Causes.{HasCauses, config_of}
-use Rattle.hx_model.specs.Histories.{records_of}
-use Rattle.hx_model.specs.Regions.{key_region}
-use Rattle.hx_model.specs.Schedule.{next_entry, scheduled, stepped}
-use Rattle.hx_model.specs.Runs.{IsRun}
-use Rattle.std.specs.List.{All}
-use Rattle.std.proofs.lemmas.List.Elements.{All-from_recursion}
 use Rattle.hx_law_lemmas.proofs.Lemmas.{small_books_are}
 use Rattle.hx_law_causes.proofs.Headline.{runs_have_causes}
 use Rattle.hx_law_causes.proofs.Replaying.{scheduled-run}

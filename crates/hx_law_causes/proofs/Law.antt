@@ -1,34 +1,22 @@
 -- The law on causes: each end of a call in a run has its cause.
-use Rattle.hx_model.specs.Lines.{upto}
-use Rattle.std.proofs.Common.{◌≡◌, ℕ, ◌+◌, ◌-◌, ◌≢◌, ◌⊎◌, inl, inr, true, false, List, ◌∷◌, ◌++◌, length, Option, Some, None, refl, sym, ap, ◌∙◌, subst, arith}
-use Rattle.std.specs.Prelude.{⊤}
-use Rattle.std.proofs.lemmas.Bool.{cases_Bool, cond_both, false≢true}
-use Rattle.hx_model.specs.Types.{Actor, Answer, Atomic, Caller, Config, Cput, Del, Effect, Entry, Epoch, Get, Note, Op, Put, RegionId, Script, Search, Session}
-use Rattle.hx_model.specs.Types.{Space, Update, Value, Version}
+use Rattle.hx_law_lemmas.proofs.Lemmas.Vocabulary.{Actor, Answer, AnsweredCall, ap, arith, Atomic, begin_of, call_of, Caller, cases_Bool, cond_both, Config}
+use Rattle.hx_law_lemmas.proofs.Lemmas.Vocabulary.{config_of, Cput, Del, Effect, effect_of, Entry, Epoch, false, false≢true, Get, get_answer, HasCause}
+use Rattle.hx_law_lemmas.proofs.Lemmas.Vocabulary.{HasCauses, inl, inr, is_doubt, is_key_call, is_lost, is_refused, is_write, IsDoubtTold, IsGiven, IsIn}
+use Rattle.hx_law_lemmas.proofs.Lemmas.Vocabulary.{IsRefusedFor, IsRun, IsScript, key_of, length, line_of, List, MayTake, None, Note, numbered, object_now, Op}
+use Rattle.hx_law_lemmas.proofs.Lemmas.Vocabulary.{Option, post, posts_of, Put, refl, refused_place, RegionId, Script, Search, Session, session_of}
+use Rattle.hx_law_lemmas.proofs.Lemmas.Vocabulary.{SessionState, Some, Space, subst, sym, Tells, tests_hold, true, Update, upto, Value, Version, was_sent, ℕ, ⊤}
+use Rattle.hx_law_lemmas.proofs.Lemmas.Vocabulary.{◌++◌, ◌+◌, ◌-◌, ◌∙◌, ◌∷◌, ◌≡◌, ◌≢◌, ◌⊎◌}
 use Rattle.hx_types.specs.declared.calls.Answer.TheVariants as an_answer
 use Rattle.hx_types.specs.declared.messages.Message.TheVariants as a_message
 use Rattle.hx_types.specs.declared.traces.Note.TheVariants as a_note
-use Rattle.hx_types.specs.Words.{IsIn, post}
-use Rattle.hx_types.specs.Configs.{is_lost}
-use Rattle.hx_types.specs.Effects.{effect_of, is_write, key_of, tests_hold}
-use Rattle.hx_types.specs.Fitting.{IsScript, call_of, is_doubt, is_refused, numbered}
-use Rattle.hx_model.specs.Causes.{AnsweredCall, HasCause, HasCauses, IsDoubtTold, IsGiven, IsRefusedFor, config_of, refused_place, was_sent}
-use Rattle.hx_model.specs.Histories.{begin_of, line_of}
-use Rattle.hx_model.specs.Legal.{object_now}
-use Rattle.hx_model.specs.Runs.{IsRun, MayTake, session_of}
-use Rattle.hx_model.specs.ServerSteps.{get_answer}
-use Rattle.hx_model.specs.SessionSteps.{SessionState, is_key_call}
-use Rattle.hx_law_lemmas.specs.Words.{posts_of}
-use Rattle.hx_law_lemmas.proofs.Lemmas.{atomic-both, started, BeganAt, EndedAt, arrived, began_at, ends_now, may_start}
+use Rattle.hx_law_lemmas.proofs.Lemmas.{Called, EndsBy, Goes, SessionDoes, Starts, session-does, atomic-both, started, BeganAt, EndedAt, arrived, began_at, ends_now, may_start}
 use Rattle.hx_law_chains.proofs.Lemmas.{named}
 use Rattle.hx_law_epochs.proofs.Lemmas.{IsKnown}
-use Rattle.hx_law_lemmas.specs.Facts.{Tells}
 use Rattle.hx_law_searches.proofs.Lemmas.{calls_kept, step_is, turn_is, facts}
 use Rattle.hx_law_causes.proofs.Administered.{OutcomeCause, administers-run}
 use Rattle.hx_law_causes.proofs.Answered.{began-once, began-part, ended-part, given-there, rows-found, run-part, the_call}
 use Rattle.hx_law_causes.proofs.Causes.{key-lost, outcome-has, plan-lost, same-op}
 use Rattle.hx_law_causes.proofs.Refusals.{counted-sent, sender-known, sent-posted}
-use Rattle.hx_law_causes.proofs.Sessions.{Called, EndsBy, Goes, SessionDoes, Starts, session-does}
 
 -- what the law needs of replies that tell of lost regions: a doubt was told by its leader
 abbrev pub DoubtsAreTold : Script → Type 0

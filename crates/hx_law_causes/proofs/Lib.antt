@@ -1,4 +1,3 @@
-pub mod Sessions
 pub mod Outcomes
 pub mod Coordinating
 pub mod Administered

@@ -1,21 +1,10 @@
 -- In every run the region for which a call is refused or in doubt is one of the space: the key's, that of a place of the write, one that the search's plan names, or one that a sound reply carries.
-use Rattle.std.proofs.Common.{◌≡◌, ℕ, ◌+◌, ◌-◌, inl, inr, List, [], ◌∷◌, ◌++◌, length, map, Bool, Option, Some, sym, subst, arith}
-use Rattle.std.specs.Prelude.{⊤}
-use Rattle.hx_model.specs.Types.{Atomic, Caller, Config, Cput, Del, Entry, Epoch, Get, Op, Place, Post, Put, RegionId, Script, Search, Space, Touch, Update}
-use Rattle.hx_model.specs.Types.{Value, Version}
-use Rattle.hx_types.specs.Words.{IsIn, below}
-use Rattle.hx_types.specs.Effects.{effect_of}
-use Rattle.hx_types.specs.Fitting.{IsScript}
-use Rattle.hx_types.specs.Posts.{IsSoundPost}
-use Rattle.hx_types.specs.Spaces.{IsRegionOf, IsSpace}
-use Rattle.hx_model.specs.Causes.{AnsweredCall, IsDoubted, IsRefusedFor, IsRefusedWrite, refused_place}
-use Rattle.hx_model.specs.Histories.{line_of}
-use Rattle.hx_model.specs.Lines.{line_object, upto}
-use Rattle.hx_model.specs.Places.{declared_subspaces, placed_after, places_of, regions_between}
-use Rattle.hx_model.specs.Regions.{key_region}
-use Rattle.hx_model.specs.Runs.{IsRun}
-use Rattle.hx_model.specs.Slots.{top_above, touches_after}
-use Rattle.hx_region.proofs.Lemmas.{lowest, within}
+use Rattle.hx_law_lemmas.proofs.Lemmas.Vocabulary.{[], AnsweredCall, arith, Atomic, below, Bool, Caller, Config, Cput, declared_subspaces, Del, effect_of}
+use Rattle.hx_law_lemmas.proofs.Lemmas.Vocabulary.{Entry, Epoch, Get, inl, inr, IsDoubted, IsIn, IsRefusedFor, IsRefusedWrite, IsRegionOf, IsRun, IsScript}
+use Rattle.hx_law_lemmas.proofs.Lemmas.Vocabulary.{IsSoundPost, IsSpace, key_region, length, line_object, line_of, List, lowest, map, Op, Option, Place}
+use Rattle.hx_law_lemmas.proofs.Lemmas.Vocabulary.{placed_after, places_of, Post, Put, refused_place, RegionId, regions_between, Script, Search, Some, Space}
+use Rattle.hx_law_lemmas.proofs.Lemmas.Vocabulary.{subst, sym, top_above, Touch, touches_after, Update, upto, Value, Version, within, ℕ, ⊤, ◌++◌, ◌+◌, ◌-◌, ◌∷◌}
+use Rattle.hx_law_lemmas.proofs.Lemmas.Vocabulary.{◌≡◌}
 use Rattle.hx_law_posts.proofs.Lemmas.{kept-run}
 use Rattle.hx_law_lemmas.proofs.Lemmas.{in-below, in-flat_map, in-map, in-provided, between-places, place-region}
 use Rattle.hx_law_chains.proofs.Lemmas.{lost-place}

@@ -1,13 +1,9 @@
 -- Each answer of the coordinator to Stop and Add is judged on a configuration: on its own, or on the one that it issues.
-use Rattle.std.proofs.Common.{◌≡◌, inl, Bool, true, false, not, ◌&&◌, ◌||◌, List, [], ◌∷◌, ◌++◌, Some, None, refl, sym, ap, ◌∙◌, subst, cond}
-use Rattle.std.specs.List.{list_any}
-use Rattle.std.proofs.lemmas.Bool.{and_from, cond_both, eq-eqb, eqb-true, false≢true, ne_eqb}
-use Rattle.hx_model.specs.Types.{Add, Answer, Config, Member, Op, RegionId, ServerId, Stop}
+use Rattle.hx_law_lemmas.proofs.Lemmas.Vocabulary.{[], Add, and_from, Answer, any_joining, ap, Bool, cond, cond_both, Config, config_with, config_without}
+use Rattle.hx_law_lemmas.proofs.Lemmas.Vocabulary.{eq-eqb, eqb-true, false, false≢true, inl, is_fulfilled, is_lost, is_stop_of, judged, List, list_any}
+use Rattle.hx_law_lemmas.proofs.Lemmas.Vocabulary.{lists_ready, Member, members_of, ne_eqb, None, not, Op, refl, RegionId, same_server, server_in, ServerId}
+use Rattle.hx_law_lemmas.proofs.Lemmas.Vocabulary.{Some, Stop, subst, sym, true, without_server, ◌&&◌, ◌++◌, ◌||◌, ◌∙◌, ◌∷◌, ◌≡◌}
 use Rattle.hx_types.specs.declared.calls.Answer.TheVariants as an_answer
-use Rattle.hx_types.specs.Words.{same_server, server_in, without_server}
-use Rattle.hx_types.specs.Configs.{any_joining, is_lost, lists_ready, members_of}
-use Rattle.hx_model.specs.Causes.{is_fulfilled}
-use Rattle.hx_model.specs.CoordinatorSteps.{config_with, config_without, is_stop_of, judged}
 use Rattle.hx_law_lemmas.proofs.Lemmas.{in_right}
 use Rattle.hx_law_epochs.proofs.Lemmas.{any-of, appended-here, joiner, judged-may}
 

@@ -1,16 +1,11 @@
 -- Where no configuration of a run has lost a region of the space, no call is refused or in doubt.
-use Rattle.std.proofs.Common.{◌≡◌, ℕ, ◌+◌, inl, inr, false, List, [], ◌∷◌, ◌++◌, length, IsSome, Option, Some, None, refl, sym, ap, ◌∙◌, subst}
-use Rattle.std.proofs.lemmas.Bool.{false≢true}
-use Rattle.hx_model.specs.Types.{Answer, Caller, Config, Entry, Epoch, Note, Op, RegionId, Script, Search, Session, Version}
+use Rattle.hx_law_lemmas.proofs.Lemmas.Vocabulary.{[], Answer, AnsweredCall, ap, begin_of, call_of, Caller, Config, config_of, Entry, Epoch, false, false≢true}
+use Rattle.hx_law_lemmas.proofs.Lemmas.Vocabulary.{HasCause, HasCauses, inl, inr, is_doubt, is_refused, IsIn, IsLostIn, IsRegionOf, IsRun, IsScript, IsSome}
+use Rattle.hx_law_lemmas.proofs.Lemmas.Vocabulary.{length, List, None, Note, numbered, Op, Option, refl, RegionId, Script, Search, Session, session_of, Some}
+use Rattle.hx_law_lemmas.proofs.Lemmas.Vocabulary.{subst, sym, Version, ℕ, ◌++◌, ◌+◌, ◌∙◌, ◌∷◌, ◌≡◌}
 use Rattle.hx_types.specs.declared.calls.Answer.TheVariants as an_answer
 use Rattle.hx_types.specs.declared.traces.Note.TheVariants as a_note
-use Rattle.hx_types.specs.Spaces.{IsRegionOf}
-use Rattle.hx_types.specs.Words.{IsIn}
-use Rattle.hx_types.specs.Fitting.{IsScript, call_of, is_doubt, is_refused, numbered}
-use Rattle.hx_model.specs.Causes.{AnsweredCall, HasCause, HasCauses, IsLostIn, config_of}
-use Rattle.hx_model.specs.Histories.{begin_of}
-use Rattle.hx_model.specs.Runs.{IsRun, session_of}
-use Rattle.hx_law_lemmas.proofs.Lemmas.{BeganAt, begin_is, ends_now, may_start}
+use Rattle.hx_law_lemmas.proofs.Lemmas.{EndsBy, SessionDoes, Starts, session-does, BeganAt, begin_is, ends_now, may_start}
 use Rattle.hx_law_chains.proofs.Lemmas.{named}
 use Rattle.hx_law_epochs.proofs.Lemmas.{IsKnown, epochs-run, known-still}
 use Rattle.hx_law_searches.proofs.Lemmas.{step_is, turn_is}
@@ -18,7 +13,6 @@ use Rattle.hx_law_causes.specs.Causes.{AnswersAll, LosesNothing}
 use Rattle.hx_law_causes.proofs.Administered.{administers-run}
 use Rattle.hx_law_causes.proofs.Answered.{run-part}
 use Rattle.hx_law_causes.proofs.Named.{doubted-real, refused-real}
-use Rattle.hx_law_causes.proofs.Sessions.{EndsBy, SessionDoes, Starts, session-does}
 
 -- an entry of a trace stands between the newer and the older ones
 record Stands (trace : List Entry) (x : Entry) : Type 0 where

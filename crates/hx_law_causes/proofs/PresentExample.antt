@@ -1,20 +1,12 @@
 -- A run in which a leader halts and no region is lost: so the premise of the law on present regions can be met, and each call is answered.
-use Rattle.std.proofs.Common.{◌≡◌, ℕ, zero, suc, ◌==◌, ◌<◌, Bool, true, false, not, if◌then◌else◌, List, [], ◌∷◌, length, map, pos, Some, None, refl, sym, ap, ◌∙◌, subst, arith}
-use Rattle.std.specs.List.{All, list_all, slice_get}
-use Rattle.std.proofs.lemmas.Bool.{and_parts}
-use Rattle.std.proofs.lemmas.List.Elements.{All-from_recursion}
-use Rattle.hx_model.specs.Types.{Config, Entry, Epoch, Get, Member, Op, Put, Record, Script, Server, Session}
+use Rattle.hx_law_lemmas.proofs.Lemmas.Vocabulary.{[], All, All-from_recursion, and_parts, any_ready, ap, arith, Bool, Config, config_of, Entry, Epoch, false}
+use Rattle.hx_law_lemmas.proofs.Lemmas.Vocabulary.{first_config, first_some, Fits, Get, if◌then◌else◌, is_lost, IsRun, IsScript, length, line_of, List}
+use Rattle.hx_law_lemmas.proofs.Lemmas.Vocabulary.{list_all, map, Member, next_entry, None, not, Op, pos, Put, Record, records_of, refl, scheduled, Script}
+use Rattle.hx_law_lemmas.proofs.Lemmas.Vocabulary.{Server, Session, slice_get, Some, stepped, subst, suc, sym, true, when_some, zero, ℕ, ◌<◌, ◌==◌, ◌∙◌, ◌∷◌}
+use Rattle.hx_law_lemmas.proofs.Lemmas.Vocabulary.{◌≡◌}
 use Rattle.hx_types.specs.declared.calls.Answer.TheVariants as an_answer
 use Rattle.hx_types.specs.declared.traces.Step.TheVariants as a_step
 use Rattle.hx_types.specs.declared.values.Value.TheVariants as a_value
-use Rattle.hx_types.specs.Configs.{any_ready, first_config, is_lost}
-use Rattle.hx_types.specs.Fitting.{IsScript}
-use Rattle.hx_types.specs.Spaces.{Fits}
-use Rattle.hx_types.specs.Words.{first_some, when_some}
-use Rattle.hx_model.specs.Causes.{config_of}
-use Rattle.hx_model.specs.Histories.{line_of, records_of}
-use Rattle.hx_model.specs.Runs.{IsRun}
-use Rattle.hx_model.specs.Schedule.{next_entry, scheduled, stepped}
 use Rattle.hx_law_lemmas.proofs.Lemmas.{not-lost, small_books_are}
 use Rattle.hx_law_causes.specs.Causes.{AnswersAll, LosesNothing}
 use Rattle.hx_law_causes.proofs.Example.{sets, sets_fit, space}

@@ -1,20 +1,14 @@
 -- In every run each call that is refused, or in doubt for its key's region alone, has its cause: the configuration of its session, and whether the call was sent.
-use Rattle.std.proofs.Common.{◌≡◌, ℕ, inl, inr, Bool, true, false, ◌&&◌, ◌||◌, List, [], ◌∷◌, refl, sym, ap, ◌∙◌, subst, eqb}
-use Rattle.std.specs.List.{list_any}
-use Rattle.std.proofs.lemmas.Bool.{and_from, and_parts, cases_eq, cond-false, eq-eqb, eqb-true, false≢true, ne_eqb, or_cases}
-use Rattle.hx_model.specs.Types.{Actor, Caller, Coordinator, Entry, Epoch, Input, Message, Op, Post, Script, Server, Session, SessionId}
+use Rattle.hx_law_lemmas.proofs.Lemmas.Vocabulary.{[], Actor, and_from, and_parts, ap, Bool, Caller, carries_call, cases_eq, cond-false, Coordinator, Entry}
+use Rattle.hx_law_lemmas.proofs.Lemmas.Vocabulary.{Epoch, eq-eqb, eqb, eqb-true, false, false≢true, inl, Input, inr, IsIn, IsRun, IsScript, List, list_any}
+use Rattle.hx_law_lemmas.proofs.Lemmas.Vocabulary.{MayTake, Message, ne_eqb, Op, or_cases, Post, post, posts_of, refl, same_actor, Script, Server, Session}
+use Rattle.hx_law_lemmas.proofs.Lemmas.Vocabulary.{session_after, session_of, session_step, SessionId, SessionState, subst, sym, true, was_sent, ℕ, ◌&&◌, ◌||◌}
+use Rattle.hx_law_lemmas.proofs.Lemmas.Vocabulary.{◌∙◌, ◌∷◌, ◌≡◌}
 use Rattle.hx_types.specs.declared.messages.Message.TheVariants as a_message
-use Rattle.hx_types.specs.Words.{IsIn, post, same_actor}
-use Rattle.hx_types.specs.Fitting.{IsScript}
-use Rattle.hx_model.specs.Causes.{carries_call, was_sent}
-use Rattle.hx_model.specs.Runs.{IsRun, MayTake, session_after, session_of}
-use Rattle.hx_model.specs.SessionSteps.{SessionState, session_step}
-use Rattle.hx_law_lemmas.specs.Words.{posts_of}
-use Rattle.hx_law_lemmas.proofs.Lemmas.{any-in, in-append, in_left, in_right, arrived}
+use Rattle.hx_law_lemmas.proofs.Lemmas.{SessionDoes, Starts, session-does, any-in, in-append, in_left, in_right, arrived}
 use Rattle.hx_law_epochs.proofs.Lemmas.{any-of, IsKnown, epochs-run, session-config}
 use Rattle.hx_law_searches.proofs.Lemmas.{step_is}
 use Rattle.hx_law_chains.proofs.Lemmas.{named}
-use Rattle.hx_law_causes.proofs.Sessions.{SessionDoes, Starts, session-does}
 
 -- ---- whether a call was sent
 

@@ -1,14 +1,11 @@
 -- What the schedule adds to a run is a run.
-use Rattle.std.proofs.Common.{◌≡◌, ℕ, zero, suc, ◌+◌, ◌<◌, inl, inr, Bool, true, false, not, ◌&&◌, if◌then◌else◌, List, [], ◌∷◌, length, Option, Some, None, refl, sym, ap, ◌∙◌, subst, arith, add-one, ltb, leb}
-use Rattle.std.specs.Option.{option_map}
-use Rattle.std.proofs.lemmas.Bool.{and_from, and_parts, cond_both, cond-false, false≢true, le-leb, lt-ltb, ltb-true}
-use Rattle.hx_model.specs.Types.{Actor, Coordinator, Entry, Op, Post, PostId, Script, Server, Session, Space, Tick}
-use Rattle.hx_types.specs.Words.{IsIn, below, first_some, when_some}
-use Rattle.hx_types.specs.Fitting.{IsScript, numbered}
-use Rattle.hx_types.specs.Posts.{ActorExists}
-use Rattle.hx_model.specs.Runs.{IsRun, MayTake, has_halted, is_actor, is_empty, made_of, does_something, post_named, session_of}
-use Rattle.hx_model.specs.Schedule.{Next, delivery_of, entry_by, first_delivery, idle_among, is_idle, next_input, scheduled, undelivered, with_entry}
-use Rattle.hx_model.specs.SessionSteps.{SessionState, SessionStep, begin, session_tick, staying}
+use Rattle.hx_law_lemmas.proofs.Lemmas.Vocabulary.{[], Actor, ActorExists, add-one, and_from, and_parts, ap, arith, begin, below, Bool, cond-false, cond_both}
+use Rattle.hx_law_lemmas.proofs.Lemmas.Vocabulary.{Coordinator, delivery_of, does_something, Entry, entry_by, false, false≢true, first_delivery, first_some}
+use Rattle.hx_law_lemmas.proofs.Lemmas.Vocabulary.{has_halted, idle_among, if◌then◌else◌, inl, inr, is_actor, is_empty, is_idle, IsIn, IsRun, IsScript, le-leb}
+use Rattle.hx_law_lemmas.proofs.Lemmas.Vocabulary.{leb, length, List, lt-ltb, ltb, ltb-true, made_of, MayTake, Next, next_input, None, not, numbered, Op}
+use Rattle.hx_law_lemmas.proofs.Lemmas.Vocabulary.{Option, option_map, Post, post_named, PostId, refl, scheduled, Script, Server, Session, session_of}
+use Rattle.hx_law_lemmas.proofs.Lemmas.Vocabulary.{session_tick, SessionState, SessionStep, Some, Space, staying, subst, suc, sym, Tick, true, undelivered}
+use Rattle.hx_law_lemmas.proofs.Lemmas.Vocabulary.{when_some, with_entry, zero, ℕ, ◌&&◌, ◌+◌, ◌<◌, ◌∙◌, ◌∷◌, ◌≡◌}
 use Rattle.hx_law_lemmas.proofs.Lemmas.{in-below, when_some_both}
 use Rattle.hx_law_posts.proofs.Lemmas.{bounds, posts_stay_sound}
 use Rattle.hx_law_epochs.proofs.Lemmas.{index-some}

@@ -1,20 +1,10 @@
 -- The two facts of replies that the law on causes rests on, in every run: a doubt was told by its key's leader, and a refused write's version names the first lost place of its effect.
-use Rattle.std.proofs.Common.{◌≡◌, ℕ, ◌-◌, ◌≢◌, inl, inr, true, List, [], ◌∷◌, length, Some, sym, ap, ◌∙◌, subst, arith}
-use Rattle.std.proofs.lemmas.Bool.{false≢true}
+use Rattle.hx_law_lemmas.proofs.Lemmas.Vocabulary.{[], ap, arith, call_of, Caller, Config, effect_of, Entry, Epoch, false≢true, first_lost, inl, inr, is_lost}
+use Rattle.hx_law_lemmas.proofs.Lemmas.Vocabulary.{is_refused, is_write, IsIn, IsRun, IsScript, key_of, length, line_object, line_of, List, Op, places_of, post}
+use Rattle.hx_law_lemmas.proofs.Lemmas.Vocabulary.{refused_place, RegionId, Script, Session, Some, subst, sym, top_above, touches_after, true, Update, upto}
+use Rattle.hx_law_lemmas.proofs.Lemmas.Vocabulary.{Version, ℕ, ◌-◌, ◌∙◌, ◌∷◌, ◌≡◌, ◌≢◌}
 use Rattle.hx_types.specs.declared.calls.Answer.TheVariants as an_answer
-use Rattle.hx_model.specs.Types.{Caller, Config, Entry, Epoch, Op, RegionId, Script, Session, Update, Version}
 use Rattle.hx_types.specs.declared.messages.Message.TheVariants as a_message
-use Rattle.hx_types.specs.Words.{IsIn, post}
-use Rattle.hx_types.specs.Configs.{is_lost}
-use Rattle.hx_types.specs.Effects.{effect_of, is_write, key_of}
-use Rattle.hx_types.specs.Fitting.{IsScript, call_of, is_refused}
-use Rattle.hx_model.specs.Causes.{refused_place}
-use Rattle.hx_model.specs.Histories.{line_of}
-use Rattle.hx_model.specs.Leading.{first_lost}
-use Rattle.hx_model.specs.Lines.{line_object, upto}
-use Rattle.hx_model.specs.Places.{places_of}
-use Rattle.hx_model.specs.Runs.{IsRun}
-use Rattle.hx_model.specs.Slots.{top_above, touches_after}
 use Rattle.hx_law_lemmas.proofs.Lemmas.{effect_well, numbered-within as in-below, upto_past, top-numbered, upto_all}
 use Rattle.hx_law_epochs.proofs.Lemmas.{IsKnown}
 use Rattle.hx_law_chains.proofs.Lemmas.{lost-place, doubts-told, chained-run, scene, world, Law, Lawful, Told, lawful-numbered}

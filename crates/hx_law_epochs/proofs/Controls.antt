@@ -1,9 +1,6 @@
 -- What the coordinator posts says of epochs.
-use Rattle.std.proofs.Common.{◌≡◌, sym, subst}
-use Rattle.std.specs.Prelude.{⊤}
-use Rattle.hx_model.specs.Types.{Actor, Config, Message, ServerId}
+use Rattle.hx_law_lemmas.proofs.Lemmas.Vocabulary.{Actor, Config, Message, ServerId, ServerState, subst, sym, ⊤, ◌≡◌}
 use Rattle.hx_types.specs.declared.messages.Message.TheVariants as a_message
-use Rattle.hx_model.specs.ServerSteps.{ServerState}
 use Rattle.hx_law_epochs.proofs.Facts.{Says}
 
 -- what the coordinator posts where its configuration is this

@@ -1,11 +1,7 @@
 -- What every run keeps of configurations, the coordinator, servers and the posts that speak of epochs.
-use Rattle.std.proofs.Common.{◌≡◌, ◌≤◌, true, false, List, Some}
-use Rattle.std.specs.Prelude.{⊤}
-use Rattle.hx_model.specs.Types.{Actor, Config, Coordinator, Epoch, Message, Post, RegionId, Server, ServerId, Session}
+use Rattle.hx_law_lemmas.proofs.Lemmas.Vocabulary.{Actor, Config, Coordinator, Epoch, false, is_lost, IsIn, joiner_for, List, lists_ready, Message, Post}
+use Rattle.hx_law_lemmas.proofs.Lemmas.Vocabulary.{RegionId, Replica, replica_of, Server, ServerId, ServerState, Session, Some, true, ⊤, ◌≡◌, ◌≤◌}
 use Rattle.hx_types.specs.declared.messages.Message.TheVariants as a_message
-use Rattle.hx_types.specs.Words.{IsIn}
-use Rattle.hx_types.specs.Configs.{is_lost, joiner_for, lists_ready}
-use Rattle.hx_model.specs.ServerSteps.{Replica, ServerState, replica_of}
 use Rattle.hx_law_epochs.specs.Epochs.{order}
 use Rattle.hx_law_epochs.proofs.Growing.{GrownOut}
 use Rattle.hx_law_epochs.proofs.Next.{IsOrderly}

@@ -1,11 +1,8 @@
 -- What the coordinator issues is orderly and follows on the configuration before.
-use Rattle.std.proofs.Common.{◌≡◌, ◌+◌, ◌⊎◌, inl, inr, Bool, true, false, not, ◌&&◌, ◌||◌, List, [], ◌∷◌, ◌++◌, map, refl, sym, ap, ◌∙◌, subst}
-use Rattle.std.specs.List.{filter}
-use Rattle.std.proofs.lemmas.Bool.{and_from, and_parts, cases_Bool, cond_both, eq-eqb, false≢true, or_cases}
-use Rattle.std.proofs.lemmas.List.{map-append}
-use Rattle.hx_model.specs.Types.{Config, Epoch, Member, RegionId, ServerId}
-use Rattle.hx_types.specs.Words.{IsBefore, IsIn, same_server}
-use Rattle.hx_types.specs.Configs.{any_ready, is_lost, lists, lists_joining, lists_ready, members_of}
+use Rattle.hx_law_lemmas.proofs.Lemmas.Vocabulary.{[], and_from, and_parts, any_ready, ap, Bool, cases_Bool, cond_both, Config, Epoch, eq-eqb, false}
+use Rattle.hx_law_lemmas.proofs.Lemmas.Vocabulary.{false≢true, filter, inl, inr, is_lost, IsBefore, IsIn, List, lists, lists_joining, lists_ready, map}
+use Rattle.hx_law_lemmas.proofs.Lemmas.Vocabulary.{map-append, Member, members_of, not, or_cases, refl, RegionId, same_server, ServerId, subst, sym, true, ◌&&◌}
+use Rattle.hx_law_lemmas.proofs.Lemmas.Vocabulary.{◌++◌, ◌+◌, ◌||◌, ◌∙◌, ◌∷◌, ◌≡◌, ◌⊎◌}
 use Rattle.hx_law_lemmas.proofs.Lemmas.{any-in, in-append, in-filter, in-map, in_left, map-in, Differ, server-same, before-in, fewer-before, fewer-differ}
 use Rattle.hx_law_lemmas.proofs.Lemmas.{in-listed, listed-in, member-server, servers_of}
 use Rattle.hx_law_epochs.specs.Epochs.{FollowsOn, order}

@@ -1,8 +1,5 @@
 -- A configuration that has grown out of another: servers only leave, and lists grow at their end alone.
-use Rattle.std.proofs.Common.{◌≡◌, ◌≤◌, true, subst, arith}
-use Rattle.hx_model.specs.Types.{Config, RegionId, ServerId}
-use Rattle.hx_types.specs.Words.{IsBefore, IsIn}
-use Rattle.hx_types.specs.Configs.{is_lost, members_of}
+use Rattle.hx_law_lemmas.proofs.Lemmas.Vocabulary.{arith, Config, is_lost, IsBefore, IsIn, members_of, RegionId, ServerId, subst, true, ◌≡◌, ◌≤◌}
 use Rattle.hx_law_lemmas.proofs.Lemmas.{before-in, in-listed, listed-in}
 use Rattle.hx_law_epochs.specs.Epochs.{FollowsOn, order}
 use Rattle.hx_law_epochs.proofs.Members.{server-member}

@@ -1,14 +1,8 @@
 -- The law on what every run keeps of epochs.
-use Rattle.std.proofs.Common.{◌≡◌, inl, inr, true, List, [], ◌∷◌, is_some, Option, Some, None, refl, ap, ◌∙◌}
-use Rattle.std.proofs.lemmas.Bool.{cond_both, cond-true, false≢true}
-use Rattle.hx_model.specs.Types.{Actor, Config, Entry, Epoch, Message, Post, RegionId, Script, Server, ServerId}
+use Rattle.hx_law_lemmas.proofs.Lemmas.Vocabulary.{[], Actor, ap, cond-true, cond_both, Config, config_of, coordinator_of, Entry, Epoch, false≢true}
+use Rattle.hx_law_lemmas.proofs.Lemmas.Vocabulary.{if_installed, inl, inr, is_some, IsIn, IsPosted, List, Message, None, Option, Post, post, posts_of, refl}
+use Rattle.hx_law_lemmas.proofs.Lemmas.Vocabulary.{RegionId, Replica, replica_of, Script, Server, server_of, ServerId, ServerState, Some, true, ◌∙◌, ◌∷◌, ◌≡◌}
 use Rattle.hx_types.specs.declared.messages.Message.TheVariants as a_message
-use Rattle.hx_types.specs.Words.{IsIn, post}
-use Rattle.hx_model.specs.Causes.{config_of}
-use Rattle.hx_model.specs.Holders.{IsPosted}
-use Rattle.hx_model.specs.Runs.{coordinator_of, server_of}
-use Rattle.hx_model.specs.ServerSteps.{Replica, ServerState, if_installed, replica_of}
-use Rattle.hx_law_lemmas.specs.Words.{posts_of}
 use Rattle.hx_law_lemmas.proofs.Lemmas.{in-listed, in_left, in_right}
 use Rattle.hx_law_epochs.specs.Epochs.{EpochsHold, HasTold, IsInstalled, RunsKeepEpochs}
 use Rattle.hx_law_epochs.proofs.Facts.{Installed, Says}

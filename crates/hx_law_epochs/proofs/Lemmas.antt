@@ -1,11 +1,12 @@
 -- What proofs of other crates may cite. Declares nothing.
+pub use Rattle.hx_law_lemmas.proofs.Lemmas.{head-some}
 pub use Rattle.hx_law_epochs.proofs.Facts.{EpochsKept, FromServer, Installed, NoLater, Says, SendsSnapshot}
 pub use Rattle.hx_law_epochs.proofs.Follows.{member-ready, ready-member, ready-not_lost}
 pub use Rattle.hx_law_epochs.proofs.Growing.{GrownOut, ListsServers, grown-out-next, grown-out-self, grown-out-trans, orderly-lists}
 pub use Rattle.hx_law_epochs.proofs.Headline.{found-installed, installed-found}
 pub use Rattle.hx_law_epochs.proofs.Makers.{ready-follows, ready-orderly, ready-ready, with-follows, with-orderly, with-ready}
 pub use Rattle.hx_law_epochs.proofs.Makers.{without-follows, without-leaves, without-orderly, without-ready}
-pub use Rattle.hx_law_epochs.proofs.Members.{head-some, server-member}
+pub use Rattle.hx_law_epochs.proofs.Members.{server-member}
 pub use Rattle.hx_law_epochs.proofs.Neighbours.{leader-first, leader-stands, next-is, next-none, previous-is, previous-none}
 pub use Rattle.hx_law_epochs.proofs.Next.{Grown, IsOrderly, MayJoin, any-of, appended-here, config_with-grown, joiner, judged-may, renumbered}
 pub use Rattle.hx_law_epochs.proofs.Positions.{Adjacent, HasPlace, PrecedesInChain, adjacent-within, index-below, index-some, next-across}

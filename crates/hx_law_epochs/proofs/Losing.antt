@@ -1,9 +1,6 @@
 -- What is lost has lost its replicas: a server that was ready in a lost region and hasn't halted would be ready there still.
-use Rattle.std.proofs.Common.{◌≡◌, Bool, true, false, refl, sym, ◌∙◌}
-use Rattle.std.proofs.lemmas.Bool.{false≢true}
-use Rattle.hx_model.specs.Types.{Config, RegionId, ServerId}
-use Rattle.hx_types.specs.Configs.{is_lost, lists_ready}
-use Rattle.hx_model.specs.Runs.{coordinator_of, server_of}
+use Rattle.hx_law_lemmas.proofs.Lemmas.Vocabulary.{Bool, Config, coordinator_of, false, false≢true, is_lost, lists_ready, refl, RegionId, server_of, ServerId}
+use Rattle.hx_law_lemmas.proofs.Lemmas.Vocabulary.{sym, true, ◌∙◌, ◌≡◌}
 use Rattle.hx_law_epochs.specs.Epochs.{RunsLoseReplicas}
 use Rattle.hx_law_epochs.proofs.Follows.{ready-member, ready-not_lost}
 use Rattle.hx_law_epochs.proofs.Runs.{comes, epochs-run}

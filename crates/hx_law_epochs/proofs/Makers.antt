@@ -1,12 +1,8 @@
 -- The three configurations that are issued follow on the one before: a server is out, joins a region, or is ready in it; and each is orderly.
-use Rattle.std.proofs.Common.{◌≡◌, ℕ, zero, suc, ◌⊎◌, inl, inr, Bool, true, false, not, ◌&&◌, ◌||◌, List, [], ◌∷◌, map, Option, None, Some, refl, sym, ap}
-use Rattle.std.proofs.Common.{◌∙◌, subst}
-use Rattle.std.specs.List.{filter, list_any, slice_get}
-use Rattle.std.proofs.lemmas.Bool.{and_parts, cases_Bool, cases_eq, eq-eqb, eqb-true, false≢true}
-use Rattle.hx_model.specs.Types.{Config, Member, RegionId, ServerId}
-use Rattle.hx_types.specs.Words.{IsIn, same_region, same_server, when_some}
-use Rattle.hx_types.specs.Configs.{is_lost, lists_ready, members_of}
-use Rattle.hx_model.specs.CoordinatorSteps.{config_ready, config_with, config_without, judged, members_without, ready_if}
+use Rattle.hx_law_lemmas.proofs.Lemmas.Vocabulary.{[], and_parts, ap, Bool, cases_Bool, cases_eq, Config, config_ready, config_with, config_without, eq-eqb}
+use Rattle.hx_law_lemmas.proofs.Lemmas.Vocabulary.{eqb-true, false, false≢true, filter, inl, inr, is_lost, IsIn, judged, List, list_any, lists_ready, map}
+use Rattle.hx_law_lemmas.proofs.Lemmas.Vocabulary.{Member, members_of, members_without, None, not, Option, ready_if, refl, RegionId, same_region, same_server}
+use Rattle.hx_law_lemmas.proofs.Lemmas.Vocabulary.{ServerId, slice_get, Some, subst, suc, sym, true, when_some, zero, ℕ, ◌&&◌, ◌||◌, ◌∙◌, ◌∷◌, ◌≡◌, ◌⊎◌}
 use Rattle.hx_law_epochs.specs.Epochs.{FollowsOn}
 use Rattle.hx_law_epochs.proofs.Follows.{ComesNext, grown-comes}
 use Rattle.hx_law_epochs.proofs.Next.{Grown, IsOrderly, config_with-grown, filter-in, judged-may, renumbered, set-here, set-other}

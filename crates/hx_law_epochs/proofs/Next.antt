@@ -1,13 +1,9 @@
 -- The next configuration: the one before without the departed, with joiners made ready and at most one more for each region, follows on the one before.
-use Rattle.std.proofs.Common.{◌≡◌, ℕ, zero, suc, ◌⊎◌, inl, inr, Bool, true, false, not, ◌&&◌, ◌||◌, List, [], ◌∷◌, ◌++◌, Option, Some, None, refl, sym, ap}
-use Rattle.std.proofs.Common.{◌∙◌, subst, cond}
-use Rattle.std.specs.List.{filter, list_any, slice_get, slice_set}
-use Rattle.std.proofs.lemmas.Bool.{and_from, cases_Bool, cases_eq, cond_both, eq-eqb, false≢true}
-use Rattle.hx_model.specs.Types.{Config, Member, RegionId, ServerId}
+use Rattle.hx_law_lemmas.proofs.Lemmas.Vocabulary.{[], and_from, any_joining, any_ready, ap, Bool, cases_Bool, cases_eq, cond, cond_both, Config, config_with}
+use Rattle.hx_law_lemmas.proofs.Lemmas.Vocabulary.{eq-eqb, false, false≢true, filter, inl, inr, is_lost, IsBefore, IsIn, judged, List, list_any, lists_ready}
+use Rattle.hx_law_lemmas.proofs.Lemmas.Vocabulary.{Member, members_of, next_config, None, not, Option, refl, RegionId, same_server, server_in, ServerId}
+use Rattle.hx_law_lemmas.proofs.Lemmas.Vocabulary.{slice_get, slice_set, Some, subst, suc, sym, true, when_some, zero, ℕ, ◌&&◌, ◌++◌, ◌||◌, ◌∙◌, ◌∷◌, ◌≡◌, ◌⊎◌}
 use Rattle.hx_types.specs.declared.calls.Answer.TheVariants as an_answer
-use Rattle.hx_types.specs.Words.{IsBefore, IsIn, same_server, server_in, when_some}
-use Rattle.hx_types.specs.Configs.{any_joining, any_ready, is_lost, lists_ready, members_of}
-use Rattle.hx_model.specs.CoordinatorSteps.{config_with, judged, next_config}
 use Rattle.hx_law_lemmas.proofs.Lemmas.{in_right, Differ, server-in}
 
 -- a server that joins a region

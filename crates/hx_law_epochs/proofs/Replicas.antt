@@ -1,11 +1,8 @@
 -- A server's replicas: those of the regions in which its configuration lists it, each once, empty where not installed; what changes of them keeps this.
-use Rattle.std.proofs.Common.{◌≡◌, inl, inr, Bool, true, false, List, [], map, Option, Some, None, refl, sym, ap, ◌∙◌, subst, cond}
-use Rattle.std.proofs.lemmas.Bool.{cond_both}
-use Rattle.hx_model.specs.Types.{Config, RegionId, ServerId, Space}
-use Rattle.hx_types.specs.Words.{IsIn, when_some}
-use Rattle.hx_types.specs.Configs.{first_config, is_lost, lists}
-use Rattle.hx_model.specs.Slots.{KeyState}
-use Rattle.hx_model.specs.ServerSteps.{Replica, ServerState, adopted, adopted_replica, adopted_state, replica_for, if_installed, is_active, listed_regions, replica_of, replica_or_new, server_at_start, context_of, with_config, with_replica}
+use Rattle.hx_law_lemmas.proofs.Lemmas.Vocabulary.{[], adopted, adopted_replica, adopted_state, ap, Bool, cond, cond_both, Config, context_of, false}
+use Rattle.hx_law_lemmas.proofs.Lemmas.Vocabulary.{first_config, if_installed, inl, inr, is_active, is_lost, IsIn, KeyState, List, listed_regions, lists, map}
+use Rattle.hx_law_lemmas.proofs.Lemmas.Vocabulary.{None, Option, refl, RegionId, Replica, replica_for, replica_of, replica_or_new, server_at_start, ServerId}
+use Rattle.hx_law_lemmas.proofs.Lemmas.Vocabulary.{ServerState, Some, Space, subst, sym, true, when_some, with_config, with_replica, ◌∙◌, ◌≡◌}
 use Rattle.hx_law_lemmas.proofs.Lemmas.{in-map, in-with_replica, replica-found, replica-here, replica-other, which-region, Once, listed-apart, listed-only}
 use Rattle.hx_law_lemmas.proofs.Lemmas.{listed-there, made-found, made-in, made-once, mapped-found, mapped-from, mapped-once, once-replaced}
 use Rattle.hx_law_epochs.proofs.Facts.{Installed}

@@ -1,24 +1,15 @@
 -- Every run keeps what holds of epochs: by each entry of the coordinator, of a server and of a session.
-use Rattle.std.proofs.Common.{◌≡◌, ℕ, zero, suc, ◌+◌, ◌-◌, ◌<◌, ◌≤◌, ◌⊎◌, inl, inr, Bool, true, false, List, [], ◌∷◌, ◌++◌, Option, Some, None, refl, sym, ap}
-use Rattle.std.proofs.Common.{◌∙◌, subst, arith, cond, eqb, ltb, leb}
-use Rattle.std.proofs.lemmas.Bool.{and_from, and_parts, cond_both, cond-false, cond-true, eq-eqb, eqb-true, le-leb, leb-true, lt-ltb, ltb-true, ne_eqb}
-use Rattle.std.proofs.lemmas.Bool.{cases_lt}
-use Rattle.hx_model.specs.Types.{Actor, Config, Coordinator, Deliver, Entry, Epoch, Input, Message, Note, Post, PostId, RegionId, Script, Server, ServerId}
-use Rattle.hx_model.specs.Types.{Session, SessionId, Space}
+use Rattle.hx_law_lemmas.proofs.Lemmas.Vocabulary.{[], Actor, and_from, and_parts, ap, arith, below, Bool, cases_lt, cond, cond-false, cond-true, cond_both}
+use Rattle.hx_law_lemmas.proofs.Lemmas.Vocabulary.{Config, config_noted, config_of, Coordinator, coordinator_after, coordinator_of, coordinator_step}
+use Rattle.hx_law_lemmas.proofs.Lemmas.Vocabulary.{CoordinatorState, Deliver, Entry, Epoch, eq-eqb, eqb, eqb-true, false, first_config, first_some, has_halted}
+use Rattle.hx_law_lemmas.proofs.Lemmas.Vocabulary.{inl, Input, inr, is_actor, is_lost, IsIn, IsRun, IsScript, IsServerOf, IsStep, le-leb, leb, leb-true, List}
+use Rattle.hx_law_lemmas.proofs.Lemmas.Vocabulary.{lists_ready, lt-ltb, ltb, ltb-true, made_of, MayTake, members_of, Message, ne_eqb, None, Note, Option}
+use Rattle.hx_law_lemmas.proofs.Lemmas.Vocabulary.{Output, Post, post, PostId, posts_of, refl, RegionId, same_server, Script, Server, server_after, server_of}
+use Rattle.hx_law_lemmas.proofs.Lemmas.Vocabulary.{server_step, ServerId, ServerState, Session, session_after, session_of, session_step, SessionId}
+use Rattle.hx_law_lemmas.proofs.Lemmas.Vocabulary.{SessionState, Some, Space, subst, sym, true, ◌++◌, ◌+◌, ◌-◌, ◌<◌, ◌∙◌, ◌∷◌, ◌≡◌, ◌≤◌, ◌⊎◌}
 use Rattle.hx_types.specs.declared.messages.Message.TheVariants as a_message
 use Rattle.hx_types.specs.declared.traces.Note.TheVariants as a_note
-use Rattle.hx_types.specs.Words.{IsIn, below, first_some, post, same_server}
-use Rattle.hx_types.specs.Configs.{first_config, is_lost, lists_ready, members_of}
-use Rattle.hx_types.specs.Spaces.{IsServerOf}
-use Rattle.hx_types.specs.Fitting.{IsScript}
-use Rattle.hx_model.specs.Causes.{config_noted, config_of}
-use Rattle.hx_model.specs.ServerSteps.{ServerState, server_step}
-use Rattle.hx_model.specs.CoordinatorSteps.{CoordinatorState, coordinator_step}
-use Rattle.hx_model.specs.SessionSteps.{SessionState, session_step}
-use Rattle.hx_model.specs.Runs.{IsRun, IsStep, Output, MayTake, coordinator_after, coordinator_of, has_halted, is_actor, made_of, server_after, server_of}
-use Rattle.hx_model.specs.Runs.{session_after, session_of}
-use Rattle.hx_law_lemmas.specs.Words.{posts_of}
-use Rattle.hx_law_lemmas.proofs.Lemmas.{before-first, in-below, in-map, in_left, in_right, map-in, all-ready, listed-in, started, arrived, members-differ}
+use Rattle.hx_law_lemmas.proofs.Lemmas.{below-in, before-first, in-below, in-map, map-in, all-ready, listed-in, started, arrived, members-differ}
 use Rattle.hx_law_lemmas.proofs.Lemmas.{session_turn, SaysOf}
 use Rattle.hx_law_posts.proofs.Lemmas.{first-of_space, member-server}
 use Rattle.hx_law_epochs.specs.Epochs.{FollowsOn, RunsOn, WasIssued}
@@ -56,11 +47,6 @@ pub record EpochsRun (script : Script) (t : List Entry) : Type 0 where
   pub known : Known script t
 
 -- ---- at the start
-
--- a number below is among those below
-below-in : (n k : ℕ) → k < n → IsIn k (below n)
-below-in zero k l = absurd (omega arith)
-below-in (suc n) k l = elim (cases_lt k n) [ inl m ↦ in_left (below n) (n ∷ []) k (below-in n k m) | inr m ↦ in_right (below n) (n ∷ []) k (inl (let e : k ≡ n = omega arith in e)) ]
 
 -- the servers of the first configuration are those of the space
 first-there : (space : Space) (s : ServerId) → IsServerOf space s → IsIn s (first_config space).servers

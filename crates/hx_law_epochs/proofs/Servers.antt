@@ -1,28 +1,20 @@
 -- Each step of a server, as far as epochs go: what becomes of its configuration and its replicas, and what it posts.
-use Rattle.std.proofs.Common.{◌≡◌, ℕ, ◌<◌, ◌≤◌, ◌⊎◌, inl, inr, Bool, true, false, not, List, [], ◌∷◌, ◌++◌, map, Option, Some, None, refl, sym, ap, ◌∙◌}
-use Rattle.std.proofs.Common.{subst, arith, ltb}
-use Rattle.std.specs.Prelude.{⊤}
-use Rattle.std.specs.List.{filter, flat_map}
-use Rattle.std.proofs.lemmas.Bool.{and_parts, cond_both, false≢true, ltb-true}
-use Rattle.hx_model.specs.Types.{Actor, Caller, Config, Coordinator, Deliver, Epoch, Halt, Input, Kept, Message, Op, Post, PostId, RegionId, Server, ServerId}
-use Rattle.hx_model.specs.Types.{Session, Space, Term, Tick, Update}
+use Rattle.hx_law_lemmas.proofs.Lemmas.Vocabulary.{[], accepting, ack_step, acked, acked_of, Actor, adopted, adopted_posts, and_parts, ap, arith, asked}
+use Rattle.hx_law_lemmas.proofs.Lemmas.Vocabulary.{asking_last, at_slot, call_at, call_step, called, called_by, Caller, cond_both, Config, config_noted}
+use Rattle.hx_law_lemmas.proofs.Lemmas.Vocabulary.{context_of, Coordinator, Deliver, Epoch, false, false≢true, filter, flat_map, Halt, halting, hears_ack}
+use Rattle.hx_law_lemmas.proofs.Lemmas.Vocabulary.{hears_snap, hears_update, if_installed, inl, Input, input_step, inr, install_at, installed_slots, is_active}
+use Rattle.hx_law_lemmas.proofs.Lemmas.Vocabulary.{is_key_region, is_lost, IsIn, join_keys, join_slot, joiner_for, Kept, key_of, key_region, keys_of, KeyState}
+use Rattle.hx_law_lemmas.proofs.Lemmas.Vocabulary.{leads, List, lists, lists_joining, lists_ready, ltb, ltb-true, map, meeting, Message, message_step}
+use Rattle.hx_law_lemmas.proofs.Lemmas.Vocabulary.{moved_all, None, not, not-true, offered_all, Op, Option, passed_on, pending_of, pending_of_all}
+use Rattle.hx_law_lemmas.proofs.Lemmas.Vocabulary.{pending_posts, pending_with, place_number, poll_post, Post, post, PostId, provided, ready_post, refl}
+use Rattle.hx_law_lemmas.proofs.Lemmas.Vocabulary.{RegionId, Replica, replica_for, replica_of, replica_tick, resumed_posts, same_text, saying, Server}
+use Rattle.hx_law_lemmas.proofs.Lemmas.Vocabulary.{server_step, ServerId, ServerState, ServerStep, Session, SlotContext, Slots, SlotStep, snap_posts, snap_to}
+use Rattle.hx_law_lemmas.proofs.Lemmas.Vocabulary.{snapped, snapshot_of, Some, Space, state_among, state_from, state_in, subst, sym, Term, Tick, tick_step}
+use Rattle.hx_law_lemmas.proofs.Lemmas.Vocabulary.{true, unmoved, Update, update_step, updated, when_some, with_config, with_slots, ℕ, ⊤, ◌++◌, ◌<◌, ◌∙◌, ◌∷◌}
+use Rattle.hx_law_lemmas.proofs.Lemmas.Vocabulary.{◌≡◌, ◌≤◌, ◌⊎◌}
 use Rattle.hx_types.specs.declared.messages.Message.TheVariants as a_message
-use Rattle.hx_types.specs.Words.{IsIn, post, provided, same_text, when_some}
-use Rattle.hx_types.specs.Effects.{key_of}
-use Rattle.hx_types.specs.Configs.{is_lost, joiner_for, leads, lists, lists_joining, lists_ready}
-use Rattle.hx_types.specs.Subspaces.{is_key_region}
-use Rattle.hx_model.specs.Causes.{config_noted}
-use Rattle.hx_model.specs.Hearing.{hears_ack, hears_snap, hears_update}
-use Rattle.hx_model.specs.Neighbours.{place_number}
-use Rattle.hx_model.specs.Regions.{key_region}
-use Rattle.hx_model.specs.Slots.{KeyState, moved_all, pending_of, pending_of_all, snapshot_of, state_among}
-use Rattle.hx_model.specs.ServerSteps.{Replica, ServerState, ServerStep, SlotStep, Slots, SlotContext, accepting, acked, acked_of, ack_step, adopted}
-use Rattle.hx_model.specs.ServerSteps.{adopted_posts, asked, asking_last, at_slot, call_at, call_step, called, called_by, halting, replica_for, if_installed}
-use Rattle.hx_model.specs.ServerSteps.{input_step, install_at, installed_slots, is_active, join_keys, join_slot, keys_of, meeting, message_step, move_posts}
-use Rattle.hx_model.specs.ServerSteps.{offered_all, passed_on, pending_posts, pending_with, poll_post, ready_post, replica_of, replica_tick, resumed_posts}
-use Rattle.hx_model.specs.ServerSteps.{saying, server_step, snap_posts, snap_to, snapped, context_of, state_from, state_in, tick_step, unmoved, update_step}
-use Rattle.hx_model.specs.ServerSteps.{updated, with_config, with_slots}
-use Rattle.hx_law_lemmas.proofs.Lemmas.{in-append, in-flat_map, in-provided, replica-found, replica-here, with_slot_at, once-found}
+use Rattle.hx_law_lemmas.proofs.Lemmas.{each-append, each-flat, each-one, each-provided, in-flat_map, in-provided, replica-found, replica-here}
+use Rattle.hx_law_lemmas.proofs.Lemmas.{with_slot_at, once-found}
 use Rattle.hx_law_epochs.proofs.Facts.{FromServer, Installed, SendsSnapshot}
 use Rattle.hx_law_epochs.proofs.Replicas.{Shaped, done-installed, done-shaped, replica_for-is, installed-is, mid-installed, mid-shaped, replaced-installed}
 use Rattle.hx_law_epochs.proofs.Replicas.{replaced-shaped}
@@ -83,10 +75,6 @@ module _ (space : Space) (s : ServerId) (st : ServerState) (shaped : Shaped s st
   rests : Does s st May (unmoved st)
   rests = says [] (λ p i. absurd i)
 
-  -- one post
-  one : (after : ServerState) (q : Post) → Mine after q → (p : Post) → IsIn p (q ∷ []) → Mine after p
-  one after q h p i = elim i [ inl e ↦ subst (Mine after) (sym e) h | inr j ↦ absurd j ]
-
   -- a slot's posts are the server's
   of-slot : (after : ServerState) (g : RegionId) → after.config ≡ st.config → (p : Post) → OfSlot (context_of space st g) p → Mine after p
   of-slot after g e p h = (h.0 ∙ ap Server shaped.id, slot-tells s after st.config p.to p.message (sym e) h.1)
@@ -143,10 +131,8 @@ module _ (space : Space) (s : ServerId) (st : ServerState) (shaped : Shaped s st
   meets epoch step does = record {
     shaped = does.shaped;
     change = does.change;
-    posts = λ p i. elim (in-append (provided (ltb st.config.epoch.0 epoch.0) (poll_post st ∷ [])) step.posts p i) [
-      | inl j ↦ one step.state (poll_post st) (ap Server shaped.id, no-earlier) p (in-provided (ltb st.config.epoch.0 epoch.0) (poll_post st ∷ []) p j).1
-      | inr j ↦ does.posts p j
-    ];
+    posts = each-append (Mine step.state) _ step.posts
+        (each-provided (Mine step.state) (ltb st.config.epoch.0 epoch.0) (poll_post st ∷ []) (each-one (Mine step.state) (poll_post st) (ap Server shaped.id, no-earlier))) does.posts;
     notes = does.notes;
   }
     where
@@ -194,13 +180,13 @@ module _ (space : Space) (s : ServerId) (st : ServerState) (shaped : Shaped s st
     where
       by : (o : Option Replica) → Does s st May (asked st from epoch number terms o)
       by None = rests
-      by (Some r) = says _ (λ p i. one st _ (ap Server shaped.id, tt) p (in-provided (lists_ready st.config r.region st.id) _ p i).1)
+      by (Some r) = says _ (λ p i. each-one (Mine st) _ (ap Server shaped.id, tt) p (in-provided (lists_ready st.config r.region st.id) _ p i).1)
 
   -- a post that says that a joiner is ready
   ready-mine : (after : ServerState) (g : RegionId) → after.config ≡ st.config → Installed after g → (p : Post) → IsIn p (ready_post st g) → Mine after p
-  ready-mine after g e h p i =
-      one after (post (Server st.id) Coordinator (a_message.Ready st.config.epoch g)) (ap Server shaped.id, (ap (λ (c : Config). c.epoch) (sym e), h)) p
-      (in-provided (lists_joining st.config g st.id) (post (Server st.id) Coordinator (a_message.Ready st.config.epoch g) ∷ []) p i).1
+  ready-mine after g e h =
+      each-provided (Mine after) (lists_joining st.config g st.id) _
+      (each-one (Mine after) (post (Server st.id) Coordinator (a_message.Ready st.config.epoch g)) (ap Server shaped.id, (ap (λ (c : Config). c.epoch) (sym e), h)))
 
   -- slots that take the pending updates post as slots do
   join-posts : (context : SlotContext) (us : List Update) (keys : List (List ℕ)) (slots : Slots) → ((p : Post) → IsIn p slots.posts → OfSlot context p) → (p : Post) → IsIn p (join_keys context us slots keys).posts → OfSlot context p
@@ -209,7 +195,7 @@ module _ (space : Space) (s : ServerId) (st : ServerState) (shaped : Shaped s st
       let mine : List Update = filter (λ (u : Update). same_text u.key key) us in
       let state : KeyState = state_among (is_key_region context.space context.region) key slots.states in
       join-posts context us keys (join_slot context mine slots state)
-      (λ p i. elim (in-append slots.posts (flat_map (move_posts context) (accepting context state (offered_all context.region state mine))) p i) [ inl j ↦ f p j | inr j ↦ moves-of context (accepting context state (offered_all context.region state mine)) p j ])
+      (each-append (OfSlot context) slots.posts _ f (moves-of context (accepting context state (offered_all context.region state mine))))
 
   -- Snap
   snapped-does : (from : Actor) (g : RegionId) (snapshot : List Kept) (pending : List Update) → Does s st May (snapped space st from snapshot pending (replica_for st g))
@@ -231,10 +217,8 @@ module _ (space : Space) (s : ServerId) (st : ServerState) (shaped : Shaped s st
           installs r found slots f = record {
             shaped = replaced-shaped s st shaped r x found (λ e. absurd (false≢true (sym e)));
             change = inl (record { config = refl; halted = λ e. e; installed = replaced-installed s st shaped r x found (λ e. refl) });
-            posts = λ p i. elim (in-append slots.posts (ready_post st r.region) p i) [
-              | inl j ↦ of-slot (with_slots st r slots).state r.region refl p (f p j)
-              | inr j ↦ ready-mine (with_slots st r slots).state r.region refl (record { replica = x; found = replica-here r.region x st.replicas r refl found; installed = refl }) p j
-            ];
+            posts = each-append (Mine (with_slots st r slots).state) slots.posts (ready_post st r.region) (λ p i. of-slot (with_slots st r slots).state r.region refl p (f p i))
+                (ready-mine (with_slots st r slots).state r.region refl (record { replica = x; found = replica-here r.region x st.replicas r refl found; installed = refl }));
             notes = λ epoch. refl;
           }
             where
@@ -247,7 +231,7 @@ module _ (space : Space) (s : ServerId) (st : ServerState) (shaped : Shaped s st
   halts = record {
     shaped = record { id = shaped.id; there = shaped.there; only = shaped.only; once = shaped.once; empty = shaped.empty };
     change = inl (record { config = refl; halted = λ e. refl; installed = λ g i. record { replica = i.replica; found = i.found; installed = i.installed } });
-    posts = one (record st { halted = true }) _ (ap Server shaped.id, refl);
+    posts = each-one (Mine (record st { halted = true })) _ (ap Server shaped.id, refl);
     notes = λ epoch. refl;
   }
 
@@ -255,11 +239,7 @@ module _ (space : Space) (s : ServerId) (st : ServerState) (shaped : Shaped s st
 
   -- a replica of the server is active where it is installed and its region isn't lost
   active-is : (r : Replica) → is_active st.config r ≡ true → (r.installed ≡ true) × (is_lost st.config r.region ≡ false)
-  active-is r t = let a = and_parts r.installed (not (is_lost st.config r.region)) t in (a.0, flip (is_lost st.config r.region) a.1)
-    where
-      flip : (b : Bool) → not b ≡ true → b ≡ false
-      flip true e = absurd (false≢true e)
-      flip false e = refl
+  active-is r t = let a = and_parts r.installed (not (is_lost st.config r.region)) t in (a.0, not-true (is_lost st.config r.region) a.1)
 
   -- a snapshot to a joiner
   snap-mine : (after : ServerState) (r : Replica) → after.config ≡ st.config → Installed after r.region → is_lost st.config r.region ≡ false → (p : Post) → IsIn p (snap_posts st r) → Mine after p
@@ -267,7 +247,7 @@ module _ (space : Space) (s : ServerId) (st : ServerState) (shaped : Shaped s st
     where
       by : (o : Option ServerId) → joiner_for st.config r.region st.id ≡ o → IsIn p (snap_to st r o) → Mine after p
       by None q i = absurd i
-      by (Some j) q i = one after (post (Server st.id) (Server j) (a_message.Snap st.config.epoch r.region (snapshot_of r.region r.states) (pending_of_all r.states))) (
+      by (Some j) q i = each-one (Mine after) (post (Server st.id) (Server j) (a_message.Snap st.config.epoch r.region (snapshot_of r.region r.states) (pending_of_all r.states))) (
         ap Server shaped.id,
         (
           ap (λ (c : Config). c.epoch) (sym e),
@@ -286,46 +266,36 @@ module _ (space : Space) (s : ServerId) (st : ServerState) (shaped : Shaped s st
   listed-found : (r : Replica) → IsIn r st.replicas → replica_of r.region st.replicas ≡ Some r
   listed-found r i = once-found st.replicas shaped.once r i
 
+  -- what an active replica posts, of a snapshot, of its slots, and that it is ready, with the server that it has become
+  active-mine : (after : ServerState) → after.config ≡ st.config → ((g : RegionId) → Installed st g → Installed after g) → (r : Replica) → IsIn r st.replicas → (ps : List Post) → ((p : Post) → IsIn p ps → Mine after p)
+      → (p : Post) → IsIn p (provided (is_active st.config r) (snap_posts st r ++ ps ++ ready_post st r.region)) → Mine after p
+  active-mine after e up r i ps f p j =
+      let a = in-provided (is_active st.config r) (snap_posts st r ++ ps ++ ready_post st r.region) p j in
+      let b = active-is r a.0 in
+      let h : Installed after r.region = up r.region (record { replica = r; found = listed-found r i; installed = b.0 }) in
+      each-append (Mine after) (snap_posts st r ++ ps) (ready_post st r.region) (each-append (Mine after) (snap_posts st r) ps (snap-mine after r e h b.1) f) (ready-mine after r.region e h) p a.1
+
   -- what a replica sends again
   replica-mine : (r : Replica) → IsIn r st.replicas → (p : Post) → IsIn p (replica_tick space st r) → Mine st p
-  replica-mine r i p j =
-      let a = in-provided (is_active st.config r) (snap_posts st r ++ pending_posts (context_of space st r.region) r.states ++ ready_post st r.region) p j in
-      let b = active-is r a.0 in
-      let h : Installed st r.region = record { replica = r; found = listed-found r i; installed = b.0 } in
-      elim (in-append (snap_posts st r ++ pending_posts (context_of space st r.region) r.states) (ready_post st r.region) p a.1) [
-        | inl k ↦ elim (in-append (snap_posts st r) (pending_posts (context_of space st r.region) r.states) p k) [
-          | inl m ↦ snap-mine st r refl h b.1 p m
-          | inr m ↦ (let c = in-flat_map (λ (state : KeyState). flat_map (passed_on (context_of space st r.region)) (pending_of state)) r.states p m in
-              of-slot st r.region refl p (pending-of (context_of space st r.region) (pending_of c.0) p c.2))
-        ]
-        | inr k ↦ ready-mine st r.region refl h p k
-      ]
+  replica-mine r i =
+      active-mine st refl (λ g h. h) r i (pending_posts (context_of space st r.region) r.states)
+      (each-flat (Mine st) (λ (t : KeyState). flat_map (passed_on (context_of space st r.region)) (pending_of t)) r.states
+      (λ t j p k. of-slot st r.region refl p (pending-of (context_of space st r.region) (pending_of t) p k)))
 
   -- where anything is posted, it asks last
   asking-mine : (ps : List Post) → ((p : Post) → IsIn p ps → Mine st p) → (p : Post) → IsIn p (asking_last st ps) → Mine st p
-  asking-mine [] f p i = absurd i
-  asking-mine (q ∷ rest) f p i = elim (in-append (q ∷ rest) (poll_post st ∷ []) p i) [
-    | inl j ↦ f p j
-    | inr j ↦ one st (poll_post st) (ap Server shaped.id, omega arith) p j
-  ]
+  asking-mine [] f = f
+  asking-mine (q ∷ rest) f = each-append (Mine st) (q ∷ rest) (poll_post st ∷ []) f (each-one (Mine st) (poll_post st) (ap Server shaped.id, omega arith))
 
   -- Tick
   ticks : Does s st May (tick_step space st)
-  ticks = says _ (asking-mine (flat_map (replica_tick space st) st.replicas) (λ p i. (let r = in-flat_map (replica_tick space st) st.replicas p i in replica-mine r.0 r.1 p r.2)))
+  ticks = says _ (asking-mine (flat_map (replica_tick space st) st.replicas) (each-flat (Mine st) (replica_tick space st) st.replicas replica-mine))
 
   -- what a replica posts when a configuration is adopted, with the server that it has become
   adopted-mine : (after : ServerState) → after.config ≡ st.config → ((g : RegionId) → Installed st g → Installed after g) → (r : Replica) → IsIn r st.replicas → (p : Post) → IsIn p (adopted_posts space st r) → Mine after p
-  adopted-mine after e up r i p j =
-      let a = in-provided (is_active st.config r) (snap_posts st r ++ flat_map (resumed_posts (context_of space st r.region)) r.states ++ ready_post st r.region) p j in
-      let b = active-is r a.0 in
-      let h : Installed after r.region = up r.region (record { replica = r; found = listed-found r i; installed = b.0 }) in
-      elim (in-append (snap_posts st r ++ flat_map (resumed_posts (context_of space st r.region)) r.states) (ready_post st r.region) p a.1) [
-        | inl k ↦ elim (in-append (snap_posts st r) (flat_map (resumed_posts (context_of space st r.region)) r.states) p k) [
-          | inl m ↦ snap-mine after r e h b.1 p m
-          | inr m ↦ (let c = in-flat_map (resumed_posts (context_of space st r.region)) r.states p m in of-slot after r.region e p (resumed-of (context_of space st r.region) c.0 p c.2))
-        ]
-        | inr k ↦ ready-mine after r.region e h p k
-      ]
+  adopted-mine after e up r i =
+      active-mine after e up r i (flat_map (resumed_posts (context_of space st r.region)) r.states)
+      (each-flat (Mine after) (resumed_posts (context_of space st r.region)) r.states (λ t j p k. of-slot after r.region e p (resumed-of (context_of space st r.region) t p k)))
 
 -- Install
 installs-does : (space : Space) (s : ServerId) (st : ServerState) → Shaped s st → (May : Config → Type 0) (config : Config) → May config → Does s st May (install_at space st config)

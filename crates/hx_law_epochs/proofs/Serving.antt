@@ -1,12 +1,9 @@
 -- A server's step keeps what holds of epochs.
-use Rattle.std.proofs.Common.{◌≡◌, ◌≤◌, ◌⊎◌, inl, inr, Bool, true, false, not, ◌&&◌, List, [], ◌∷◌, ◌++◌, Option, Some, None, refl, sym, ap, ◌∙◌, subst, arith}
-use Rattle.std.proofs.lemmas.Bool.{and_parts, cases_Bool, cases_eq, eqb-true, false≢true}
-use Rattle.hx_model.specs.Types.{Actor, Config, Epoch, Member, Message, Post, RegionId, Server, ServerId, Space}
+use Rattle.hx_law_lemmas.proofs.Lemmas.Vocabulary.{[], Actor, and_parts, any_ready, ap, arith, Bool, cases_Bool, cases_eq, Config, Epoch, eqb-true, false}
+use Rattle.hx_law_lemmas.proofs.Lemmas.Vocabulary.{false≢true, first_of_list, head_of, inl, inr, is_key_region, is_lost, is_server, IsBefore, IsIn, leads, List}
+use Rattle.hx_law_lemmas.proofs.Lemmas.Vocabulary.{lists, lists_ready, Member, members_of, Message, None, not, Option, Post, refl, RegionId, Server, ServerId}
+use Rattle.hx_law_lemmas.proofs.Lemmas.Vocabulary.{ServerState, ServerStep, Some, Space, subst, sym, true, when_some, ◌&&◌, ◌++◌, ◌∙◌, ◌∷◌, ◌≡◌, ◌≤◌, ◌⊎◌}
 use Rattle.hx_types.specs.declared.messages.Message.TheVariants as a_message
-use Rattle.hx_types.specs.Words.{IsBefore, IsIn, first_of_list, when_some}
-use Rattle.hx_types.specs.Configs.{any_ready, head_of, is_lost, is_server, leads, lists, lists_ready, members_of}
-use Rattle.hx_types.specs.Subspaces.{is_key_region}
-use Rattle.hx_model.specs.ServerSteps.{ServerState, ServerStep}
 use Rattle.hx_law_lemmas.proofs.Lemmas.{any-in, in-append, in-listed, listed-in}
 use Rattle.hx_law_epochs.specs.Epochs.{order}
 use Rattle.hx_law_epochs.proofs.Next.{IsOrderly}

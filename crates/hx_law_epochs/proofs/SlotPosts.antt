@@ -1,19 +1,13 @@
 -- What a server posts of one slot: updates and acknowledgements of its own epoch, and replies.
-use Rattle.std.proofs.Common.{◌≡◌, ℕ, inl, inr, List, [], ◌∷◌, ◌++◌, Option, Some, None, refl, sym, subst, leb}
-use Rattle.std.specs.Prelude.{⊤}
-use Rattle.std.specs.List.{flat_map}
-use Rattle.std.proofs.lemmas.Bool.{cond_both}
-use Rattle.hx_model.specs.Types.{At, Blocked, Caller, Config, Decision, End, Epoch, Hop, Message, Op, Post, Server, Update, Version}
+use Rattle.hx_law_lemmas.proofs.Lemmas.Vocabulary.{[], accepting, ack_step, ack_to, Acknowledge, At, Blocked, by_moves, by_posts, call_step, Caller, Commit}
+use Rattle.hx_law_lemmas.proofs.Lemmas.Vocabulary.{cond_both, Config, config_noted, decide, decided, Decision, doubt_in, doubts_from, End, Epoch, flat_map}
+use Rattle.hx_law_lemmas.proofs.Lemmas.Vocabulary.{Forget, get_step, Hold, Hop, inl, inr, is_write, IsIn, KeyState, known_to, leader_doubts, leads, leb, List}
+use Rattle.hx_law_lemmas.proofs.Lemmas.Vocabulary.{Message, Move, move_posts, moved_all, next_at, None, offered, Op, Option, passed_on, pending_of, Post}
+use Rattle.hx_law_lemmas.proofs.Lemmas.Vocabulary.{prev_at, refl, resumed, resumed_posts, Server, SlotContext, SlotStep, Some, stuck_of, StuckAt, subst, sym}
+use Rattle.hx_law_lemmas.proofs.Lemmas.Vocabulary.{Take, told_to, Update, update_step, update_to, Version, waiting_doubt, write_step, ℕ, ⊤, ◌++◌, ◌∷◌, ◌≡◌}
 use Rattle.hx_types.specs.declared.messages.Message.TheVariants as a_message
 use Rattle.hx_types.specs.declared.outcomes.Decision.TheVariants as a_decision
-use Rattle.hx_types.specs.Words.{IsIn}
-use Rattle.hx_types.specs.Effects.{is_write}
-use Rattle.hx_types.specs.Configs.{leads}
-use Rattle.hx_model.specs.Causes.{config_noted}
-use Rattle.hx_model.specs.Leading.{StuckAt, decide, stuck_of}
-use Rattle.hx_model.specs.Slots.{Acknowledge, Commit, Forget, Hold, KeyState, Move, Take, moved_all, offered, pending_of}
-use Rattle.hx_model.specs.ServerSteps.{SlotStep, SlotContext, accepting, ack_step, ack_to, by_moves, by_posts, call_step, decided, doubt_in, doubts_from, get_step, known_to, leader_doubts, move_posts, next_at, passed_on, prev_at, resumed, resumed_posts, told_to, update_step, update_to, waiting_doubt, write_step}
-use Rattle.hx_law_lemmas.proofs.Lemmas.{in-append, in-flat_map, in-map, in-provided}
+use Rattle.hx_law_lemmas.proofs.Lemmas.{each-append, each-provided, in-flat_map, in-map, in-provided}
 
 -- a message between replicas is of this epoch, and others are replies
 abbrev pub SlotSays : Config → Message → Type 0
@@ -114,7 +108,7 @@ module _ (context : SlotContext) where
 
   -- a slot goes on in a new configuration
   pub resumed-of : (s : KeyState) (p : Post) → IsIn p (resumed_posts context s) → OfSlot p
-  resumed-of s p i = elim (in-append (flat_map (passed_on context) (pending_of s) ++ flat_map (move_posts context) (resumed context s)) (leader_doubts context (moved_all (resumed context s) s)) p i) [
-    | inl j ↦ elim (in-append (flat_map (passed_on context) (pending_of s)) (flat_map (move_posts context) (resumed context s)) p j) [ inl k ↦ pending-of (pending_of s) p k | inr k ↦ moves-of (resumed context s) p k ]
-    | inr j ↦ doubts-of (moved_all (resumed context s) s) (stuck_of context.config (moved_all (resumed context s) s)) p (in-provided (leads context.space context.config context.server context.region) _ p j).1
-  ]
+  resumed-of s =
+      each-append OfSlot (flat_map (passed_on context) (pending_of s) ++ flat_map (move_posts context) (resumed context s)) (leader_doubts context (moved_all (resumed context s) s))
+      (each-append OfSlot (flat_map (passed_on context) (pending_of s)) (flat_map (move_posts context) (resumed context s)) (pending-of (pending_of s)) (moves-of (resumed context s)))
+      (each-provided OfSlot (leads context.space context.config context.server context.region) _ (doubts-of (moved_all (resumed context s) s) (stuck_of context.config (moved_all (resumed context s) s))))

@@ -1,11 +1,7 @@
 -- What is kept of epochs stays so where more is posted and where one more configuration is known, which follows on the newest.
-use Rattle.std.proofs.Common.{◌≡◌, ◌+◌, ◌≤◌, ◌⊎◌, inl, inr, true, List, ◌++◌, sym, ap, ◌∙◌, subst, arith}
-use Rattle.std.proofs.lemmas.Bool.{false≢true}
-use Rattle.hx_model.specs.Types.{Actor, Config, Coordinator, Epoch, Message, Post, RegionId, Server, ServerId, Session}
+use Rattle.hx_law_lemmas.proofs.Lemmas.Vocabulary.{Actor, ap, arith, Config, Coordinator, Epoch, false≢true, inl, inr, IsIn, List, lists_ready, Message, Post}
+use Rattle.hx_law_lemmas.proofs.Lemmas.Vocabulary.{RegionId, Server, ServerId, ServerState, Session, subst, sym, true, ◌++◌, ◌+◌, ◌∙◌, ◌≡◌, ◌≤◌, ◌⊎◌}
 use Rattle.hx_types.specs.declared.messages.Message.TheVariants as a_message
-use Rattle.hx_types.specs.Words.{IsIn}
-use Rattle.hx_types.specs.Configs.{lists_ready}
-use Rattle.hx_model.specs.ServerSteps.{ServerState}
 use Rattle.hx_law_lemmas.proofs.Lemmas.{in-append}
 use Rattle.hx_law_epochs.specs.Epochs.{FollowsOn}
 use Rattle.hx_law_epochs.proofs.Facts.{EpochsKept, FromServer, Installed, NoLater, Says, SendsSnapshot}

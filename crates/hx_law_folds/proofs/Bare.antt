@@ -1,17 +1,15 @@
 -- A slot without a past, as code keeps it: what its moves leave.
-use Rattle.hx_model.specs.Lines.{upto}
-use Rattle.std.proofs.Common.{◌≡◌, ℕ, zero, suc, ◌<◌, ◌≤◌, Bool, true, false, List, [], ◌∷◌, ◌++◌, length, refl, ap, sym, ◌∙◌, subst, arith, leb, append-nil}
-use Rattle.std.specs.Prelude.{⊤}
-use Rattle.std.specs.List.{AllByRecursion, find}
-use Rattle.std.proofs.lemmas.Bool.{cond_both, cond-true, cond-false, lt-leb, le-leb}
-use Rattle.hx_model.specs.Types.{Kept, RegionId, Update}
-use Rattle.hx_types.specs.Words.{provided}
-use Rattle.hx_model.specs.Slots.{Acknowledge, Commit, Forget, Hold, KeyState, Move, Take, follows, kept_row, marks_after, moved, moved_all, offered, top_above, top_of, touches_after, turns}
-use Rattle.hx_model.specs.ServerSteps.{state_from}
-use Rattle.hx_law_folds.specs.Folding.{Descends, IsBare, IsLater, IsSlotOf, above, folded, kept_over}
+use Rattle.hx_law_folds.proofs.Vocabulary.{[], above, Acknowledge, AllByRecursion, ap, append-nil, arith, Bool, Commit, cond-false, cond-true, cond_both}
+use Rattle.hx_law_folds.proofs.Vocabulary.{Descends, false, find, folded, follows, Forget, Hold, IsBare, IsLater, IsSlotOf, Kept, kept_row, KeyState, le-leb}
+use Rattle.hx_law_folds.proofs.Vocabulary.{leb, length, List, lt-leb, marks_after, Move, moved, moved_all, offered, provided, refl, RegionId, state_from, subst}
+use Rattle.hx_law_folds.proofs.Vocabulary.{suc, sym, Take, top_above, top_of, touches_after, true, turns, Update, upto, zero, ℕ, ⊤, ◌++◌, ◌<◌, ◌∙◌, ◌∷◌, ◌≡◌}
+use Rattle.hx_law_folds.proofs.Vocabulary.{◌≤◌}
+use Rattle.hx_law_folds.specs.Folding.{kept_over}
 use Rattle.hx_law_folds.proofs.Folds.{folded-twice, marks-parts, touches-parts}
 use Rattle.hx_law_folds.proofs.Lists.{row-append, top-append}
-use Rattle.hx_law_folds.proofs.Slots.{AllFit, offered-fit, stands-below, when_some_both}
+use Rattle.hx_law_folds.proofs.Lists.{when_some_both}
+use Rattle.hx_law_folds.proofs.Moves.{offered-good}
+use Rattle.hx_law_folds.proofs.Slots.{AllFit, fit-walk, stands-below}
 
 -- a slot without a past is what it is without it
 pub bare-folded : (g : RegionId) (s : KeyState) → IsBare g s → folded g s ≡ s
@@ -60,7 +58,7 @@ offered-nothing g s u =
 pub bare-offered : (g : RegionId) (s : KeyState) (u : Update) → IsSlotOf g s → IsBare g s → IsLater g u → folded g (moved_all (offered g s u) s) ≡ moved_all (offered g s u) s
 bare-offered g s u h b l =
     bare-folded g (moved_all (offered g s u) s)
-    (bare-moved_all g (offered g s u) s (stands-below s.base.floor.0 s.floor s.accepted h.descends h.floor) (offered-nothing g s u) (offered-fit g s u h l) b)
+    (bare-moved_all g (offered g s u) s (stands-below s.base.floor.0 s.floor s.accepted h.descends h.floor) (offered-nothing g s u) (offered-good (fit-walk g) s u h l) b)
 
 -- what is above the newest of some older updates
 top-grows : (b : ℕ) (ns os : List Update) → Descends b (ns ++ os) → top_above b os ≤ top_above b (ns ++ os)

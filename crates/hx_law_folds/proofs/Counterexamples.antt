@@ -1,12 +1,8 @@
 -- What is false without the premises, by computing: both sides of each claim, and they differ.
-use Rattle.std.specs.Option.{option_map}
-use Rattle.std.specs.Prelude.{◌≡◌, ℕ, Bool, true, false, List, [], ◌∷◌, length, Option, Some, None}
+use Rattle.hx_law_folds.proofs.Vocabulary.{[], Bool, Commit, false, folded, kept_of, KeyState, latest_of, length, List, Mark, mark_among, mark_of, marks_after}
+use Rattle.hx_law_folds.proofs.Vocabulary.{moved, moved_all, no_kept, None, object_of, offered_all, Option, option_map, pending_of, refl, RegionId, Row}
+use Rattle.hx_law_folds.proofs.Vocabulary.{SessionId, snapshot_of, Some, state_from, top_of, touches_of, true, Update, ℕ, ◌∷◌, ◌≡◌}
 use Rattle.hx_types.specs.declared.calls.Answer.TheVariants as an_answer
-use Rattle.hx_model.specs.Types.{Mark, RegionId, Row, SessionId, Update}
-use Rattle.hx_model.specs.ServerSteps.{offered_all, state_from}
-use Rattle.hx_model.specs.Slots.{Commit, KeyState, kept_of, latest_of, mark_among, mark_of, marks_after, moved, moved_all, no_kept, object_of, pending_of, snapshot_of, top_of, touches_of}
-use Rattle.hx_law_folds.specs.Folding.{folded}
-use Rattle.std.proofs.Common.{refl}
 
 abbrev here : RegionId
 here = record { 0 = 0 }

@@ -1,19 +1,16 @@
 -- A leader's decision on a write by what the slot shows alone.
-use Rattle.std.proofs.Common.{◌≡◌, ℕ, ◌+◌, ◌<◌, true, false, List, [], ◌∷◌, Option, Some, None, refl, sym, ◌∙◌, subst, arith, cond, eqb, leb, ltb}
-use Rattle.std.specs.Prelude.{⊤}
-use Rattle.std.specs.Option.{IfSome, option_map}
-use Rattle.std.proofs.lemmas.Bool.{cond_both, cond-true, eq-eqb}
-use Rattle.hx_model.specs.Types.{Caller, Config, Decision, Effect, Mark, Op, Place, RegionId, Space, Touch, Update, Value}
+use Rattle.hx_law_folds.proofs.Vocabulary.{[], arith, Caller, cond, cond-true, cond_both, Config, decide, Decision, eq-eqb, eqb, false, IfSome, IsLater}
+use Rattle.hx_law_folds.proofs.Vocabulary.{key_region, KeyState, latest_of, leb, List, ltb, Mark, mark_of, None, Op, Option, option_map, pending_of, Place}
+use Rattle.hx_law_folds.proofs.Vocabulary.{place_in, refl, RegionId, same_region, ShowSame, Some, Space, stuck_among, StuckAt, subst, sym, top_of, Touch}
+use Rattle.hx_law_folds.proofs.Vocabulary.{touches_of, true, Update, when_some, ℕ, ⊤, ◌<◌, ◌∙◌, ◌∷◌, ◌≡◌}
+use Rattle.std.proofs.Common.{◌+◌}
+use Rattle.hx_model.specs.Types.{Effect, Value}
 use Rattle.hx_types.specs.declared.calls.Answer.TheVariants as an_answer
 use Rattle.hx_types.specs.declared.outcomes.Decision.TheVariants as a_decision
-use Rattle.hx_types.specs.Words.{same_region, when_some}
 use Rattle.hx_types.specs.Effects.{effect_of}
-use Rattle.hx_model.specs.Leading.{StuckAt, decide, first_lost, stuck_among}
+use Rattle.hx_model.specs.Leading.{first_lost}
 use Rattle.hx_model.specs.Places.{key_place, places_of}
-use Rattle.hx_model.specs.Regions.{key_region}
-use Rattle.hx_model.specs.Slots.{KeyState, latest_of, mark_of, pending_of, place_in, top_of, touches_of}
-use Rattle.hx_law_folds.specs.Folding.{IsLater, ShowSame}
-use Rattle.hx_law_folds.proofs.Slots.{when_some_both}
+use Rattle.hx_law_folds.proofs.Lists.{when_some_both}
 
 abbrev granted_by : List ℕ → ℕ → Caller → Effect → List Place → Update
 granted_by key top caller e places =
@@ -59,10 +56,28 @@ decide-same space config g s t m a caller op =
 -- what is assigned comes after a lower version at its key's region
 abbrev pub IfAssigned : (Update → Type 0) → Decision → Type 0
 IfAssigned P (a_decision.Assign u) = P u
-IfAssigned P a_decision.Old = ⊤
-IfAssigned P (a_decision.Again v answer) = ⊤
-IfAssigned P (a_decision.Wait v) = ⊤
-IfAssigned P (a_decision.Stuck g) = ⊤
+IfAssigned P other = ⊤
+
+-- what holds of the update that would be assigned
+decide-of : (P : Update → Type 0) (space : Space) (config : Config) (g : RegionId) (s : KeyState) (caller : Caller) (op : Op)
+    → P (assigned_by space config s.base.key (top_of s) (touches_of s) (latest_of g s) caller op) → IfAssigned P (decide space config g s caller op)
+decide-of P space config g s caller op a =
+    by (mark_of caller.session s)
+  where
+    fresh : IfAssigned P (fresh_by space config s.base.key (top_of s) (pending_of s) (touches_of s) (latest_of g s) caller op)
+    fresh = when_some_both (stuck_among config (pending_of s)) _ _ (IfAssigned P) (λ q. a) (λ x q. tt)
+
+    by : (mark : Option Mark)
+        → IfAssigned P (decided_by space config s.base.key s.floor (top_of s) (pending_of s) (touches_of s) (latest_of g s) caller op mark)
+    by None = fresh
+    by (Some m) =
+        cond_both (ltb caller.number m.number) a_decision.Old _ (IfAssigned P)
+        (λ e. tt)
+        (
+        λ e. cond_both (eqb m.number caller.number) _ _ (IfAssigned P)
+        (λ b. cond_both (leb m.version.0 s.floor) (a_decision.Again m.version m.answer) (a_decision.Wait m.version) (IfAssigned P) (λ q. tt) (λ q. tt))
+        (λ b. fresh)
+        )
 
 granted-later : (space : Space) (key : List ℕ) (top : ℕ) (caller : Caller) (e : Effect) (new : Option (List Value)) (rest : List Place)
     → IsLater (key_region space key) (granted_by key top caller e (key_place space key new top ∷ rest))
@@ -80,29 +95,10 @@ assigned-later space config key top touches old caller op =
     (λ q. granted-later space key top caller e e.object _)
     (λ g q. granted-later space key top caller (record { object = old; answer = an_answer.Refused g config.epoch; changes = false }) old [])
 
-fresh-later : (space : Space) (config : Config) (key : List ℕ) (top : ℕ) (pending : List Update) (touches : List Touch) (old : Option (List Value)) (caller : Caller) (op : Op)
-    → IfAssigned (IsLater (key_region space key)) (fresh_by space config key top pending touches old caller op)
-fresh-later space config key top pending touches old caller op =
-    when_some_both (stuck_among config pending) _ _ (IfAssigned (IsLater (key_region space key)))
-    (λ q. assigned-later space config key top touches old caller op)
-    (λ x q. tt)
-
-decided-later : (space : Space) (config : Config) (key : List ℕ) (floor top : ℕ) (pending : List Update) (touches : List Touch) (old : Option (List Value)) (caller : Caller) (op : Op) (mark : Option Mark)
-    → IfAssigned (IsLater (key_region space key)) (decided_by space config key floor top pending touches old caller op mark)
-decided-later space config key floor top pending touches old caller op None = fresh-later space config key top pending touches old caller op
-decided-later space config key floor top pending touches old caller op (Some m) =
-    cond_both (ltb caller.number m.number) a_decision.Old _ (IfAssigned (IsLater (key_region space key)))
-    (λ e. tt)
-    (
-    λ e. cond_both (eqb m.number caller.number) _ _ (IfAssigned (IsLater (key_region space key)))
-    (λ b. cond_both (leb m.version.0 floor) (a_decision.Again m.version m.answer) (a_decision.Wait m.version) (IfAssigned (IsLater (key_region space key))) (λ q. tt) (λ q. tt))
-    (λ b. fresh-later space config key top pending touches old caller op)
-    )
-
 pub decide-later : (space : Space) (config : Config) (g : RegionId) (s : KeyState) → g ≡ key_region space s.base.key → (caller : Caller) (op : Op) → IfAssigned (IsLater g) (decide space config g s caller op)
 decide-later space config g s e caller op =
     subst (λ (h : RegionId). IfAssigned (IsLater h) (decide space config g s caller op)) (sym e)
-    (decided-later space config s.base.key s.floor (top_of s) (pending_of s) (touches_of s) (latest_of g s) caller op (mark_of caller.session s))
+    (decide-of (IsLater (key_region space s.base.key)) space config g s caller op (assigned-later space config s.base.key (top_of s) (touches_of s) (latest_of g s) caller op))
 
 -- and it is of the slot's key
 assigned-key : (space : Space) (config : Config) (key : List ℕ) (top : ℕ) (touches : List Touch) (old : Option (List Value)) (caller : Caller) (op : Op)
@@ -112,24 +108,6 @@ assigned-key space config key top touches old caller op =
     let places = places_of space key old e.object e.changes top touches in
     when_some_both (first_lost config places) (granted_by key top caller e places) (refused_by space config key top caller old) (λ (u : Update). u.key ≡ key) (λ q. refl) (λ g q. refl)
 
-fresh-key : (space : Space) (config : Config) (key : List ℕ) (top : ℕ) (pending : List Update) (touches : List Touch) (old : Option (List Value)) (caller : Caller) (op : Op)
-    → IfAssigned (λ (u : Update). u.key ≡ key) (fresh_by space config key top pending touches old caller op)
-fresh-key space config key top pending touches old caller op =
-    when_some_both (stuck_among config pending) (a_decision.Assign (assigned_by space config key top touches old caller op)) (λ (x : StuckAt). a_decision.Stuck x.region) (IfAssigned (λ (u : Update). u.key ≡ key))
-    (λ q. assigned-key space config key top touches old caller op)
-    (λ x q. tt)
-
-decided-key : (space : Space) (config : Config) (key : List ℕ) (floor top : ℕ) (pending : List Update) (touches : List Touch) (old : Option (List Value)) (caller : Caller) (op : Op) (mark : Option Mark)
-    → IfAssigned (λ (u : Update). u.key ≡ key) (decided_by space config key floor top pending touches old caller op mark)
-decided-key space config key floor top pending touches old caller op None = fresh-key space config key top pending touches old caller op
-decided-key space config key floor top pending touches old caller op (Some m) =
-    cond_both (ltb caller.number m.number) a_decision.Old _ (IfAssigned (λ (u : Update). u.key ≡ key))
-    (λ e. tt)
-    (
-    λ e. cond_both (eqb m.number caller.number) _ _ (IfAssigned (λ (u : Update). u.key ≡ key))
-    (λ b. cond_both (leb m.version.0 floor) (a_decision.Again m.version m.answer) (a_decision.Wait m.version) (IfAssigned (λ (u : Update). u.key ≡ key)) (λ q. tt) (λ q. tt))
-    (λ b. fresh-key space config key top pending touches old caller op)
-    )
-
 pub decide-key : (space : Space) (config : Config) (g : RegionId) (s : KeyState) (caller : Caller) (op : Op) → IfAssigned (λ (u : Update). u.key ≡ s.base.key) (decide space config g s caller op)
-decide-key space config g s caller op = decided-key space config s.base.key s.floor (top_of s) (pending_of s) (touches_of s) (latest_of g s) caller op (mark_of caller.session s)
+decide-key space config g s caller op =
+    decide-of (λ (u : Update). u.key ≡ s.base.key) space config g s caller op (assigned-key space config s.base.key (top_of s) (touches_of s) (latest_of g s) caller op)

@@ -1,10 +1,8 @@
 -- What a slot shows is what it shows without its past, and moves keep it so.
-use Rattle.hx_model.specs.Lines.{upto}
-use Rattle.std.proofs.Common.{◌≡◌, ℕ, ◌≤◌, Bool, true, false, List, [], ◌∷◌, ◌++◌, Option, refl, ap, sym, ◌∙◌, arith}
-use Rattle.hx_model.specs.Types.{Mark, RegionId, Row, SessionId, Touch, Update}
-use Rattle.hx_types.specs.Words.{provided}
-use Rattle.hx_model.specs.Slots.{Acknowledge, Commit, Forget, Hold, KeyState, Move, Take, kept_of, kept_row, latest_of, mark_among, mark_of, marks_after, moved, object_in, object_of, pending_of, top_above, top_of, touches_after, touches_of}
-use Rattle.hx_law_folds.specs.Folding.{AreAlike, MayFollow, Stands, above, folded}
+use Rattle.hx_law_folds.proofs.Vocabulary.{[], above, Acknowledge, ap, AreAlike, arith, Bool, Commit, false, folded, Forget, Hold, kept_of, kept_row, KeyState}
+use Rattle.hx_law_folds.proofs.Vocabulary.{latest_of, List, Mark, mark_among, mark_of, marks_after, MayFollow, Move, moved, object_in, object_of, Option}
+use Rattle.hx_law_folds.proofs.Vocabulary.{pending_of, provided, refl, RegionId, Row, SessionId, Stands, sym, Take, top_above, top_of, Touch, touches_after}
+use Rattle.hx_law_folds.proofs.Vocabulary.{touches_of, true, Update, upto, ℕ, ◌++◌, ◌∙◌, ◌∷◌, ◌≡◌, ◌≤◌}
 use Rattle.hx_law_folds.proofs.Lists.{above-later, marks-append, parted, pending-above, row-append, top-append, touches-append, upto-above, upto-later}
 
 -- folds of the marks and touches that are kept, in two parts

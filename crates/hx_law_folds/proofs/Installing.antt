@@ -1,19 +1,15 @@
 -- The slots of a joiner that installed a snapshot with its pending updates: each is the sender's without its past, as it goes on in the joiner's place.
-use Rattle.std.proofs.Common.{◌≡◌, ℕ, Bool, true, false, ◌||◌, List, [], ◌∷◌, map, refl, ap, sym, ◌∙◌, subst, cond}
-use Rattle.std.specs.Prelude.{⊤}
-use Rattle.std.specs.List.{AllByRecursion, filter, list_any}
-use Rattle.std.proofs.lemmas.Bool.{cond_both, cond-true, cond-false}
-use Rattle.hx_model.specs.Types.{Kept, RegionId, Update}
-use Rattle.hx_types.specs.Subspaces.{is_key_region}
-use Rattle.hx_types.specs.Words.{same_text, text_below}
-use Rattle.hx_model.proofs.Lemmas.{base-moved_all, eq_of_same_text, found_same, others_stay, same_text_self}
-use Rattle.hx_model.specs.Holders.{kept_among}
-use Rattle.hx_model.specs.ServerSteps.{Slots, SlotContext, accepting, installed_slots, join_keys, join_slot, keys_of, offered_all, resumed, state_from, with_key}
-use Rattle.hx_model.specs.Slots.{KeyState, kept_of, moved_all, new_state, no_kept, pending_of, pending_of_all, snapshot_of, state_among}
-use Rattle.hx_law_folds.specs.Folding.{InTurn, CanBeSent, CanJoin, IsSlotOf, KeysDiffer, folded}
-use Rattle.hx_law_folds.specs.Laws.{joining, over}
+use Rattle.hx_law_folds.proofs.Vocabulary.{[], accepting, AllByRecursion, ap, base-moved_all, Bool, CanBeSent, CanJoin, cond, cond-false, cond-true, cond_both}
+use Rattle.hx_law_folds.proofs.Vocabulary.{eq_of_same_text, false, filter, folded, installed_slots, InTurn, is_key_region, IsSlotOf, join_keys, join_slot}
+use Rattle.hx_law_folds.proofs.Vocabulary.{joining, Kept, kept_among, kept_of, keys_of, KeysDiffer, KeyState, List, list_any, map, moved_all, new_state}
+use Rattle.hx_law_folds.proofs.Vocabulary.{no_kept, offered_all, over, pending_of, pending_of_all, refl, RegionId, resumed, same_text, same_text_self}
+use Rattle.hx_law_folds.proofs.Vocabulary.{SlotContext, Slots, snapshot_of, state_among, state_from, subst, sym, text_below, true, Update, ℕ, ⊤, ◌∙◌, ◌∷◌, ◌≡◌}
+use Rattle.std.proofs.Common.{◌||◌}
+use Rattle.hx_model.proofs.Lemmas.{found_same, others_stay}
+use Rattle.hx_model.specs.ServerSteps.{with_key}
 use Rattle.hx_law_folds.proofs.Joining.{joining-state}
-use Rattle.hx_law_folds.proofs.Slots.{all-weaker, slot-new}
+use Rattle.hx_law_folds.proofs.Lists.{all-weaker}
+use Rattle.hx_law_folds.proofs.Slots.{slot-new}
 use Rattle.hx_law_folds.proofs.Snapshots.{among-marks, kept-sent, pending-sent}
 use Rattle.hx_law_folds.proofs.States.{among-key}
 use Rattle.hx_law_folds.proofs.Texts.{above, below-differs, below-trans}

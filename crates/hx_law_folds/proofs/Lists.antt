@@ -1,10 +1,45 @@
--- Lists of updates parted at a version, and folds over them.
-use Rattle.hx_model.specs.Lines.{upto}
-use Rattle.std.proofs.Common.{◌≡◌, ℕ, ◌≤◌, false, List, [], ◌∷◌, ◌++◌, Option, refl, ap, sym, ◌∙◌, arith, cond, leb, append_assoc}
-use Rattle.std.proofs.lemmas.Bool.{cond_both, cond-true, cond-false, leb-true, le-leb}
-use Rattle.hx_model.specs.Types.{Mark, RegionId, Row, Touch, Update}
-use Rattle.hx_model.specs.Slots.{kept_after, kept_row, mark_by, marks_after, pending_above, top_above, touches_after, with_mark, with_touches}
-use Rattle.hx_law_folds.specs.Folding.{above}
+-- What holds of all of a list; lists of updates parted at a version, and folds over them.
+use Rattle.hx_law_folds.proofs.Vocabulary.{[], above, AllByRecursion, ap, append_assoc, arith, Bool, cond, cond-false, cond-true, cond_both, false, filter}
+use Rattle.hx_law_folds.proofs.Vocabulary.{find, kept_row, le-leb, leb, leb-true, List, map, Mark, marks_after, None, Option, pending_above, refl, RegionId}
+use Rattle.hx_law_folds.proofs.Vocabulary.{Row, Some, subst, sym, top_above, Touch, touches_after, true, Update, upto, when_some, ℕ, ◌++◌, ◌∙◌, ◌∷◌, ◌≡◌, ◌≤◌}
+use Rattle.hx_model.specs.Slots.{kept_after, mark_by, with_mark, with_touches}
+
+-- what holds of all of a list
+pub all-append : {A : Type 0} (P : A → Type 0) (xs ys : List A) → AllByRecursion P xs → AllByRecursion P ys → AllByRecursion P (xs ++ ys)
+all-append P [] ys h k = k
+all-append P (x ∷ xs) ys h k = (h.0, all-append P xs ys h.1 k)
+
+pub all-weaker : {A : Type 0} (P Q : A → Type 0) → ((x : A) → P x → Q x) → (xs : List A) → AllByRecursion P xs → AllByRecursion Q xs
+all-weaker P Q f [] h = tt
+all-weaker P Q f (x ∷ xs) h = (f x h.0, all-weaker P Q f xs h.1)
+
+pub all-filter : {A : Type 0} (P : A → Type 0) (test : A → Bool) (xs : List A) → AllByRecursion P xs → AllByRecursion P (filter test xs)
+all-filter P test [] h = tt
+all-filter P test (x ∷ xs) h =
+    cond_both (test x) (x ∷ filter test xs) (filter test xs) (AllByRecursion P)
+    (λ e. (h.0, all-filter P test xs h.1))
+    (λ e. all-filter P test xs h.1)
+
+-- the same of what is found
+pub all-find : {A : Type 0} (P : A → Type 0) (test : A → Bool) (xs : List A) (x : A) → AllByRecursion P xs → find test xs ≡ Some x → P x × (test x ≡ true)
+all-find P test [] x h = λ e. absurd (cc)
+all-find P test (y ∷ xs) x h =
+    cond_both (test y) (Some y) (find test xs) (λ o. o ≡ Some x → P x × (test x ≡ true))
+    (λ b e. let s : y ≡ x = cc in (subst P s h.0, ap test (sym s) ∙ b))
+    (λ b e. all-find P test xs x h.1 e)
+
+pub all-map : {A B : Type 0} (P : A → Type 0) (Q : B → Type 0) (f : A → B) → ((x : A) → P x → Q (f x)) → (xs : List A) → AllByRecursion P xs
+    → AllByRecursion Q (map f xs)
+all-map P Q f k [] h = tt
+all-map P Q f k (x ∷ xs) h = (k x h.0, all-map P Q f k xs h.1)
+
+pub all-made : {A B : Type 0} (Q : B → Type 0) (f : A → B) → ((x : A) → Q (f x)) → (xs : List A) → AllByRecursion Q (map f xs)
+all-made Q f k [] = tt
+all-made Q f k (x ∷ xs) = (k x, all-made Q f k xs)
+
+pub when_some_both : {A B : Type 0} (o : Option A) (d : B) (g : A → B) (P : B → Type 0) → (o ≡ None → P d) → ((x : A) → o ≡ Some x → P (g x)) → P (when_some o d g)
+when_some_both None d g P n f = n refl
+when_some_both (Some x) d g P n f = f x refl
 
 -- what is above a version and what is up to it are the list
 pub parted : (v : ℕ) (us : List Update) → above v us ++ upto v us ≡ us

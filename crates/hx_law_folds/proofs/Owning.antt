@@ -1,120 +1,77 @@
 -- Slots of updates of their own keys, in order and in turn: the steps of a slot keep them so, and such slots can be sent to a joiner.
-use Rattle.hx_model.specs.Lines.{upto}
-use Rattle.std.proofs.Common.{◌≡◌, ℕ, zero, suc, ◌<◌, Bool, true, false, List, [], ◌∷◌, ◌++◌, map, length, None, refl, ap, sym, ◌∙◌, subst, arith, cond, eqb, leb, not}
-use Rattle.std.specs.Prelude.{⊤}
-use Rattle.std.specs.List.{AllByRecursion, filter, find, list_any}
-use Rattle.std.proofs.lemmas.Bool.{cond_both, cond-false, lt-leb}
-use Rattle.hx_model.specs.Types.{Caller, Decision, Kept, Op, RegionId, Update}
-use Rattle.hx_types.specs.declared.outcomes.Decision.TheVariants as a_decision
-use Rattle.hx_types.specs.Effects.{is_write}
-use Rattle.hx_types.specs.Words.{provided, same_text}
-use Rattle.hx_model.proofs.Lemmas.{base-moved_all, same_text_self}
-use Rattle.hx_model.specs.Leading.{decide}
-use Rattle.hx_model.specs.Neighbours.{is_end}
-use Rattle.hx_model.specs.Regions.{key_region}
-use Rattle.hx_model.specs.ServerSteps.{SlotStep, SlotContext, accepting, ack_step, adopted_state, call_step, decided, tail_acks, next_at, offered_all, resumed, state_from, update_step, with_commits}
-use Rattle.hx_model.specs.Slots.{Acknowledge, Commit, Forget, Hold, KeyState, Move, Take, acknowledged, commits, follows, is_pending, kept_of, kept_row, marks_after, moved, moved_all, new_state, no_kept, offered, pending_of, settled, state_of_kept, taken, top_of, touches_after, turns, waits_below}
-use Rattle.hx_law_folds.specs.Folding.{CanJoin, Descends, IsAfter, IsJoinable, IsLater}
-use Rattle.hx_law_folds.proofs.Deciding.{IfAssigned, decide-key, decide-later}
-use Rattle.hx_law_folds.proofs.Joining.{AllInTurn, accepting-turn, acknowledged-turn, offered-turn, offered_all-turn, resumed-turn, turn-moved_all}
+use Rattle.hx_law_folds.proofs.Vocabulary.{[], accepting, ack_step, adopted_state, AllByRecursion, ap, arith, base-moved_all, Bool, call_step, Caller, CanJoin}
+use Rattle.hx_law_folds.proofs.Vocabulary.{Commit, commits, cond, cond-false, cond_both, Descends, eqb, false, follows, Forget, Hold, InTurn, IsAfter}
+use Rattle.hx_law_folds.proofs.Vocabulary.{IsJoinable, IsLater, Kept, kept_of, kept_row, key_region, KeyState, leb, List, list_any, lt-leb, marks_after, Move}
+use Rattle.hx_law_folds.proofs.Vocabulary.{moved, moved_all, new_state, no_kept, None, offered_all, Op, pending_of, provided, refl, RegionId, resumed}
+use Rattle.hx_law_folds.proofs.Vocabulary.{same_text, same_text_self, SlotContext, state_from, state_of_kept, subst, sym, Take, top_of, touches_after, true}
+use Rattle.hx_law_folds.proofs.Vocabulary.{Update, update_step, upto, ℕ, ⊤, ◌<◌, ◌∙◌, ◌∷◌, ◌≡◌}
+use Rattle.hx_law_folds.proofs.Deciding.{decide-key, decide-later}
 use Rattle.hx_law_folds.proofs.Prefixes.{base-floor, base-top}
-use Rattle.hx_law_folds.proofs.Slots.{AllFit, accepting-fit, all-append, all-filter, all-find, all-weaker, later-of, offered_all-fit, resumed-fit, slot-moved_all, when_some_both}
+use Rattle.hx_law_folds.proofs.Lists.{all-append, all-filter, all-weaker}
+use Rattle.hx_law_folds.proofs.Moves.{AllGood, Walk, ack-good, call-good, joined-good, keeps-all, resumed-good, update-good}
+use Rattle.hx_law_folds.proofs.Slots.{AllFit, fit-walk, later-of}
 use Rattle.hx_law_folds.proofs.States.{marks-moved_all, provided-nothing}
-use Rattle.hx_law_folds.proofs.Steps.{ack-fit, call-fit, update-fit}
-
--- moves of updates of a key
-abbrev pub Own : List ℕ → Move → Type 0
-Own key (Take u) = u.key ≡ key
-Own key (Hold u) = u.key ≡ key
-Own key (Acknowledge v) = ⊤
-Own key (Commit u) = ⊤
-Own key Forget = ⊤
-
-abbrev pub AllOwn : List ℕ → List Move → Type 0
-AllOwn key ms = AllByRecursion (Own key) ms
 
 abbrev OfKey : List ℕ → List Update → Type 0
 OfKey key us = AllByRecursion (λ (u : Update). u.key ≡ key) us
 
--- what a slot holds stays of its key
-own-moved : (key : List ℕ) (m : Move) (s : KeyState) → OfKey key s.accepted → OfKey key s.early → Own key m → OfKey key (moved m s).accepted × OfKey key (moved m s).early
-own-moved key (Take u) s a e o = ((o, a), all-filter (λ (w : Update). w.key ≡ key) _ s.early e)
-own-moved key (Hold u) s a e o = (a, all-append (λ (w : Update). w.key ≡ key) _ (u ∷ []) (all-filter (λ (w : Update). w.key ≡ key) _ s.early e) (o, tt))
-own-moved key (Acknowledge v) s a e o = (a, e)
-own-moved key (Commit u) s a e o = (a, e)
-own-moved key Forget s a e o = (a, tt)
+-- moves of updates of a key, in turn
+abbrev Goes : RegionId → List ℕ → KeyState → Move → Type 0
+Goes g key s (Take u) = (follows g (top_of s) u ≡ true) × (u.key ≡ key)
+Goes g key s (Hold u) = u.key ≡ key
+Goes g key s other = ⊤
 
-own-moved_all : (key : List ℕ) (ms : List Move) (s : KeyState) → OfKey key s.accepted → OfKey key s.early → AllOwn key ms → OfKey key (moved_all ms s).accepted × OfKey key (moved_all ms s).early
-own-moved_all key [] s a e o = (a, e)
-own-moved_all key (m ∷ ms) s a e o = let n = own-moved key m s a e o.0 in own-moved_all key ms (moved m s) n.0 n.1 o.1
+-- a slot whose updates are of a key, and came in turn
+record IsOwn (g : RegionId) (key : List ℕ) (s : KeyState) : Type 0 where
+  turns : InTurn g s.base.floor.0 s.accepted
+  keys : OfKey key s.accepted
+  early : OfKey key s.early
 
--- the moves of the steps are such
-turns-own : (g : RegionId) (key : List ℕ) (n top : ℕ) (early : List Update) → OfKey key early → AllOwn key (turns g n top early)
-turns-own g key zero top early h = tt
-turns-own g key (suc n) top early h =
-    when_some_both (find (follows g top) early) [] (λ (u : Update). Take u ∷ turns g n u.version.0 early) (AllOwn key)
-    (λ q. tt)
-    (λ u q. ((all-find (λ (w : Update). w.key ≡ key) (follows g top) early u h q).0, turns-own g key n u.version.0 early h))
+-- it stays so by such moves
+own-moved : (g : RegionId) (key : List ℕ) (m : Move) (s : KeyState) → IsOwn g key s → Goes g key s m → IsOwn g key (moved m s)
+own-moved g key (Take u) s h f = record { turns = (f.0, h.turns); keys = (f.1, h.keys); early = all-filter (λ (w : Update). w.key ≡ key) _ s.early h.early }
+own-moved g key (Hold u) s h f =
+    record { turns = h.turns; keys = h.keys; early = all-append (λ (w : Update). w.key ≡ key) _ (u ∷ []) (all-filter (λ (w : Update). w.key ≡ key) _ s.early h.early) (f, tt) }
+own-moved g key Forget s h f = record { turns = h.turns; keys = h.keys; early = tt }
+own-moved g key other s h f = record { turns = h.turns; keys = h.keys; early = h.early }
 
-offered-own : (g : RegionId) (key : List ℕ) (s : KeyState) (u : Update) → OfKey key s.early → u.key ≡ key → AllOwn key (offered g s u)
-offered-own g key s u h k =
-    cond_both (leb u.version.0 (top_of s)) [] _ (AllOwn key) (λ e. tt)
-    (
-    λ e. cond_both (follows g (top_of s) u) (Take u ∷ turns g (length s.early) u.version.0 s.early) (Hold u ∷ []) (AllOwn key)
-    (λ b. (k, turns-own g key (length s.early) u.version.0 s.early h))
-    (λ b. (k, tt))
-    )
-
-acknowledge-own : (key : List ℕ) (us : List Update) → AllOwn key (map (λ (u : Update). Acknowledge u.version.0) us)
-acknowledge-own key [] = tt
-acknowledge-own key (u ∷ us) = (tt, acknowledge-own key us)
-
-commits-own : (key : List ℕ) (acked : List ℕ) (us : List Update) → AllOwn key (commits acked us)
-commits-own key acked [] = tt
-commits-own key acked (u ∷ us) =
-    by (list_any (λ v. eqb v u.version.0) acked) (commits-own key acked us)
+-- and all moves of each step are such
+commits-go : (g : RegionId) (key acked : List ℕ) (us : List Update) (s : KeyState) → AllGood (Goes g key) s (commits acked us)
+commits-go g key acked [] s = tt
+commits-go g key acked (u ∷ us) s =
+    by (list_any (λ v. eqb v u.version.0) acked) (commits-go g key acked us (moved (Commit u) s))
   where
-    by : (b : Bool) → AllOwn key (commits acked us) → AllOwn key (provided b (Commit u ∷ commits acked us))
+    by : (b : Bool) → AllGood (Goes g key) (moved (Commit u) s) (commits acked us) → AllGood (Goes g key) s (provided b (Commit u ∷ commits acked us))
     by false r = tt
     by true r = (tt, r)
 
-with_commits-own : (key : List ℕ) (s : KeyState) (ms : List Move) → AllOwn key ms → AllOwn key (with_commits s ms)
-with_commits-own key s ms o = all-append (Own key) ms (settled (moved_all ms s)) o (commits-own key (moved_all ms s).acked (pending_of (moved_all ms s)))
+go-walk : (g : RegionId) (key : List ℕ) → Walk g (Goes g key) (IsOwn g key) (λ (u : Update). u.key ≡ key)
+go-walk g key = record {
+  keeps = own-moved g key;
+  early = λ s h. h.early;
+  takes = λ u s k f. (f, k);
+  holds = λ u s k. k;
+  marks = λ v s. tt;
+  settles = λ s h. commits-go g key s.acked (pending_of s) s;
+  forgets = λ s. tt;
+}
 
-accepting-own : (key : List ℕ) (context : SlotContext) (s : KeyState) (ms : List Move) → AllOwn key ms → AllOwn key (accepting context s ms)
-accepting-own key context s ms o =
-    with_commits-own key s (ms ++ tail_acks context (taken ms)) (all-append (Own key) ms (tail_acks context (taken ms)) o (acknowledge-own key (filter (λ (u : Update). is_end (next_at context u)) (taken ms))))
-
-acknowledged-own : (key : List ℕ) (s : KeyState) (v : ℕ) → AllOwn key (acknowledged s v)
-acknowledged-own key s v =
-    by (is_pending v s) (not (waits_below s.acked v (pending_of s)))
-  where
-    by : (b c : Bool) → AllOwn key (provided b (Acknowledge v ∷ provided c (settled (moved (Acknowledge v) s))))
-    by false c = tt
-    by true false = (tt, tt)
-    by true true = (tt, commits-own key (moved (Acknowledge v) s).acked (pending_of (moved (Acknowledge v) s)))
-
-resumed-own : (key : List ℕ) (context : SlotContext) (s : KeyState) → AllOwn key (resumed context s)
-resumed-own key context s = with_commits-own key s (Forget ∷ tail_acks context (pending_of s)) (tt, acknowledge-own key (filter (λ (u : Update). is_end (next_at context u)) (pending_of s)))
-
-offered_all-own : (g : RegionId) (key : List ℕ) (s : KeyState) (us : List Update) → OfKey key s.accepted → OfKey key s.early → OfKey key us → AllOwn key (offered_all g s us)
-offered_all-own g key s [] a e h = tt
-offered_all-own g key s (u ∷ us) a e h =
-    let o = offered-own g key s u e h.0 in
-    let n = own-moved_all key (offered g s u) s a e o in
-    all-append (Own key) (offered g s u) (offered_all g (moved_all (offered g s u) s) us) o (offered_all-own g key (moved_all (offered g s u) s) us n.0 n.1 h.1)
+-- what a slot that can be sent holds is of its key
+own-of : (g : RegionId) (b : Bool) (s : KeyState) → IsJoinable g b s → IsOwn g s.base.key s
+own-of g b s h = record { turns = h.turns; keys = h.keys; early = h.early_keys }
 
 -- such moves in order and in turn keep a slot joinable
-pub joinable-moved : (g : RegionId) (b : Bool) (ms : List Move) (s : KeyState) → IsJoinable g b s → AllFit g s ms → AllInTurn g s ms → AllOwn s.base.key ms → IsJoinable g b (moved_all ms s)
-joinable-moved g b ms s h f t o =
-    let own = own-moved_all s.base.key ms s h.keys h.early_keys o in
+pub joinable-moved : (g : RegionId) (b : Bool) (ms : List Move) (s : KeyState) → IsJoinable g b s → AllFit g s ms → AllGood (Goes g s.base.key) s ms
+    → IsJoinable g b (moved_all ms s)
+joinable-moved g b ms s h f o =
+    let own = keeps-all (go-walk g s.base.key) ms s (own-of g b s h) o in
     let base = base-moved_all ms s in
     record {
-      slot = slot-moved_all g ms s h.slot f;
-      turns = turn-moved_all g ms s h.turns t;
+      slot = keeps-all (fit-walk g) ms s h.slot f;
+      turns = own.turns;
       marks = marks-moved_all ms s ∙ h.marks;
-      keys = subst (λ (k : Kept). OfKey k.key (moved_all ms s).accepted) (sym base) own.0;
-      early_keys = subst (λ (k : Kept). OfKey k.key (moved_all ms s).early) (sym base) own.1;
+      keys = subst (λ (k : Kept). OfKey k.key (moved_all ms s).accepted) (sym base) own.keys;
+      early_keys = subst (λ (k : Kept). OfKey k.key (moved_all ms s).early) (sym base) own.early;
       empty = subst (λ (k : Kept). k.floor.0 ≡ 0 → k ≡ no_kept k.key) (sym base) h.empty;
     }
 
@@ -122,44 +79,30 @@ module _ (context : SlotContext) (b : Bool) (s : KeyState) (h : IsJoinable conte
   abbrev g : RegionId
   g = context.region
 
-  accepted-joinable : (u : Update) → IsLater g u → u.key ≡ s.base.key → AllInTurn g s (accepting context s (offered g s u)) × AllOwn s.base.key (accepting context s (offered g s u))
-  accepted-joinable u l k = (accepting-turn g context (offered g s u) s (offered-turn g s u), accepting-own s.base.key context s (offered g s u) (offered-own g s.base.key s u h.early_keys k))
+  own : IsOwn g s.base.key s
+  own = own-of g b s h
 
   pub update-joinable : (u : Update) → IsLater g u → u.key ≡ s.base.key → IsJoinable g b (moved_all (update_step context s u).moves s)
-  update-joinable u l k =
-      let m = accepted-joinable u l k in
-      let both = cond_both (leb u.version.0 (top_of s)) _ _ (λ (x : SlotStep). AllInTurn g s x.moves × AllOwn s.base.key x.moves) (λ e. (tt, tt)) (λ e. m) in
-      joinable-moved g b (update_step context s u).moves s h (update-fit context s h.slot u l) both.0 both.1
+  update-joinable u l k = joinable-moved g b (update_step context s u).moves s h (update-good context (fit-walk g) s h.slot u l) (update-good context (go-walk g s.base.key) s own u k)
 
   pub ack-joinable : (v : ℕ) → IsJoinable g b (moved_all (ack_step context s v).moves s)
-  ack-joinable v = joinable-moved g b (ack_step context s v).moves s h (ack-fit context s h.slot v) (acknowledged-turn g s v) (acknowledged-own s.base.key s v)
-
-  decided-joins : (caller : Caller) (d : Decision) → IfAssigned (IsLater g) d → IfAssigned (λ (u : Update). u.key ≡ s.base.key) d → AllInTurn g s (decided context s caller d).moves × AllOwn s.base.key (decided context s caller d).moves
-  decided-joins caller a_decision.Old l k = (tt, tt)
-  decided-joins caller (a_decision.Again v answer) l k = (tt, tt)
-  decided-joins caller (a_decision.Wait v) l k = (tt, tt)
-  decided-joins caller (a_decision.Stuck r) l k = (tt, tt)
-  decided-joins caller (a_decision.Assign u) l k = accepted-joinable u l k
+  ack-joinable v = joinable-moved g b (ack_step context s v).moves s h (ack-good context (fit-walk g) s h.slot v) (ack-good context (go-walk g s.base.key) s own v)
 
   pub call-joinable : g ≡ key_region context.space s.base.key → (caller : Caller) (op : Op) → IsJoinable g b (moved_all (call_step context s caller op).moves s)
   call-joinable q caller op =
-      let both = cond_both (is_write op) _ _ (λ (x : SlotStep). AllInTurn g s x.moves × AllOwn s.base.key x.moves)
-      (λ e. decided-joins caller (decide context.space context.config g s caller op) (decide-later context.space context.config g s q caller op) (decide-key context.space context.config g s caller op))
-      (λ e. (tt, tt)) in
-      joinable-moved g b (call_step context s caller op).moves s h (call-fit context s h.slot q caller op) both.0 both.1
+      joinable-moved g b (call_step context s caller op).moves s h (call-good context (fit-walk g) s h.slot caller op (decide-later context.space context.config g s q caller op))
+      (call-good context (go-walk g s.base.key) s own caller op (decide-key context.space context.config g s caller op))
 
   pub adopted-joinable : (active : Bool) → IsJoinable g b (adopted_state context active s)
   adopted-joinable active =
       cond_both active (moved_all (resumed context s) s) (moved Forget s) (IsJoinable g b)
-      (λ e. joinable-moved g b (resumed context s) s h (resumed-fit g context s h.slot) (resumed-turn g context s) (resumed-own s.base.key context s))
-      (λ e. joinable-moved g b (Forget ∷ []) s h (tt, tt) (tt, tt) (tt, tt))
+      (λ e. joinable-moved g b (resumed context s) s h (resumed-good (fit-walk g) context s h.slot) (resumed-good (go-walk g s.base.key) context s own))
+      (λ e. joinable-moved g b (Forget ∷ []) s h (tt, tt) (tt, tt))
 
   pub join-joinable : (us : List Update) → AllByRecursion IsAfter us → OfKey s.base.key us → IsJoinable g b (moved_all (accepting context s (offered_all g s us)) s)
   join-joinable us after k =
-      let later = all-weaker IsAfter (IsLater g) (later-of g) us after in
-      joinable-moved g b (accepting context s (offered_all g s us)) s h (accepting-fit g context (offered_all g s us) s h.slot (offered_all-fit g s us h.slot later))
-      (accepting-turn g context (offered_all g s us) s (offered_all-turn g s us))
-      (accepting-own s.base.key context s (offered_all g s us) (offered_all-own g s.base.key s us h.keys h.early_keys k))
+      joinable-moved g b (accepting context s (offered_all g s us)) s h (joined-good context (fit-walk g) s h.slot us (all-weaker IsAfter (IsLater g) (later-of g) us after))
+      (joined-good context (go-walk g s.base.key) s own us k)
 
 pub joinable-new : (g : RegionId) (b : Bool) (key : List ℕ) → IsJoinable g b (new_state b key)
 joinable-new g b key = record { slot = record { descends = tt; floor = refl; early = tt }; turns = tt; marks = refl; keys = tt; early_keys = tt; empty = λ e. refl }

@@ -1,16 +1,13 @@
 -- A base and the list on it are the line up to the top: what a slot shows are the folds of the line, and so it is without its past.
-use Rattle.hx_model.specs.Lines.{upto}
-use Rattle.std.proofs.Common.{◌≡◌, ℕ, ◌≤◌, Bool, true, List, [], ◌∷◌, ◌++◌, Option, None, refl, ap, sym, ◌∙◌, arith, leb, append_assoc}
-use Rattle.std.specs.List.{AllByRecursion, filter}
-use Rattle.std.proofs.lemmas.Bool.{cond_both, cond-true, cond-false, leb-true, leb-false, le-leb, lt-leb}
-use Rattle.hx_model.specs.Types.{Mark, RegionId, Row, Touch, Update}
-use Rattle.hx_types.specs.Words.{provided}
+use Rattle.hx_law_folds.proofs.Vocabulary.{[], above, AllByRecursion, ap, append_assoc, arith, Bool, cond-false, cond-true, cond_both, Descends, filter, folded}
+use Rattle.hx_law_folds.proofs.Vocabulary.{IsSlotOf, kept_of, kept_row, KeyState, latest_of, le-leb, leb, leb-false, leb-true, List, lt-leb, Mark, marks_after}
+use Rattle.hx_law_folds.proofs.Vocabulary.{None, object_in, object_of, Option, provided, refl, RegionId, Row, sym, top_above, top_of, Touch, touches_after}
+use Rattle.hx_law_folds.proofs.Vocabulary.{touches_of, true, Update, upto, ℕ, ◌++◌, ◌∙◌, ◌∷◌, ◌≡◌, ◌≤◌}
 use Rattle.hx_model.specs.Holders.{IsPrefix, only_in}
-use Rattle.hx_model.specs.Slots.{KeyState, has_place, kept_of, kept_row, latest_of, marks_after, object_in, object_of, top_above, top_of, touches_after, touches_of}
-use Rattle.hx_law_folds.specs.Folding.{Descends, IsSlotOf, above, folded}
+use Rattle.hx_model.specs.Slots.{has_place}
 use Rattle.hx_law_folds.proofs.Folds.{marks-parts, row-parts, top-folded, touches-parts}
 use Rattle.hx_law_folds.proofs.Lists.{marks-append, parted, touches-append}
-use Rattle.hx_law_folds.proofs.Slots.{all-filter, all-weaker}
+use Rattle.hx_law_folds.proofs.Lists.{all-filter, all-weaker}
 
 -- no version is above a bound
 abbrev pub UpTo : ℕ → List Update → Type 0

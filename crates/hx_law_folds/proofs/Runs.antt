@@ -1,13 +1,11 @@
 -- A server of a trace and the server without its past that takes the same inputs.
-use Rattle.std.proofs.Common.{◌≡◌, true, List, [], ◌∷◌, map, refl, ap, sym, ◌∙◌}
-use Rattle.std.specs.List.{AllByRecursion}
-use Rattle.std.proofs.lemmas.Bool.{cond_both, cond-true, cond-false}
-use Rattle.hx_model.specs.Types.{Actor, Coordinator, Entry, Input, RegionId, Script, Server, ServerId, Session, Space}
-use Rattle.hx_types.specs.Configs.{first_config}
+use Rattle.hx_law_folds.proofs.Vocabulary.{[], Actor, AllByRecursion, ap, cond-false, cond-true, cond_both, Coordinator, first_config, folded_replica}
+use Rattle.hx_law_folds.proofs.Vocabulary.{folded_server, Input, InputFits, IsReplicaOf, IsServerOf, List, listed_regions, map, refl, RegionId, Replica, Server}
+use Rattle.hx_law_folds.proofs.Vocabulary.{server_at_start, server_step, ServerId, ServerState, ServerStep, Session, Space, sym, true, ◌∙◌, ◌∷◌, ◌≡◌}
+use Rattle.hx_model.specs.Types.{Entry, Script}
 use Rattle.hx_types.specs.Words.{same_server}
 use Rattle.hx_model.specs.Runs.{server_after, server_of}
-use Rattle.hx_model.specs.ServerSteps.{Replica, ServerState, ServerStep, listed_regions, server_at_start, server_step}
-use Rattle.hx_law_folds.specs.Folding.{InputFits, InputsFit, IsReplicaOf, IsServerOf, folded_replica, folded_server, lean_after, lean_of}
+use Rattle.hx_law_folds.specs.Folding.{InputsFit, lean_after, lean_of}
 use Rattle.hx_law_folds.proofs.Servers.{server-folds}
 use Rattle.hx_law_folds.proofs.Staying.{server-stays}
 

@@ -1,31 +1,30 @@
 -- The steps of a server from the server whose slots have no past.
-use Rattle.std.proofs.Common.{◌≡◌, ℕ, zero, suc, Bool, true, false, not, List, [], ◌∷◌, ◌++◌, map, Option, Some, None, refl, ap, sym, ◌∙◌, cond, eqb, ltb}
-use Rattle.std.specs.Prelude.{◌&&◌}
-use Rattle.std.specs.List.{AllByRecursion, find, flat_map, slice_get}
-use Rattle.std.specs.Option.{IfSome, option_map}
-use Rattle.std.proofs.lemmas.Bool.{cond_both, cond-true, cond-false, eqb-true}
-use Rattle.hx_model.specs.Types.{Actor, Caller, Config, Coordinator, Deliver, Epoch, Halt, Input, Kept, Message, Op, Post, RegionId, Server, ServerId, Session}
-use Rattle.hx_model.specs.Types.{Space, Term, Tick, Update}
+use Rattle.hx_law_folds.proofs.Vocabulary.{[], ack_step, acked, acked_of, Actor, adopted, adopted_replica, AllByRecursion, ap, asked, at_slot, Bool, call_at}
+use Rattle.hx_law_folds.proofs.Vocabulary.{call_step, called, called_by, Caller, cond, cond-false, cond-true, cond_both, Config, context_of, Coordinator}
+use Rattle.hx_law_folds.proofs.Vocabulary.{Deliver, Epoch, eqb, false, find, flat_map, folded, folded_replica, folded_server, Halt, hears_ack, hears_snap}
+use Rattle.hx_law_folds.proofs.Vocabulary.{hears_update, if_installed, IfSome, Input, input_step, InputFits, install_at, installed_slots, is_active}
+use Rattle.hx_law_folds.proofs.Vocabulary.{is_key_region, is_lost, IsAfter, IsReplicaOf, IsServerOf, IsSlotOf, Kept, key_of, key_region, KeyState, leads, List}
+use Rattle.hx_law_folds.proofs.Vocabulary.{listed_regions, ltb, map, Message, message_step, MessageFits, moved_all, None, not, Op, Option, option_map}
+use Rattle.hx_law_folds.proofs.Vocabulary.{pending_with, place_number, Post, provided, ready_post, refl, RegionId, Replica, replica_for, replica_of}
+use Rattle.hx_law_folds.proofs.Vocabulary.{replica_or_new, same_region, saying, Server, server_step, ServerId, ServerState, ServerStep, Session, SlotStep}
+use Rattle.hx_law_folds.proofs.Vocabulary.{snapped, Some, Space, state_among, state_in, StepFolds, suc, sym, Term, Tick, true, unmoved, Update, update_step}
+use Rattle.hx_law_folds.proofs.Vocabulary.{updated, when_some, with_config, with_replica, with_state, zero, ℕ, ◌&&◌, ◌++◌, ◌∙◌, ◌∷◌, ◌≡◌}
+use Rattle.std.specs.List.{slice_get}
 use Rattle.hx_types.specs.declared.messages.Message.TheVariants as a_message
-use Rattle.hx_types.specs.Configs.{is_lost, joiner_for, leads, lists_ready}
-use Rattle.hx_types.specs.Effects.{key_of}
-use Rattle.hx_types.specs.Subspaces.{is_key_region}
-use Rattle.hx_types.specs.Words.{post, provided, same_region, when_some}
-use Rattle.hx_model.specs.Regions.{key_region}
-use Rattle.hx_model.specs.Hearing.{hears_ack, hears_snap, hears_update}
-use Rattle.hx_model.specs.Neighbours.{place_number}
-use Rattle.hx_model.specs.ServerSteps.{Replica, ServerState, ServerStep, SlotStep, ack_step, acked, acked_of, adopted, adopted_posts, adopted_replica, asked}
-use Rattle.hx_model.specs.ServerSteps.{asking_last, at_slot, call_at, call_step, called, called_by, context_of, halting, if_installed, input_step, install_at}
-use Rattle.hx_model.specs.ServerSteps.{installed_slots, is_active, listed_regions, meeting, message_step, pending_with, ready_post, replica_for, replica_of}
-use Rattle.hx_model.specs.ServerSteps.{replica_or_new, replica_tick, saying, server_step, snap_posts, snap_to, snapped, state_in, tick_step, unmoved}
-use Rattle.hx_model.specs.ServerSteps.{update_step, updated, with_config, with_replica, with_slot}
-use Rattle.hx_model.specs.Slots.{KeyState, state_among, moved_all, with_state}
-use Rattle.hx_law_folds.specs.Folding.{InputFits, IsAfter, IsReplicaOf, IsServerOf, IsSlotOf, MessageFits, StepFolds}
-use Rattle.hx_law_folds.specs.Folding.{folded, folded_replica, folded_server, folded_step}
+use Rattle.hx_types.specs.Configs.{joiner_for, lists_ready}
+use Rattle.hx_types.specs.Words.{post}
+use Rattle.hx_model.specs.ServerSteps.{adopted_posts}
+use Rattle.hx_model.specs.ServerSteps.{asking_last, halting}
+use Rattle.hx_model.specs.ServerSteps.{meeting}
+use Rattle.hx_model.specs.ServerSteps.{replica_tick, snap_posts, snap_to, tick_step}
+use Rattle.hx_model.specs.ServerSteps.{with_slot}
+use Rattle.hx_law_folds.specs.Folding.{folded_step}
 use Rattle.hx_law_folds.proofs.Folds.{pending-folded}
+use Rattle.hx_law_folds.proofs.ServerWalk.{IsTaking, config-replicas, taking, taking_installed}
 use Rattle.hx_law_folds.proofs.Slots.{later-of}
 use Rattle.std.proofs.lemmas.Option.{same_Some}
-use Rattle.hx_law_folds.proofs.States.{adopted-all-folded, among-key, among-slot, folded-among, folded-put, folded-with, folded-states-twice, found-folded, pending-posts-folded, pending_all-folded, resumed-all-folded, snapshot-folded}
+use Rattle.hx_law_folds.proofs.States.{adopted-all-folded, among-key, among-slot, folded-among, folded-put, folded-with, folded-states-twice, found-folded}
+use Rattle.hx_law_folds.proofs.States.{pending-posts-folded, pending_all-folded, resumed-all-folded, snapshot-folded}
 use Rattle.hx_law_folds.proofs.Steps.{ack-folds, call-folds, update-folds}
 
 -- replicas without their past
@@ -92,32 +91,6 @@ installed_for-folded : (s : ServerState) (g : RegionId)
     → if_installed (replica_for (folded_server s) g) ≡ option_map folded_replica (if_installed (replica_for s g))
 installed_for-folded s g = ap if_installed (replica_for-folded s g) ∙ installed-folded (replica_for s g)
 
--- it is one of the server's, of that region
-pub record IsTaking (space : Space) (g : RegionId) (r : Replica) : Type 0 where
-  pub replica : IsReplicaOf space r
-  pub region : r.region ≡ g
-
-replica-taking : (space : Space) (g : RegionId) (rs : List Replica) → AllByRecursion (IsReplicaOf space) rs → IfSome (replica_of g rs) (IsTaking space g)
-replica-taking space g [] h = tt
-replica-taking space g (r ∷ rest) h =
-    cond_both (same_region r.region g) (Some r) (replica_of g rest) (λ (o : Option Replica). IfSome o (IsTaking space g))
-    (λ e. record { replica = h.0; region = λ j. record { 0 = eqb-true r.region.0 g.0 e j } })
-    (λ e. replica-taking space g rest h.1)
-
-pub taking : (space : Space) (s : ServerState) → IsServerOf space s → (g : RegionId) → IfSome (replica_for s g) (IsTaking space g)
-taking space s h g =
-    cond_both (is_lost s.config g) None (replica_of g s.replicas) (λ (o : Option Replica). IfSome o (IsTaking space g))
-    (λ e. tt)
-    (λ e. replica-taking space g s.replicas h)
-
--- so is the one that is installed
-pub installed-taking : (P : Replica → Type 0) (o : Option Replica) → IfSome o P → IfSome (if_installed o) P
-installed-taking P None h = tt
-installed-taking P (Some r) h = cond_both r.installed (Some r) None (λ (o : Option Replica). IfSome o P) (λ e. h) (λ e. tt)
-
-pub taking_installed : (space : Space) (s : ServerState) → IsServerOf space s → (g : RegionId) → IfSome (if_installed (replica_for s g)) (IsTaking space g)
-taking_installed space s h g = installed-taking (IsTaking space g) (replica_for s g) (taking space s h g)
-
 -- a step of one slot, from what it is
 state-folds : (s : ServerState) (r : Replica) (step : KeyState → SlotStep) (state : KeyState) → StepFolds r.region step state
     → folded_step (at_slot (folded_server s) (folded_replica r) (folded r.region state) (step (folded r.region state)))
@@ -144,7 +117,8 @@ and-left true b e = refl
 and-left false b e = e
 
 -- Call
-call_at-folds : (space : Space) (s : ServerState) (r : Replica) (key : List ℕ) (caller : Caller) (op : Op) → IsTaking space (key_region space key) r
+call_at-folds : (space : Space) (s : ServerState) (r : Replica) (key : List ℕ) (caller : Caller) (op : Op)
+    → IsTaking (IsReplicaOf space) (key_region space key) r
     → folded_step (call_at space (folded_server s) (folded_replica r) key caller op) ≡ folded_step (call_at space s r key caller op)
 call_at-folds space s r key caller op h =
     let context = context_of space s r.region in
@@ -169,9 +143,9 @@ called-folds space s h caller op None = unmoved-folds s
 called-folds space s h caller op (Some key) =
     ap (λ (o : Option Replica). folded_step (when_some o (unmoved (folded_server s)) (λ (r : Replica). call_at space (folded_server s) r key caller op)))
     (replica_for-folded s (key_region space key))
-    ∙ by (replica_for s (key_region space key)) (taking space s h (key_region space key))
+    ∙ by (replica_for s (key_region space key)) (taking (IsReplicaOf space) s h (key_region space key))
   where
-    by : (o : Option Replica) → IfSome o (IsTaking space (key_region space key))
+    by : (o : Option Replica) → IfSome o (IsTaking (IsReplicaOf space) (key_region space key))
         → folded_step (when_some (option_map folded_replica o) (unmoved (folded_server s)) (λ (r : Replica). call_at space (folded_server s) r key caller op)) ≡ folded_step (when_some o (unmoved s) (λ (r : Replica). call_at space s r key caller op))
     by None k = unmoved-folds s
     by (Some r) k = call_at-folds space s r key caller op k
@@ -183,7 +157,8 @@ called_by-folds space s h (Server other) number op = unmoved-folds s
 called_by-folds space s h (Session session) number op = called-folds space s h (record { session = session; number = number }) op (key_of op)
 
 -- Update: whom it hears stays the same
-updated-folds : (space : Space) (s : ServerState) (from : Actor) (u : Update) → IsAfter u → (g : RegionId) (o : Option Replica) → IfSome o (IsTaking space g)
+updated-folds : (space : Space) (s : ServerState) (from : Actor) (u : Update) → IsAfter u → (g : RegionId) (o : Option Replica)
+    → IfSome o (IsTaking (IsReplicaOf space) g)
     → folded_step (updated space (folded_server s) from u (option_map folded_replica o)) ≡ folded_step (updated space s from u o)
 updated-folds space s from u after g None k = unmoved-folds s
 updated-folds space s from u after g (Some r) k =
@@ -210,7 +185,8 @@ acked_of-folds space s from region r state v h (Some u) =
     (unmoved-folds s)
 
 -- Ack
-acked-folds : (space : Space) (s : ServerState) (from : Actor) (key : List ℕ) (v : ℕ) (region g : RegionId) (o : Option Replica) → IfSome o (IsTaking space g)
+acked-folds : (space : Space) (s : ServerState) (from : Actor) (key : List ℕ) (v : ℕ) (region g : RegionId) (o : Option Replica)
+    → IfSome o (IsTaking (IsReplicaOf space) g)
     → folded_step (acked space (folded_server s) from key v region (option_map folded_replica o)) ≡ folded_step (acked space s from key v region o)
 acked-folds space s from key v region g None k = unmoved-folds s
 acked-folds space s from key v region g (Some r) k =
@@ -326,26 +302,10 @@ adopted-folds space s h =
     let posts = adopted-all-posts space s s.replicas h in
     λ j. record { state = record s { replicas = replicas j }; posts = posts j; notes = [] }
 
-new-replica : (space : Space) (rs : List Replica) (g : RegionId) → AllByRecursion (IsReplicaOf space) rs → IsReplicaOf space (replica_or_new rs g)
-new-replica space rs g h =
-    by (replica_of g rs) (replica-taking space g rs h)
-  where
-    by : (o : Option Replica) → IfSome o (IsTaking space g)
-        → IsReplicaOf space (when_some o (record { region = g; installed = false; states = [] }) (λ (r : Replica). r))
-    by None k = tt
-    by (Some r) k = k.replica
-
-new-replicas : (space : Space) (rs : List Replica) (gs : List RegionId) → AllByRecursion (IsReplicaOf space) rs → AllByRecursion (IsReplicaOf space) (map (replica_or_new rs) gs)
-new-replicas space rs [] h = tt
-new-replicas space rs (g ∷ gs) h = (new-replica space rs g h, new-replicas space rs gs h)
-
-pub config-server : (space : Space) (s : ServerState) (config : Config) → IsServerOf space s → IsServerOf space (with_config s config)
-config-server space s config h = new-replicas space s.replicas (listed_regions config s.id) h
-
 install-folds : (space : Space) (s : ServerState) → IsServerOf space s → (config : Config) → folded_step (install_at space (folded_server s) config) ≡ folded_step (install_at space s config)
 install-folds space s h config =
     cond-folds (ltb s.config.epoch.0 config.epoch.0) _ _ _ _
-    (ap (λ (x : ServerState). folded_step (adopted space x)) (config-folded s config) ∙ adopted-folds space (with_config s config) (config-server space s config h))
+    (ap (λ (x : ServerState). folded_step (adopted space x)) (config-folded s config) ∙ adopted-folds space (with_config s config) (config-replicas (IsReplicaOf space) (λ g. tt) s config h))
     (unmoved-folds s)
 
 -- the rows of the table
@@ -355,13 +315,13 @@ message-folds space s h from (a_message.Update epoch g u) f =
     meeting-folds s epoch _ _
     (
     ap (λ (o : Option Replica). folded_step (updated space (folded_server s) from u o)) (installed_for-folded s g)
-    ∙ updated-folds space s from u f g (if_installed (replica_for s g)) (taking_installed space s h g)
+    ∙ updated-folds space s from u f g (if_installed (replica_for s g)) (taking_installed (IsReplicaOf space) s h g)
     )
 message-folds space s h from (a_message.Ack epoch g region key version) f =
     meeting-folds s epoch _ _
     (
     ap (λ (o : Option Replica). folded_step (acked space (folded_server s) from key version.0 region o)) (installed_for-folded s g)
-    ∙ acked-folds space s from key version.0 region g (if_installed (replica_for s g)) (taking_installed space s h g)
+    ∙ acked-folds space s from key version.0 region g (if_installed (replica_for s g)) (taking_installed (IsReplicaOf space) s h g)
     )
 message-folds space s h from (a_message.Ask epoch number g terms) f =
     meeting-folds s epoch _ _

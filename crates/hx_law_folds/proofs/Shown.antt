@@ -1,16 +1,15 @@
 -- Slots that differ in their past alone show the same.
-use Rattle.std.proofs.Common.{◌≡◌, ℕ, not, List, [], ◌∷◌, ◌++◌, length, ap, sym, ◌∙◌, subst, cond, eqb, leb}
-use Rattle.std.specs.List.{list_any}
-use Rattle.hx_model.specs.Types.{Config, RegionId, Update}
+use Rattle.hx_law_folds.proofs.Vocabulary.{[], accepting, Acknowledge, acknowledged, ap, AreAlike, commits, cond, Config, eqb, folded, follows, Forget, Hold}
+use Rattle.hx_law_folds.proofs.Vocabulary.{is_pending, IsLater, IsSlotOf, KeyState, latest_of, leb, length, List, list_any, mark_of, Move, moved, moved_all}
+use Rattle.hx_law_folds.proofs.Vocabulary.{not, object_of, offered, pending_of, provided, RegionId, resumed, settled, ShowSame, SlotContext, stuck_among}
+use Rattle.hx_law_folds.proofs.Vocabulary.{stuck_of, subst, sym, tail_acks, Take, taken, top_of, touches_of, turns, Update, waits_below, with_commits, ℕ, ◌++◌}
+use Rattle.hx_law_folds.proofs.Vocabulary.{◌∙◌, ◌∷◌, ◌≡◌}
 use Rattle.hx_types.specs.declared.outcomes.Acked.TheVariants as an_ack
 use Rattle.hx_types.specs.declared.outcomes.Offer.TheVariants.{Accepted, Known, Early}
-use Rattle.hx_types.specs.Words.{provided}
-use Rattle.hx_model.specs.Leading.{stuck_among, stuck_of}
-use Rattle.hx_model.specs.ServerSteps.{SlotContext, accepting, tail_acks, resumed, with_commits}
-use Rattle.hx_model.specs.Slots.{Acknowledge, Forget, Hold, KeyState, Move, Take, ack_answer, acknowledged, commits, follows, is_pending, latest_of, mark_of, moved, moved_all, object_of, offer_answer, offered, pending_of, settled, taken, top_of, touches_of, turns, waits_below}
-use Rattle.hx_law_folds.specs.Folding.{AreAlike, IsLater, IsSlotOf, ShowSame, folded}
+use Rattle.hx_model.specs.Slots.{ack_answer, offer_answer}
 use Rattle.hx_law_folds.proofs.Folds.{folded-twice, latest-folded, mark-folded, object-folded, pending-folded, top-folded, touches-folded}
-use Rattle.hx_law_folds.proofs.Slots.{AllFit, alike-moved_all, tail_acks-fit, fits-append, offered-fit, slot-moved_all}
+use Rattle.hx_law_folds.proofs.Moves.{good-append, keeps-all, offered-good, tail_acks-good}
+use Rattle.hx_law_folds.proofs.Slots.{AllFit, Fits, alike-moved_all, fit-walk}
 
 module _ (g : RegionId) where
   -- slots that are alike show the same
@@ -57,7 +56,7 @@ module _ (g : RegionId) where
 
   -- slots that are alike after moves that are allowed
   pub show-moved : (s t : KeyState) → IsSlotOf g s → IsSlotOf g t → AreAlike g s t → (ms : List Move) → AllFit g s ms → AllFit g t ms → ShowSame g (moved_all ms s) (moved_all ms t)
-  show-moved s t h k e ms a b = alike-show (moved_all ms s) (moved_all ms t) (slot-moved_all g ms s h a) (slot-moved_all g ms t k b) (alike-moved_all g ms s t e a b)
+  show-moved s t h k e ms a b = alike-show (moved_all ms s) (moved_all ms t) (keeps-all (fit-walk g) ms s h a) (keeps-all (fit-walk g) ms t k b) (alike-moved_all g ms s t e a b)
 
   pub acknowledged-settled : (s t : KeyState) → IsSlotOf g s → IsSlotOf g t → AreAlike g s t → (v : ℕ) → settled (moved (Acknowledge v) s) ≡ settled (moved (Acknowledge v) t)
   acknowledged-settled s t h k e v = settled-same (moved (Acknowledge v) s) (moved (Acknowledge v) t) (show-moved s t h k e (Acknowledge v ∷ []) (tt, tt) (tt, tt))
@@ -82,18 +81,18 @@ module _ (g : RegionId) where
 
   pub accepting-same : (context : SlotContext) (s t : KeyState) → IsSlotOf g s → IsSlotOf g t → AreAlike g s t → (ms : List Move) → AllFit g s ms → AllFit g t ms → accepting context s ms ≡ accepting context t ms
   accepting-same context s t h k e ms a b =
-      let more = λ (x : KeyState) (f : AllFit g x ms). fits-append g ms (tail_acks context (taken ms)) x f (tail_acks-fit g context (taken ms) (moved_all ms x)) in
+      let more = λ (x : KeyState) (f : AllFit g x ms). good-append (Fits g) ms (tail_acks context (taken ms)) x f (tail_acks-good (fit-walk g) context (taken ms) (moved_all ms x)) in
       with_commits-same s t h k e (ms ++ tail_acks context (taken ms)) (more s a) (more t b)
 
   -- what an update that is offered brings
   pub accepted-same : (context : SlotContext) (s t : KeyState) → IsSlotOf g s → IsSlotOf g t → AreAlike g s t → (u : Update) → IsLater g u → accepting context s (offered g s u) ≡ accepting context t (offered g t u)
   accepted-same context s t h k e u l =
       let same = offered-same s t (alike-show s t h k e) u in
-      accepting-same context s t h k e (offered g s u) (offered-fit g s u h l) (subst (AllFit g t) (sym same) (offered-fit g t u k l)) ∙ ap (accepting context t) same
+      accepting-same context s t h k e (offered g s u) (offered-good (fit-walk g) s u h l) (subst (AllFit g t) (sym same) (offered-good (fit-walk g) t u k l)) ∙ ap (accepting context t) same
 
   -- what goes on in a new configuration
   pub resumed-same : (context : SlotContext) (s t : KeyState) → IsSlotOf g s → IsSlotOf g t → AreAlike g s t → resumed context s ≡ resumed context t
   resumed-same context s t h k e =
       let ms = Forget ∷ tail_acks context (pending_of s) in
-      with_commits-same s t h k e ms (tt, tail_acks-fit g context (pending_of s) (moved Forget s)) (tt, tail_acks-fit g context (pending_of s) (moved Forget t))
+      with_commits-same s t h k e ms (tt, tail_acks-good (fit-walk g) context (pending_of s) (moved Forget s)) (tt, tail_acks-good (fit-walk g) context (pending_of s) (moved Forget t))
       ∙ ap (λ (us : List Update). with_commits t (Forget ∷ tail_acks context us)) (alike-show s t h k e).pending

@@ -1,47 +1,15 @@
 -- Slots whose versions descend: the moves of their steps keep them so.
-use Rattle.hx_model.specs.Lines.{upto}
-use Rattle.std.proofs.Common.{◌≡◌, ℕ, zero, suc, ◌<◌, ◌≤◌, Bool, true, false, List, [], ◌∷◌, ◌++◌, map, length, Option, Some, None, refl, ap, sym, ◌∙◌, subst, arith, eqb, leb, not}
-use Rattle.std.specs.Prelude.{⊤}
-use Rattle.std.specs.List.{All, AllByRecursion, filter, find, list_any}
-use Rattle.std.specs.Option.{IfSome, option_map}
-use Rattle.std.proofs.lemmas.Bool.{cond_both, cond-true, cond-false, eqb-true, false≢true, leb-false, le-leb, lt-leb}
+use Rattle.hx_law_folds.proofs.Vocabulary.{[], above, Acknowledge, AllByRecursion, ap, AreAlike, arith, Bool, Commit, commits, cond-false, cond-true, cond_both}
+use Rattle.hx_law_folds.proofs.Vocabulary.{Descends, eqb, eqb-true, false, false≢true, folded, follows, Forget, Hold, IfSome, IsAfter, IsLater, IsSlotOf}
+use Rattle.hx_law_folds.proofs.Vocabulary.{KeyState, le-leb, leb, leb-false, List, list_any, lt-leb, MayFollow, Move, moved, moved_all, new_state, None}
+use Rattle.hx_law_folds.proofs.Vocabulary.{offered_all, Option, option_map, pending_above, pending_of, Place, place_in, provided, refl, RegionId, same_region}
+use Rattle.hx_law_folds.proofs.Vocabulary.{settled, Some, Stands, Take, top_above, top_of, true, Update, upto, when_some, ℕ, ⊤, ◌++◌, ◌<◌, ◌∙◌, ◌∷◌, ◌≡◌, ◌≤◌}
+use Rattle.std.specs.List.{All}
 use Rattle.std.proofs.lemmas.List.Elements.{All-head, All-tail}
-use Rattle.hx_model.specs.Types.{Place, RegionId, Update}
-use Rattle.hx_types.specs.Words.{provided, same_region, when_some}
-use Rattle.hx_model.specs.Neighbours.{is_end}
-use Rattle.hx_model.specs.Slots.{Acknowledge, Commit, Forget, Hold, KeyState, Move, Take, acknowledged, after_at, commits, follows, is_pending, moved, moved_all, new_state, offered, pending_above, pending_of, place_in, settled, taken, top_above, top_of, turns, waits_below}
-use Rattle.hx_model.specs.ServerSteps.{SlotContext, accepting, tail_acks, next_at, offered_all, resumed, with_commits}
-use Rattle.hx_law_folds.specs.Folding.{AreAlike, Descends, IsAfter, IsLater, IsSlotOf, MayFollow, Stands, above, folded}
-use Rattle.hx_law_folds.proofs.Lists.{upto-above}
+use Rattle.hx_model.specs.Slots.{after_at}
+use Rattle.hx_law_folds.proofs.Lists.{all-append, all-filter, all-weaker, upto-above}
+use Rattle.hx_law_folds.proofs.Moves.{AllGood, Walk, offered_all-good}
 use Rattle.hx_law_folds.proofs.Folds.{alike-moved}
-
--- what holds of all of a list
-pub all-append : {A : Type 0} (P : A → Type 0) (xs ys : List A) → AllByRecursion P xs → AllByRecursion P ys → AllByRecursion P (xs ++ ys)
-all-append P [] ys h k = k
-all-append P (x ∷ xs) ys h k = (h.0, all-append P xs ys h.1 k)
-
-pub all-weaker : {A : Type 0} (P Q : A → Type 0) → ((x : A) → P x → Q x) → (xs : List A) → AllByRecursion P xs → AllByRecursion Q xs
-all-weaker P Q f [] h = tt
-all-weaker P Q f (x ∷ xs) h = (f x h.0, all-weaker P Q f xs h.1)
-
-pub all-filter : {A : Type 0} (P : A → Type 0) (test : A → Bool) (xs : List A) → AllByRecursion P xs → AllByRecursion P (filter test xs)
-all-filter P test [] h = tt
-all-filter P test (x ∷ xs) h =
-    cond_both (test x) (x ∷ filter test xs) (filter test xs) (AllByRecursion P)
-    (λ e. (h.0, all-filter P test xs h.1))
-    (λ e. all-filter P test xs h.1)
-
--- the same of what is found
-pub all-find : {A : Type 0} (P : A → Type 0) (test : A → Bool) (xs : List A) (x : A) → AllByRecursion P xs → find test xs ≡ Some x → P x × (test x ≡ true)
-all-find P test [] x h = λ e. absurd (cc)
-all-find P test (y ∷ xs) x h =
-    cond_both (test y) (Some y) (find test xs) (λ o. o ≡ Some x → P x × (test x ≡ true))
-    (λ b e. let s : y ≡ x = cc in (subst P s h.0, ap test (sym s) ∙ b))
-    (λ b e. all-find P test xs x h.1 e)
-
-pub when_some_both : {A B : Type 0} (o : Option A) (d : B) (g : A → B) (P : B → Type 0) → (o ≡ None → P d) → ((x : A) → o ≡ Some x → P (g x)) → P (when_some o d g)
-when_some_both None d g P n f = n refl
-when_some_both (Some x) d g P n f = f x refl
 
 -- an update whose places all come after lower versions does so at each region
 pub later-of : (g : RegionId) (u : Update) → IsAfter u → IsLater g u
@@ -127,20 +95,15 @@ pending-climbs b v (u ∷ older) h =
 abbrev pub Fits : RegionId → KeyState → Move → Type 0
 Fits g s (Take u) = top_of s < u.version.0
 Fits g s (Hold u) = IsLater g u
-Fits g s (Acknowledge v) = ⊤
 Fits g s (Commit u) = (s.floor ≤ u.version.0) × Stands s.base.floor.0 s.accepted u.version.0
-Fits g s Forget = ⊤
+Fits g s other = ⊤
 
 abbrev pub AllFit : RegionId → KeyState → List Move → Type 0
-AllFit g s [] = ⊤
-AllFit g s (m ∷ ms) = Fits g s m × AllFit g (moved m s) ms
+AllFit g s ms = AllGood (Fits g) s ms
 
 pub may-follow : (g : RegionId) (m : Move) (s : KeyState) → Fits g s m → MayFollow s m
-may-follow g (Take u) s f = tt
-may-follow g (Hold u) s f = tt
-may-follow g (Acknowledge v) s f = tt
 may-follow g (Commit u) s f = f.0
-may-follow g Forget s f = tt
+may-follow g other s f = tt
 
 -- it is kept by a move that is allowed
 slot-moved : (g : RegionId) (m : Move) (s : KeyState) → IsSlotOf g s → Fits g s m → IsSlotOf g (moved m s)
@@ -165,11 +128,6 @@ pub alike-moved_all : (g : RegionId) (ms : List Move) (s t : KeyState) → AreAl
 alike-moved_all g [] s t e a b = e
 alike-moved_all g (m ∷ ms) s t e a b = alike-moved_all g ms (moved m s) (moved m t) (alike-moved g m s t e (may-follow g m s a.0) (may-follow g m t b.0)) a.1 b.1
 
--- moves one after another
-pub fits-append : (g : RegionId) (ms ns : List Move) (s : KeyState) → AllFit g s ms → AllFit g (moved_all ms s) ns → AllFit g s (ms ++ ns)
-fits-append g [] ns s a b = b
-fits-append g (m ∷ ms) ns s a b = (a.0, fits-append g ms ns (moved m s) a.1 b)
-
 -- commits of updates that stand, in order
 commits-fit : (g : RegionId) (acked : List ℕ) (us : List Update) (s : KeyState) → Climbs s.floor us → AllByRecursion (λ (u : Update). Stands s.base.floor.0 s.accepted u.version.0) us → AllFit g s (commits acked us)
 commits-fit g acked [] s c h = tt
@@ -190,60 +148,20 @@ settled-fit g s h =
     (all-pending (λ (u : Update). Stands s.base.floor.0 s.accepted u.version.0 × (u.version.0 ≤ top_of s)) s.floor s.accepted (all-stand s.base.floor.0 s.accepted h.descends))
     )
 
--- the early updates whose turn comes
-turns-fit : (g : RegionId) (n top : ℕ) (early : List Update) (s : KeyState) → top_of s ≡ top → AllByRecursion (IsLater g) early → AllFit g s (turns g n top early)
-turns-fit g zero top early s e h = tt
-turns-fit g (suc n) top early s e h =
-    when_some_both (find (follows g top) early) [] (λ (u : Update). Take u ∷ turns g n u.version.0 early) (AllFit g s)
-    (λ q. tt)
-    (
-    λ u q. let f = all-find (IsLater g) (follows g top) early u h q in
-    let a = follows-above g top u f.0 f.1 in
-    (omega (arith, a, e), turns-fit g n u.version.0 early (moved (Take u) s) refl h)
-    )
+-- and so do all moves of each step
+pub fit-walk : (g : RegionId) → Walk g (Fits g) (IsSlotOf g) (IsLater g)
+fit-walk g = record {
+  keeps = slot-moved g;
+  early = λ s h. h.early;
+  takes = λ u s l f. follows-above g (top_of s) u l f;
+  holds = λ u s l. l;
+  marks = λ v s. tt;
+  settles = settled-fit g;
+  forgets = λ s. tt;
+}
 
--- an offered update
-pub offered-fit : (g : RegionId) (s : KeyState) (u : Update) → IsSlotOf g s → IsLater g u → AllFit g s (offered g s u)
-offered-fit g s u h l =
-    cond_both (leb u.version.0 (top_of s)) [] _ (AllFit g s) (λ e. tt)
-    (
-    λ e. cond_both (follows g (top_of s) u) (Take u ∷ turns g (length s.early) u.version.0 s.early) (Hold u ∷ []) (AllFit g s)
-    (λ b. (leb-false u.version.0 (top_of s) e, turns-fit g (length s.early) u.version.0 s.early (moved (Take u) s) refl h.early))
-    (λ b. (l, tt))
-    )
-
--- marks of acknowledged updates
-acknowledge-fit : (g : RegionId) (us : List Update) (s : KeyState) → AllFit g s (map (λ (u : Update). Acknowledge u.version.0) us)
-acknowledge-fit g [] s = tt
-acknowledge-fit g (u ∷ us) s = (tt, acknowledge-fit g us (moved (Acknowledge u.version.0) s))
-
-pub tail_acks-fit : (g : RegionId) (context : SlotContext) (us : List Update) (s : KeyState) → AllFit g s (tail_acks context us)
-tail_acks-fit g context us s = acknowledge-fit g (filter (λ (u : Update). is_end (next_at context u)) us) s
-
-pub with_commits-fit : (g : RegionId) (ms : List Move) (s : KeyState) → IsSlotOf g s → AllFit g s ms → AllFit g s (with_commits s ms)
-with_commits-fit g ms s h f = fits-append g ms (settled (moved_all ms s)) s f (settled-fit g (moved_all ms s) (slot-moved_all g ms s h f))
-
-pub accepting-fit : (g : RegionId) (context : SlotContext) (ms : List Move) (s : KeyState) → IsSlotOf g s → AllFit g s ms → AllFit g s (accepting context s ms)
-accepting-fit g context ms s h f = with_commits-fit g (ms ++ tail_acks context (taken ms)) s h (fits-append g ms (tail_acks context (taken ms)) s f (tail_acks-fit g context (taken ms) (moved_all ms s)))
-
-pub acknowledged-fit : (g : RegionId) (s : KeyState) (v : ℕ) → IsSlotOf g s → AllFit g s (acknowledged s v)
-acknowledged-fit g s v h =
-    by (is_pending v s) (not (waits_below s.acked v (pending_of s)))
-  where
-    by : (b c : Bool) → AllFit g s (provided b (Acknowledge v ∷ provided c (settled (moved (Acknowledge v) s))))
-    by false c = tt
-    by true false = (tt, tt)
-    by true true = (tt, settled-fit g (moved (Acknowledge v) s) (slot-moved g (Acknowledge v) s h tt))
-
-pub resumed-fit : (g : RegionId) (context : SlotContext) (s : KeyState) → IsSlotOf g s → AllFit g s (resumed context s)
-resumed-fit g context s h = with_commits-fit g (Forget ∷ tail_acks context (pending_of s)) s h (tt, tail_acks-fit g context (pending_of s) (moved Forget s))
-
--- updates offered one after another
 pub offered_all-fit : (g : RegionId) (s : KeyState) (us : List Update) → IsSlotOf g s → AllByRecursion (IsLater g) us → AllFit g s (offered_all g s us)
-offered_all-fit g s [] h l = tt
-offered_all-fit g s (u ∷ us) h l =
-    let f = offered-fit g s u h l.0 in
-    fits-append g (offered g s u) (offered_all g (moved_all (offered g s u) s) us) s f (offered_all-fit g (moved_all (offered g s u) s) us (slot-moved_all g (offered g s u) s h f) l.1)
+offered_all-fit g s us h l = offered_all-good (fit-walk g) s us h l
 
 -- the folded slot is one too
 descends-above : (b v : ℕ) (us : List Update) → Descends b us → Descends v (above v us)

@@ -1,18 +1,13 @@
 -- A snapshot with the pending updates of its sender stands for the sender's slots without their past.
-use Rattle.std.proofs.Common.{◌≡◌, ℕ, Bool, true, false, List, [], ◌∷◌, ◌++◌, map, reverse, None, refl, ap, sym, ◌∙◌, subst, arith, cond, ltb, append-nil}
-use Rattle.std.specs.List.{AllByRecursion, filter}
-use Rattle.std.proofs.lemmas.Bool.{cond_both, cond-true, cond-false, ltb-false}
-use Rattle.hx_model.specs.Types.{RegionId, Space, Update}
-use Rattle.hx_types.specs.Subspaces.{is_key_region}
-use Rattle.hx_types.specs.Words.{same_text}
-use Rattle.hx_model.proofs.Lemmas.{eq_of_same_text}
-use Rattle.hx_model.specs.Holders.{kept_among, snap_state}
-use Rattle.hx_model.specs.ServerSteps.{state_from}
-use Rattle.hx_model.specs.Slots.{Forget, KeyState, kept_of, moved, new_state, no_kept, pending_of, pending_of_all, snapshot_of, state_among}
-use Rattle.hx_law_folds.specs.Folding.{CanBeSent, KeysDiffer, folded}
+use Rattle.hx_law_folds.proofs.Vocabulary.{[], AllByRecursion, ap, append-nil, arith, Bool, CanBeSent, cond, cond-false, cond-true, cond_both, eq_of_same_text}
+use Rattle.hx_law_folds.proofs.Vocabulary.{false, filter, folded, Forget, is_key_region, kept_among, kept_of, KeysDiffer, KeyState, List, ltb, map, moved}
+use Rattle.hx_law_folds.proofs.Vocabulary.{new_state, no_kept, None, over, pending_of, pending_of_all, refl, RegionId, reverse, same_text, snapshot_of, Space}
+use Rattle.hx_law_folds.proofs.Vocabulary.{state_among, state_from, subst, sym, true, Update, ℕ, ◌++◌, ◌∙◌, ◌∷◌, ◌≡◌}
+use Rattle.std.proofs.lemmas.Bool.{ltb-false}
+use Rattle.hx_model.specs.Holders.{snap_state}
 use Rattle.hx_law_folds.proofs.Joining.{base-over, pending-reversed}
-use Rattle.hx_law_folds.specs.Laws.{over}
-use Rattle.hx_law_folds.proofs.Slots.{all-pending, all-weaker}
+use Rattle.hx_law_folds.proofs.Lists.{all-weaker}
+use Rattle.hx_law_folds.proofs.Slots.{all-pending}
 use Rattle.hx_law_folds.proofs.States.{provided-nothing}
 
 -- a key that no slot has

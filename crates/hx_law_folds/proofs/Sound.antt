@@ -1,14 +1,12 @@
 -- Updates of sound messages come after lower versions.
-use Rattle.std.proofs.Common.{◌≡◌, ℕ, Bool, true, List, [], ◌∷◌, map}
+use Rattle.hx_law_folds.proofs.Vocabulary.{[], AllByRecursion, and_parts, Bool, IsAfter, Kept, KeptsAscend, List, map, Message, MessageFits, MessageJoins}
+use Rattle.hx_law_folds.proofs.Vocabulary.{text_below, true, Update, ℕ, ◌∷◌, ◌≡◌}
 use Rattle.std.specs.Prelude.{IsTrue}
-use Rattle.std.specs.List.{AllByRecursion, list_all}
-use Rattle.std.proofs.lemmas.Bool.{and_parts}
+use Rattle.std.specs.List.{list_all}
 use Rattle.std.proofs.lemmas.List.Elements.{All-weaker, recursion_from_All}
-use Rattle.hx_model.specs.Types.{Kept, Message, Update}
 use Rattle.hx_types.specs.declared.messages.Message.TheVariants as a_message
 use Rattle.hx_types.specs.Posts.{Bounds, IsSoundMessage, IsSoundUpdate, has_place_in, keys_ascend}
-use Rattle.hx_types.specs.Words.{text_below}
-use Rattle.hx_law_folds.specs.Folding.{HasFloors, IsAfter, KeptsAscend, MessageFits, MessageJoins}
+use Rattle.hx_law_folds.specs.Folding.{HasFloors}
 
 pub sound-fits : (b : Bounds) (m : Message) → IsSoundMessage b m → MessageFits m
 sound-fits b (a_message.Update epoch g u) h = h.2.of_space.after

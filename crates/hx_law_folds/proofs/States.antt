@@ -1,18 +1,15 @@
 -- The slots of a replica without their past.
-use Rattle.std.proofs.Common.{◌≡◌, ℕ, Bool, true, false, List, [], ◌∷◌, ◌++◌, map, None, refl, ap, sym, ◌∙◌, cond, ltb}
-use Rattle.std.specs.List.{AllByRecursion, filter, flat_map}
-use Rattle.std.proofs.lemmas.Bool.{cond_both, cond-true, cond-false}
-use Rattle.hx_model.specs.Types.{RegionId, Row, Term}
-use Rattle.hx_types.specs.Words.{list_of, provided, same_text, text_below}
-use Rattle.hx_model.proofs.Lemmas.{eq_of_same_text}
+use Rattle.hx_law_folds.proofs.Vocabulary.{[], adopted_state, AllByRecursion, ap, Bool, cond, cond-false, cond-true, cond_both, eq_of_same_text, false, filter}
+use Rattle.hx_law_folds.proofs.Vocabulary.{flat_map, folded, IsSlotIn, kept_of, KeyState, List, ltb, map, Move, moved, moved_all, new_state, None, passed_on}
+use Rattle.hx_law_folds.proofs.Vocabulary.{pending_of_all, provided, refl, RegionId, resumed_posts, Row, same_text, SlotContext, snapshot_of, state_among, sym}
+use Rattle.hx_law_folds.proofs.Vocabulary.{Take, Term, text_below, true, with_state, ℕ, ◌++◌, ◌∙◌, ◌∷◌, ◌≡◌}
+use Rattle.hx_types.specs.Words.{list_of}
 use Rattle.hx_model.specs.Matching.{matches}
-use Rattle.hx_model.specs.ServerSteps.{SlotContext, adopted_state, passed_on, pending_posts, resumed, resumed_posts}
-use Rattle.hx_model.specs.Slots.{KeyState, Move, found_in, kept_of, moved, moved_all, new_state, pending_of_all, rows_of, snapshot_of, state_among, with_state}
-use Rattle.hx_model.specs.Slots.{Acknowledge, Commit, Forget, Hold, Take}
-use Rattle.hx_law_folds.specs.Folding.{IsSlotIn, folded}
+use Rattle.hx_model.specs.ServerSteps.{pending_posts}
+use Rattle.hx_model.specs.Slots.{found_in, rows_of}
 use Rattle.hx_law_folds.proofs.Folds.{folded-twice, kept-folded, object-folded, pending-folded}
 use Rattle.hx_law_folds.proofs.Slots.{slot-new}
-use Rattle.hx_law_folds.proofs.Steps.{adopted-folds, adopted-slot, resumed-posts-fold}
+use Rattle.hx_law_folds.proofs.Steps.{adopted-folds, resumed-posts-fold}
 
 pub provided-nothing : {A : Type 0} (b : Bool) → provided {A = A} b [] ≡ []
 provided-nothing true = refl
@@ -109,27 +106,21 @@ adopted-all-folded at_key context active (s ∷ rest) h =
 -- whether marks are kept stays
 pub marks-moved_all : (ms : List Move) (s : KeyState) → (moved_all ms s).marks ≡ s.marks
 marks-moved_all [] s = refl
-marks-moved_all (Take u ∷ ms) s = marks-moved_all ms (moved (Take u) s)
-marks-moved_all (Hold u ∷ ms) s = marks-moved_all ms (moved (Hold u) s)
-marks-moved_all (Acknowledge v ∷ ms) s = marks-moved_all ms (moved (Acknowledge v) s)
-marks-moved_all (Commit u ∷ ms) s = marks-moved_all ms (moved (Commit u) s)
-marks-moved_all (Forget ∷ ms) s = marks-moved_all ms (moved Forget s)
+marks-moved_all (m ∷ ms) s = marks-moved_all ms (moved m s) ∙ by m
+  where
+    by : (m : Move) → (moved m s).marks ≡ s.marks
+    by (Take u) = refl
+    by other = refl
 
-pub adopted-all-slots : (at_key : Bool) (context : SlotContext) (active : Bool) (states : List KeyState) → AllByRecursion (IsSlotIn at_key context.region) states → AllByRecursion (IsSlotIn at_key context.region) (map (adopted_state context active) states)
-adopted-all-slots at_key context active [] h = tt
-adopted-all-slots at_key context active (s ∷ rest) h = (
-  record {
-    slot = adopted-slot context s h.0.slot active;
-    marks = cond_both active (moved_all (resumed context s) s) (moved Forget s) (λ (x : KeyState). x.marks ≡ at_key) (λ e. marks-moved_all (resumed context s) s ∙ h.0.marks) (λ e. h.0.marks);
-  },
-  adopted-all-slots at_key context active rest h.1,
-)
+-- what holds of all slots and of a new one holds of the slot of a key
+pub among-of : (P : KeyState → Type 0) (b : Bool) (key : List ℕ) (states : List KeyState) → P (new_state b key) → AllByRecursion P states
+    → P (state_among b key states)
+among-of P b key [] n h = n
+among-of P b key (s ∷ rest) n h = cond_both (same_text s.base.key key) s (state_among b key rest) P (λ e. h.0) (λ e. among-of P b key rest n h.1)
 
 -- the slot of a key is one, of that key
 pub among-slot : (g : RegionId) (at_key : Bool) (key : List ℕ) (states : List KeyState) → AllByRecursion (IsSlotIn at_key g) states → IsSlotIn at_key g (state_among at_key key states)
-among-slot g at_key key [] h = record { slot = slot-new g at_key key; marks = refl }
-among-slot g at_key key (s ∷ rest) h =
-    cond_both (same_text s.base.key key) s (state_among at_key key rest) (IsSlotIn at_key g) (λ e. h.0) (λ e. among-slot g at_key key rest h.1)
+among-slot g at_key key states h = among-of (IsSlotIn at_key g) at_key key states (record { slot = slot-new g at_key key; marks = refl }) h
 
 pub among-key : (at_key : Bool) (key : List ℕ) (states : List KeyState) → (state_among at_key key states).base.key ≡ key
 among-key at_key key [] = refl

@@ -1,21 +1,17 @@
 -- The steps of a slot from the slot without its past: the same moves, posts and notes, and the same slot after them.
-use Rattle.std.proofs.Common.{◌≡◌, ℕ, Bool, true, List, [], ◌∷◌, ◌++◌, map, Option, Some, None, refl, ap, sym, ◌∙◌, subst, cond, leb}
-use Rattle.std.specs.List.{filter, flat_map}
-use Rattle.std.proofs.lemmas.Bool.{cond_both, cond-true, cond-false}
-use Rattle.hx_model.specs.Types.{Caller, Decision, Op, Post, Update}
+use Rattle.hx_law_folds.proofs.Vocabulary.{[], ack_step, adopted_state, ap, AreAlike, Bool, call_step, Caller, cond, cond-false, cond-true, cond_both, decide}
+use Rattle.hx_law_folds.proofs.Vocabulary.{decided, Decision, filter, flat_map, folded, Forget, is_write, IsLater, IsSlotOf, key_region, KeyState, leads, leb}
+use Rattle.hx_law_folds.proofs.Vocabulary.{List, map, Move, move_posts, moved, moved_all, None, object_in, Op, Option, passed_on, pending_of, Post, provided}
+use Rattle.hx_law_folds.proofs.Vocabulary.{refl, resumed, resumed_posts, ShowSame, SlotContext, SlotStep, Some, StepFolds, stuck_among, stuck_of, StuckAt}
+use Rattle.hx_law_folds.proofs.Vocabulary.{subst, sym, true, Update, update_step, ℕ, ◌++◌, ◌∙◌, ◌∷◌, ◌≡◌}
 use Rattle.hx_types.specs.declared.outcomes.Decision.TheVariants as a_decision
 use Rattle.hx_types.specs.declared.traces.Note.TheVariants as a_note
-use Rattle.hx_types.specs.Configs.{leads}
-use Rattle.hx_types.specs.Effects.{is_write}
-use Rattle.hx_types.specs.Words.{provided}
-use Rattle.hx_model.specs.Leading.{StuckAt, decide, stuck_among, stuck_of}
-use Rattle.hx_model.specs.Regions.{key_region}
-use Rattle.hx_model.specs.ServerSteps.{SlotStep, SlotContext, accepting, ack_step, ack_to, adopted_state, by_moves, by_posts, call_step, decided, doubt_in, doubts_from, get_answer, get_step, leader_doubts, move_posts, passed_on, prev_at, reply, resumed, resumed_posts, update_step, waiting_doubt, write_step}
-use Rattle.hx_model.specs.Slots.{Forget, KeyState, Move, moved, moved_all, object_in, offered, pending_of, top_of}
-use Rattle.hx_law_folds.specs.Folding.{AreAlike, IsLater, IsSlotOf, ShowSame, StepFolds, folded}
+use Rattle.hx_model.specs.ServerSteps.{ack_to, by_moves, by_posts, doubt_in, doubts_from, get_answer, get_step, leader_doubts, prev_at, reply, waiting_doubt}
+use Rattle.hx_model.specs.ServerSteps.{write_step}
 use Rattle.hx_law_folds.proofs.Deciding.{IfAssigned, decide-later, decide-same}
 use Rattle.hx_law_folds.proofs.Shown.{accepted-same, acknowledged-same, alike-folded, alike-show, resumed-same, stuck-same}
-use Rattle.hx_law_folds.proofs.Slots.{AllFit, accepting-fit, acknowledged-fit, alike-moved_all, offered-fit, resumed-fit, slot-folded, slot-moved_all}
+use Rattle.hx_law_folds.proofs.Moves.{ack-good, call-good, keeps-all, resumed-good, update-good}
+use Rattle.hx_law_folds.proofs.Slots.{AllFit, alike-moved_all, fit-walk, slot-folded}
 
 -- doubts read what is pending alone
 abbrev doubts_by : SlotContext → List Update → Option StuckAt → List Post
@@ -72,14 +68,14 @@ module _ (context : SlotContext) (s t : KeyState) (h : IsSlotOf context.region s
   resumed-alike : AreAlike context.region (moved_all (resumed context s) s) (moved_all (resumed context t) t)
   resumed-alike =
       let same = resumed-same context.region context s t h k e in
-      alike-moved_all context.region (resumed context s) s t e (resumed-fit context.region context s h) (subst (AllFit context.region t) (sym same) (resumed-fit context.region context t k))
+      alike-moved_all context.region (resumed context s) s t e (resumed-good (fit-walk context.region) context s h) (subst (AllFit context.region t) (sym same) (resumed-good (fit-walk context.region) context t k))
       ∙ ap (λ (ms : List Move). folded context.region (moved_all ms t)) same
 
   pub resumed-posts-same : resumed_posts context s ≡ resumed_posts context t
   resumed-posts-same =
       let a = shown in
       let moves = resumed-same context.region context s t h k e in
-      let after = alike-show context.region (moved_all (resumed context s) s) (moved_all (resumed context t) t) (slot-moved_all context.region (resumed context s) s h (resumed-fit context.region context s h)) (slot-moved_all context.region (resumed context t) t k (resumed-fit context.region context t k)) resumed-alike in
+      let after = alike-show context.region (moved_all (resumed context s) s) (moved_all (resumed context t) t) (keeps-all (fit-walk context.region) (resumed context s) s h (resumed-good (fit-walk context.region) context s h)) (keeps-all (fit-walk context.region) (resumed context t) t k (resumed-good (fit-walk context.region) context t k)) resumed-alike in
       let doubts = doubts-by context (moved_all (resumed context s) s) ∙ ap (leader_doubts_by context) after.pending ∙ sym (doubts-by context (moved_all (resumed context t) t)) in
       λ j. flat_map (passed_on context) (a.pending j) ++ flat_map (move_posts context) (moves j) ++ doubts j
 
@@ -98,27 +94,14 @@ module _ (context : SlotContext) (s t : KeyState) (h : IsSlotOf context.region s
 
 -- the moves of the steps are allowed
 module _ (context : SlotContext) (s : KeyState) (h : IsSlotOf context.region s) where
-  pub accepted-fit : (u : Update) → IsLater context.region u → AllFit context.region s (accepting context s (offered context.region s u))
-  accepted-fit u l = accepting-fit context.region context (offered context.region s u) s h (offered-fit context.region s u h l)
-
   pub update-fit : (u : Update) → IsLater context.region u → AllFit context.region s (update_step context s u).moves
-  update-fit u l = cond_both (leb u.version.0 (top_of s)) _ _ (λ (x : SlotStep). AllFit context.region s x.moves) (λ b. tt) (λ b. accepted-fit u l)
+  update-fit u l = update-good context (fit-walk context.region) s h u l
 
   pub ack-fit : (v : ℕ) → AllFit context.region s (ack_step context s v).moves
-  ack-fit v = acknowledged-fit context.region s v h
-
-  decided-fit : (caller : Caller) (d : Decision) → IfAssigned (IsLater context.region) d → AllFit context.region s (decided context s caller d).moves
-  decided-fit caller a_decision.Old l = tt
-  decided-fit caller (a_decision.Again v answer) l = tt
-  decided-fit caller (a_decision.Wait v) l = tt
-  decided-fit caller (a_decision.Stuck g) l = tt
-  decided-fit caller (a_decision.Assign u) l = accepted-fit u l
+  ack-fit v = ack-good context (fit-walk context.region) s h v
 
   pub call-fit : context.region ≡ key_region context.space s.base.key → (caller : Caller) (op : Op) → AllFit context.region s (call_step context s caller op).moves
-  call-fit q caller op =
-      cond_both (is_write op) _ _ (λ (x : SlotStep). AllFit context.region s x.moves)
-      (λ b. decided-fit caller (decide context.space context.config context.region s caller op) (decide-later context.space context.config context.region s q caller op))
-      (λ b. tt)
+  call-fit q caller op = call-good context (fit-walk context.region) s h caller op (decide-later context.space context.config context.region s q caller op)
 
   -- the folded slot makes the same step
   step-folds : (step : KeyState → SlotStep) → step (folded context.region s) ≡ step s → AllFit context.region (folded context.region s) (step (folded context.region s)).moves → AllFit context.region s (step s).moves
@@ -126,7 +109,7 @@ module _ (context : SlotContext) (s : KeyState) (h : IsSlotOf context.region s) 
   step-folds step q a b = record {
     same = q;
     after = step-alike context (folded context.region s) s (slot-folded context.region s h) h (alike-folded context.region s) (step (folded context.region s)) (step s) q a b;
-    slot = slot-moved_all context.region (step s).moves s h b;
+    slot = keeps-all (fit-walk context.region) (step s).moves s h b;
   }
 
 -- the steps of a slot and of the slot without its past
@@ -156,5 +139,5 @@ module _ (context : SlotContext) (s : KeyState) (h : IsSlotOf context.region s) 
   pub adopted-slot : (active : Bool) → IsSlotOf context.region (adopted_state context active s)
   adopted-slot active =
       cond_both active (moved_all (resumed context s) s) (moved Forget s) (IsSlotOf context.region)
-      (λ b. slot-moved_all context.region (resumed context s) s h (resumed-fit context.region context s h))
-      (λ b. slot-moved_all context.region (Forget ∷ []) s h (tt, tt))
+      (λ b. keeps-all (fit-walk context.region) (resumed context s) s h (resumed-good (fit-walk context.region) context s h))
+      (λ b. keeps-all (fit-walk context.region) (Forget ∷ []) s h (tt, tt))

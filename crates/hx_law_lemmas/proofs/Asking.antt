@@ -1,24 +1,17 @@
 -- A step of a session in whatever configuration: what it asks for a search, what parts it has, and what a search ends with.
-use Rattle.hx_model.specs.Lines.{no_version}
-use Rattle.std.proofs.Common.{◌≡◌, ℕ, ◌+◌, inl, inr, Bool, true, false, ◌&&◌, List, [], ◌∷◌, map, Option, Some, None, refl, sym, ap, ◌∙◌, subst, cond, eqb, ltb}
-use Rattle.std.specs.Prelude.{⊤}
-use Rattle.std.specs.List.{list_any}
-use Rattle.std.proofs.lemmas.Bool.{cond_both, eqb-true, and_parts, false≢true}
-use Rattle.hx_model.specs.Types.{Actor, Add, Answer, Atomic, Config, Coordinator, Cput, Del, Deliver, Epoch, Get, Halt, Input, Message, Op, Planned, Post}
-use Rattle.hx_model.specs.Types.{PostId, Put, RegionId, Row, Search, ServerId, Session, Space, Stop, Term, Tick, Version}
+use Rattle.hx_law_lemmas.proofs.Lemmas.Vocabulary.{[], Actor, Add, all_parts, Answer, ap, ask_regions, ask_to, Atomic, begin, Bool, call_to, cond, cond_both}
+use Rattle.hx_law_lemmas.proofs.Lemmas.Vocabulary.{Config, Coordinator, Cput, Del, Deliver, end_with_parts, ending, Epoch, eqb-true, false, false≢true, Get}
+use Rattle.hx_law_lemmas.proofs.Lemmas.Vocabulary.{head_of, inl, Input, inr, is_administrative, is_key_call, is_lost, is_write, IsIn, key_region, List}
+use Rattle.hx_law_lemmas.proofs.Lemmas.Vocabulary.{lost_answer, map, merged_parts, Message, no_version, None, numbered, Op, Option, Part, plan_of, Planned}
+use Rattle.hx_law_lemmas.proofs.Lemmas.Vocabulary.{Post, post, PostId, provided, Put, refl, RegionId, Row, same_region, Search, send, send_to, ServerId}
+use Rattle.hx_law_lemmas.proofs.Lemmas.Vocabulary.{Session, session_step, SessionState, SessionStep, Some, Space, staying, Stop, subst, sym, Term}
+use Rattle.hx_law_lemmas.proofs.Lemmas.Vocabulary.{to_coordinator, true, Version, with_part, with_poll, ℕ, ⊤, ◌&&◌, ◌+◌, ◌∙◌, ◌∷◌, ◌≡◌}
 use Rattle.hx_types.specs.declared.calls.Answer.TheVariants as an_answer
 use Rattle.hx_types.specs.declared.messages.Message.TheVariants as a_message
 use Rattle.hx_types.specs.declared.outcomes.Planned.TheVariants as a_plan
 use Rattle.hx_types.specs.declared.traces.Note.TheVariants as a_note
-use Rattle.hx_types.specs.Words.{IsIn, post, provided, same_region, when_some}
-use Rattle.hx_types.specs.Effects.{is_write}
-use Rattle.hx_types.specs.Configs.{head_of, is_lost}
-use Rattle.hx_types.specs.Fitting.{numbered}
-use Rattle.hx_model.specs.Regions.{key_region}
-use Rattle.hx_model.specs.Planning.{plan_of}
-use Rattle.hx_model.specs.SessionSteps.{Part, SessionState, SessionStep, all_parts, ask_regions, ask_to, awaits, begin, call_to, call_under_way, end_with_parts, ending, found_step, is_administrative, is_key_call, is_search, lacks_part, lost_answer, merged_parts, send, send_to, session_install, session_message, session_step, session_tick, staying, to_coordinator, with_part, with_poll}
-use Rattle.hx_law_lemmas.proofs.Lists.{in-append, in-flat_map, in-map, in-provided, when_some_both}
-use Rattle.hx_law_lemmas.proofs.CallEnds.{awaited}
+use Rattle.hx_law_lemmas.proofs.Lists.{in-append, in-flat_map, in-map, in-provided}
+use Rattle.hx_law_lemmas.proofs.SessionCases.{session-cases}
 
 -- the parts of a search: the regions of its plan, each with rows of which something is known
 pub record Parted (space : Space) (terms : List Term) (Known : RegionId → List Row → Type 0) (parts : List Part) : Type 0 where
@@ -186,31 +179,9 @@ module _ (space : Space) (Known : ℕ → RegionId → List Row → Type 0) wher
       let t = sends (record s { begun = s.begun + 1; under_way = true; sent = false; parts = [] }) op refl e in
       record { posts = t.posts; parts = t.parts; ends = λ n v rows terms i c. elim i [ inl q ↦ absurd (cc) | inr j ↦ t.ends n v rows terms j c ] }
 
-  -- a tick
-  ticks : (s : SessionState) → HasParts s → SearchTurn s (session_tick space s)
-  ticks s h =
-      cond_both s.under_way (when_some (numbered s.calls s.begun) (staying s) (λ (op : Op). with_poll (send space s op))) (when_some (numbered s.calls (s.begun + 1)) (staying s) (begin space s)) (SearchTurn s)
-      (
-      λ t. when_some_both (numbered s.calls s.begun) (staying s) (λ (op : Op). with_poll (send space s op)) (SearchTurn s) (λ e. stays s h)
-      (λ (op : Op) e. polls s (send space s op) (send-id s op) (sends s op t e))
-      )
-      (λ t. when_some_both (numbered s.calls (s.begun + 1)) (staying s) (begin space s) (SearchTurn s) (λ e. stays s h) (λ (op : Op) e. begins s op e))
-
-  -- ---- messages
-
   -- no search is a call on a key
   key-no_search : (op : Op) → is_key_call op ≡ true → (terms : List Term) → op ≡ Search terms → ⊥
   key-no_search op e terms q = absurd (false≢true (sym (ap is_key_call q) ∙ e))
-
-  -- a reply
-  replies : (s : SessionState) → HasParts s → (number : ℕ) (version : Version) (answer : Answer) → SearchTurn s (cond (awaits s number is_key_call) (ending s version answer) (staying s))
-  replies s h number version answer = by (awaits s number is_key_call) refl
-    where
-      by : (b : Bool) → awaits s number is_key_call ≡ b → SearchTurn s (cond b (ending s version answer) (staying s))
-      by false t = stays s h
-      by true t =
-          let a = awaited s number is_key_call t in
-          ends-with s version answer (λ rows terms q e. absurd (key-no_search a.2.0 a.2.2 terms (let r : Some a.2.0 ≡ Some (Search terms) = sym a.2.1 ∙ e in cc)))
 
   -- rows for a region leave the regions
   with-regions : (g : RegionId) (rows : List Row) (parts : List Part) → map (λ (p : Part). p.region) (map (with_part g rows) parts) ≡ map (λ (p : Part). p.region) parts
@@ -233,93 +204,53 @@ module _ (space : Space) (Known : ℕ → RegionId → List Row → Type 0) wher
       (λ t e. f m.0 m.1 rs e))
 
   -- rows are found
-  finds : (s : SessionState) → HasParts s → (epoch : Epoch) (number : ℕ) (g : RegionId) (rows : List Row) → Known number g rows → SearchTurn s (found_step s epoch number g rows)
-  finds s h epoch number g rows known = by (awaits s number is_search && eqb epoch.0 s.config.epoch.0 && list_any (lacks_part g) s.parts) refl
+  finds : (s : SessionState) → HasParts s → (g : RegionId) (rows : List Row) → Known s.begun g rows → s.under_way ≡ true
+      → SearchTurn s (end_with_parts (record s { parts = map (with_part g rows) s.parts }))
+  finds s h g rows known w = all (all_parts next.parts) refl
     where
-      taken : (number ≡ s.begun) → HasParts (record s { parts = map (with_part g rows) s.parts })
-      taken e terms w c =
-          let old = (h terms w c).0 in (
+      next : SessionState
+      next = record s { parts = map (with_part g rows) s.parts }
+
+      taken : HasParts next
+      taken terms way c =
+          let old = (h terms way c).0 in (
             record {
               config = old.config;
               subspace = old.subspace;
               regions = old.regions;
               plan = old.plan;
               regions_are = with-regions g rows s.parts ∙ old.regions_are;
-              each = with-each s.begun g rows s.parts (subst (λ n. Known n g rows) e known) old.each;
+              each = with-each s.begun g rows s.parts known old.each;
             },
-            (h terms w c).1,
+            (h terms way c).1,
           )
 
-      all : (number ≡ s.begun) → s.under_way ≡ true → (b : Bool) → all_parts (map (with_part g rows) s.parts) ≡ b
-          → SearchTurn s (cond b (ending (record s { parts = map (with_part g rows) s.parts }) no_version (an_answer.Rows (merged_parts (map (with_part g rows) s.parts)))) (staying (record s { parts = map (with_part g rows) s.parts })))
-      all e w false t = record { posts = λ p i. absurd i; parts = taken e; ends = λ n v rows terms i. absurd i }
-      all e w true t =
-          let r = ends-with (record s { parts = map (with_part g rows) s.parts }) no_version (an_answer.Rows (merged_parts (map (with_part g rows) s.parts)))
-          (λ rs terms q c. (record { parts = map (with_part g rows) s.parts; parted = (taken e terms w c).0; all = t; rows_are = (let x : rs ≡ merged_parts (map (with_part g rows) s.parts) = cc in x) }, (taken e terms w c).1)) in
+      all : (b : Bool) → all_parts next.parts ≡ b → SearchTurn s (cond b (ending next no_version (an_answer.Rows (merged_parts next.parts))) (staying next))
+      all false t = record { posts = λ p i. absurd i; parts = taken; ends = λ n v rows terms i. absurd i }
+      all true t =
+          let r = ends-with next no_version (an_answer.Rows (merged_parts next.parts))
+          (λ rs terms q c. (record { parts = next.parts; parted = (taken terms w c).0; all = t; rows_are = (let x : rs ≡ merged_parts next.parts = cc in x) }, (taken terms w c).1)) in
           record { posts = r.posts; parts = r.parts; ends = r.ends }
-
-      by : (b : Bool) → (awaits s number is_search && eqb epoch.0 s.config.epoch.0 && list_any (lacks_part g) s.parts) ≡ b
-          → SearchTurn s (cond b (end_with_parts (record s { parts = map (with_part g rows) s.parts })) (staying s))
-      by false t = stays s h
-      by true t =
-          let p = and_parts (awaits s number is_search && eqb epoch.0 s.config.epoch.0) (list_any (lacks_part g) s.parts) t in
-          let q = and_parts (awaits s number is_search) (eqb epoch.0 s.config.epoch.0) p.0 in
-          let a = awaited s number is_search q.0 in
-          all a.0 a.1 (all_parts (map (with_part g rows) s.parts)) refl
 
   -- no search is administrative
   office-no_search : (op : Op) → is_administrative op ≡ true → (terms : List Term) → op ≡ Search terms → ⊥
   office-no_search op e terms q = false≢true (sym (ap is_administrative q) ∙ e)
 
-  -- an outcome
-  outcomes : (s : SessionState) → HasParts s → (number : ℕ) (answer : Answer) → SearchTurn s (cond (awaits s number is_administrative) (ending s no_version answer) (staying s))
-  outcomes s h number answer = by (awaits s number is_administrative) refl
-    where
-      by : (b : Bool) → awaits s number is_administrative ≡ b → SearchTurn s (cond b (ending s no_version answer) (staying s))
-      by false t = stays s h
-      by true t =
-          let a = awaited s number is_administrative t in
-          ends-with s no_version answer (λ rows terms q e. absurd (office-no_search a.2.0 a.2.2 terms (let r : Some a.2.0 ≡ Some (Search terms) = sym a.2.1 ∙ e in cc)))
-
   -- another configuration, where no search is under way
   adopts : (s : SessionState) → (config : Config) → ((terms : List Term) → s.under_way ≡ true → numbered s.calls s.begun ≡ Some (Search terms) → ⊥) → SearchTurn s (staying (record s { config = config }))
   adopts s config none = record { posts = λ p i. absurd i; parts = λ terms w e. absurd (none terms w e); ends = λ n v rows terms i. absurd i }
-
-  -- the call under way
-  under : (s : SessionState) (op : Op) → call_under_way s ≡ Some op → (s.under_way ≡ true) × (numbered s.calls s.begun ≡ Some op)
-  under s op = by s.under_way refl
-    where
-      by : (b : Bool) → s.under_way ≡ b → cond b (numbered s.calls s.begun) None ≡ Some op → (s.under_way ≡ true) × (numbered s.calls s.begun ≡ Some op)
-      by true e q = (e, q)
-      by false e q = absurd (cc)
-
-  -- a configuration that arrives
-  installs : (s : SessionState) → HasParts s → (config : Config) → SearchTurn s (session_install space s config)
-  installs s h config =
-      cond_both (ltb s.config.epoch.0 config.epoch.0)
-      (when_some (call_under_way s) (staying (record s { config = config })) (λ (op : Op). cond (is_administrative op) (staying (record s { config = config })) (send space (record s { config = config }) op))) (staying s) (SearchTurn s)
-      (
-      λ t. when_some_both (call_under_way s) (staying (record s { config = config })) (λ (op : Op). cond (is_administrative op) (staying (record s { config = config })) (send space (record s { config = config }) op)) (SearchTurn s)
-      (λ e. adopts s config (λ terms w q. let r : None ≡ Some (Search terms) = sym e ∙ ap (λ b. cond b (numbered s.calls s.begun) None) w ∙ q in cc))
-      (λ op e. cond_both (is_administrative op) (staying (record s { config = config })) (send space (record s { config = config }) op) (SearchTurn s)
-      (λ q. adopts s config (λ terms w z. office-no_search op q terms (let r : Some op ≡ Some (Search terms) = sym (under s op e).1 ∙ z in cc)))
-      (λ q. let u = under s op e in let r = sends (record s { config = config }) op u.0 u.1 in record { posts = r.posts; parts = r.parts; ends = r.ends }))
-      )
-      (λ t. stays s h)
-
-  -- each message
-  messages : (s : SessionState) → HasParts s → (m : Message) → ((epoch : Epoch) (number : ℕ) (g : RegionId) (rows : List Row) → m ≡ a_message.Found epoch number g rows → Known number g rows)
-      → SearchTurn s (session_message space s m)
-  messages s k (a_message.Reply number version answer) f = replies s k number version answer
-  messages s k (a_message.Found epoch number g rows) f = finds s k epoch number g rows (f epoch number g rows refl)
-  messages s k (a_message.Install config) f = installs s k config
-  messages s k (a_message.Outcome number answer) f = outcomes s k number answer
-  messages s k other f = stays s k
 
   -- each input of a session
   pub search-turn : (s : SessionState) → HasParts s → (input : Input)
       → ((id : PostId) (from : Actor) (m : Message) → input ≡ Deliver id from m → (epoch : Epoch) (number : ℕ) (g : RegionId) (rows : List Row) → m ≡ a_message.Found epoch number g rows → Known number g rows)
       → SearchTurn s (session_step space s input)
-  search-turn s k Tick f = ticks s k
-  search-turn s k Halt f = stays s k
-  search-turn s k (Deliver id from m) f = messages s k m (f id from m refl)
+  search-turn s k input f = session-cases space s input (SearchTurn s) (record {
+    rests = stays s k;
+    again = λ op i w e. polls s (send space s op) (send-id s op) (sends s op w e);
+    begins = λ op i w e. begins s op e;
+    replied = λ id from version answer op i w e q. ends-with s version answer (λ rows terms z x. absurd (key-no_search op q terms (let r : Some op ≡ Some (Search terms) = sym e ∙ x in cc)));
+    judged = λ id from answer op i w e q. ends-with s no_version answer (λ rows terms z x. absurd (office-no_search op q terms (let r : Some op ≡ Some (Search terms) = sym e ∙ x in cc)));
+    found = λ id from epoch g rows op i w e q. finds s k g rows (f id from (a_message.Found epoch s.begun g rows) i epoch s.begun g rows refl) w;
+    adopts = λ id from config i l n. adopts s config (λ terms w e. false≢true (n (Search terms) w e));
+    renews = λ id from config op i l w e q. (let r = sends (record s { config = config }) op w e in record { posts = r.posts; parts = r.parts; ends = r.ends });
+  })

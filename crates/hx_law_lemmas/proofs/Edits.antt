@@ -1,18 +1,13 @@
 -- What edits make of values and objects, and how they fail.
-use Rattle.std.proofs.Common.{◌≡◌, ℕ, ◌+◌, ◌-◌, zero, suc, inl, inr, ◌+ℤ◌, List, [], ◌∷◌, ◌++◌, length, Option, Some, None, Result, Ok, Err, refl, arith, subst}
-use Rattle.std.specs.Prelude.{IsSomeAnd, nat_le}
-use Rattle.std.specs.List.{AllZip, slice_get, slice_set}
-use Rattle.std.proofs.lemmas.Bool.{cond_both, leb-true}
-use Rattle.std.proofs.lemmas.List.{length-append}
-use Rattle.hx_model.specs.Types.{Answer, Atomic, Attribute, Edit, EditKind, Effect, Kind, Space, Value}
-use Rattle.hx_types.specs.declared.limits.TheConstants.{LONGEST_TEXT}
+use Rattle.hx_law_lemmas.proofs.Lemmas.Vocabulary.{[], AllZip, and_then, Answer, arith, Atomic, Attribute, changed_to, cond_both, Edit, edit_answered, edit_of}
+use Rattle.hx_law_lemmas.proofs.Lemmas.Vocabulary.{edited_from, edited_value, EditFits, EditKind, Effect, effect_of, Err, fits_64, inl, inr, IsEditOf, IsIn}
+use Rattle.hx_law_lemmas.proofs.Lemmas.Vocabulary.{IsObjectOf, IsOfKind, IsSomeAnd, Kind, leb-true, left_as, length, length-append, List, LONGEST_TEXT, nat_le}
+use Rattle.hx_law_lemmas.proofs.Lemmas.Vocabulary.{None, Ok, Option, refl, Result, slice_get, slice_set, Some, Space, subst, suc, Value, when_some, zero, ℕ}
+use Rattle.hx_law_lemmas.proofs.Lemmas.Vocabulary.{◌++◌, ◌+ℤ◌, ◌+◌, ◌-◌, ◌∷◌, ◌≡◌}
 use Rattle.hx_types.specs.declared.calls.Answer.TheVariants as an_answer
 use Rattle.hx_types.specs.declared.spaces.Kind.TheVariants as a_kind
 use Rattle.hx_types.specs.declared.values.EditKind.TheVariants as an_edit
 use Rattle.hx_types.specs.declared.values.Value.TheVariants as a_value
-use Rattle.hx_types.specs.Words.{IsIn, when_some}
-use Rattle.hx_types.specs.Effects.{and_then, changed_to, edit_answered, edit_of, edited_from, edited_value, effect_of, fits_64, left_as}
-use Rattle.hx_types.specs.Spaces.{EditFits, IsEditOf, IsObjectOf, IsOfKind}
 use Rattle.hx_law_lemmas.proofs.Lists.{when_some_both, zip-set}
 
 -- an edit fails with Overflow or TooLong alone

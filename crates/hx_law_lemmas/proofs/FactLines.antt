@@ -1,15 +1,10 @@
 -- What follows of a key's line: it is numbered, each update passes its places, and no caller stands twice.
-use Rattle.hx_model.specs.Lines.{line_object, upto}
-use Rattle.std.proofs.Common.{◌≡◌, ℕ, inl, inr, false, List, [], ◌∷◌, sym, ap, ◌∙◌, subst, arith, leb}
-use Rattle.std.proofs.lemmas.Bool.{cond_both}
-use Rattle.hx_model.specs.Types.{Caller, Script, Update}
-use Rattle.hx_types.specs.Words.{IsIn}
-use Rattle.hx_types.specs.Fitting.{is_done}
+use Rattle.hx_law_lemmas.proofs.Lemmas.Vocabulary.{[], ap, arith, Caller, cond_both, false, inl, inr, is_done, IsIn, IsLine, IsUpdateAfter, leb, line_object}
+use Rattle.hx_law_lemmas.proofs.Lemmas.Vocabulary.{List, Script, subst, sym, Update, upto, ℕ, ◌∙◌, ◌∷◌, ◌≡◌}
 use Rattle.hx_law_lemmas.proofs.Effects.{effect-done, effect-same}
 use Rattle.hx_law_lemmas.proofs.Numbered.{Numbered}
 use Rattle.hx_law_lemmas.proofs.Lines.{Sorted, numbered-sorted}
 use Rattle.hx_law_lemmas.proofs.Placed.{AllMade, Made}
-use Rattle.hx_law_lemmas.specs.Facts.{IsLine, IsUpdateAfter}
 
 -- a line is numbered
 pub line-numbered : (script : Script) (key : List ℕ) (us : List Update) → IsLine script key us → Numbered us

@@ -1,9 +1,6 @@
 -- The newest calls that a coordinator knows.
-use Rattle.std.proofs.Common.{◌≡◌, ◌⊎◌, inl, inr, List, [], ◌∷◌, Some, ap, ◌∙◌}
-use Rattle.std.proofs.lemmas.Bool.{cond_both, eqb-true}
-use Rattle.hx_model.specs.Types.{SessionId}
-use Rattle.hx_types.specs.Words.{IsIn, same_session}
-use Rattle.hx_model.specs.CoordinatorSteps.{Newest, newest_of, with_newest}
+use Rattle.hx_law_lemmas.proofs.Lemmas.Vocabulary.{[], ap, cond_both, eqb-true, inl, inr, IsIn, List, Newest, newest_of, same_session, SessionId, Some}
+use Rattle.hx_law_lemmas.proofs.Lemmas.Vocabulary.{with_newest, ◌∙◌, ◌∷◌, ◌≡◌, ◌⊎◌}
 
 -- a newest call of a changed list is the new one or an old one
 pub in-with_newest : (n : Newest) (ns : List Newest) (x : Newest) → IsIn x (with_newest n ns) → (x ≡ n) ⊎ IsIn x ns

@@ -1,22 +1,12 @@
--- What a session's step does to the call under way in whatever configuration: nothing, or an end; and what it posts.
-use Rattle.hx_model.specs.Lines.{no_version}
-use Rattle.std.proofs.Common.{◌≡◌, ◌⊎◌, inl, inr, true, false, List, [], ◌∷◌, Option, Some, None, refl, sym, ap, ◌∙◌, subst}
-use Rattle.std.specs.Prelude.{Bool, ◌&&◌, ⊤}
-use Rattle.std.proofs.lemmas.Bool.{cond_both, and_parts}
-use Rattle.hx_model.specs.Types.{Actor, Add, Answer, Atomic, Coordinator, Cput, Del, Deliver, Get, Input, Message, Op, Planned, Post, PostId, Put, RegionId}
-use Rattle.hx_model.specs.Types.{Search, ServerId, Session, Space, Stop, Term, Version}
+-- What a session's step does to its calls in whatever configuration: a call may begin, and one may end; and what it posts.
+use Rattle.hx_law_lemmas.proofs.Lemmas.Vocabulary.{Actor, Add, and_parts, Answer, ap, Bool, cond_both, Deliver, false, inl, Input, inr}
+use Rattle.hx_law_lemmas.proofs.Lemmas.Vocabulary.{is_doubt, is_refused, is_write, IsIn, key_of, key_region, List, lost_answer, Message, no_version, None, Note}
+use Rattle.hx_law_lemmas.proofs.Lemmas.Vocabulary.{numbered, Op, Option, Post, PostId, refl, RegionId, Search, Session, session_step, SessionState, SessionStep}
+use Rattle.hx_law_lemmas.proofs.Lemmas.Vocabulary.{Some, Space, subst, sym, true, ⊤, ◌&&◌, ◌++◌, ◌+◌, ◌∙◌, ◌≡◌, ◌⊎◌}
 use Rattle.hx_types.specs.declared.calls.Answer.TheVariants as an_answer
 use Rattle.hx_types.specs.declared.messages.Message.TheVariants as a_message
-use Rattle.hx_types.specs.declared.outcomes.Planned.TheVariants as a_plan
-use Rattle.hx_types.specs.Words.{IsIn, post, provided}
-use Rattle.hx_types.specs.Effects.{is_write, key_of}
-use Rattle.hx_types.specs.Configs.{head_of, is_lost}
-use Rattle.hx_types.specs.Fitting.{is_doubt, is_refused, numbered}
-use Rattle.hx_model.specs.Regions.{key_region}
-use Rattle.hx_model.specs.Planning.{plan_of}
-use Rattle.hx_model.specs.SessionSteps.{SessionState, SessionStep, ask_regions, ask_to, call_to, ending, lost_answer, send, send_to, staying, with_poll}
-use Rattle.hx_law_lemmas.proofs.Lists.{in-append, in-flat_map}
-use Rattle.hx_law_lemmas.proofs.CallEnds.{CallStop, end_notes, goes_on}
+use Rattle.hx_law_lemmas.proofs.CallEnds.{CallStop, administrative_no_key, began_notes, end_notes, goes_on, started}
+use Rattle.hx_law_lemmas.proofs.SessionSteps.{AsksOf, EndsBy as Ends, Goes, IsCall, session-does}
 
 -- what a session says of its call under way, and whether that is sent and goes on: it replies to nobody, and says nothing of updates and epochs
 abbrev pub SaysOf : SessionState → Bool → Bool → Message → Type 0
@@ -55,37 +45,6 @@ pub record Turn (input : Input) (s : SessionState) (step : SessionStep) : Type 0
   pub cause : (e : CallStop) → stop ≡ Some e → EndsBy input s e
   pub says : (p : Post) → IsIn p step.posts → Says s step.state.sent step.state.under_way p
 
--- nothing is posted and noted
-pub stays : (input : Input) (s : SessionState) → Turn input s (staying s)
-stays input s = record {
-  id = refl;
-  calls = refl;
-  sent_kept = λ e. e;
-  begun = refl;
-  stop = None;
-  notes = refl;
-  under_way = refl;
-  running = λ e q. absurd (cc);
-  cause = λ e q. absurd (cc);
-  says = λ p i. absurd i;
-}
-
--- the call under way ends
-pub ends : (input : Input) (s : SessionState) (version : Version) (answer : Answer) → s.under_way ≡ true
-    → EndsBy input s (record { version = version; answer = answer }) → Turn input s (ending s version answer)
-ends input s version answer running cause = record {
-  id = refl;
-  calls = refl;
-  sent_kept = λ e. e;
-  begun = refl;
-  stop = Some (record { version = version; answer = answer });
-  notes = refl;
-  under_way = refl;
-  running = λ e q. running;
-  cause = λ e q. (let r : record { version = version; answer = answer } ≡ e = cc in subst (λ (x : CallStop). EndsBy input s x) r cause);
-  says = λ p i. absurd i;
-}
-
 -- what is answered on a lost region
 lost-is : (s : SessionState) (op : Op) (g : RegionId) → Lost s.sent op (lost_answer s op g)
 lost-is s op g =
@@ -96,107 +55,71 @@ lost-is s op g =
     by : (b : Bool) → b ≡ false → b ≡ false
     by b e = e
 
--- a call is sent to the first member of the key's region, or ends where that is lost
-pub sends_key : (input : Input) (s : SessionState) (op : Op) (g : RegionId) → s.under_way ≡ true → numbered s.calls s.begun ≡ Some op → Turn input s (send_to s op g)
-sends_key input s op g running called =
-    cond_both (is_lost s.config g) (ending s no_version (lost_answer s op g))
-    (record { state = record s { sent = true }; posts = call_to s op (head_of s.config g); notes = [] }) (Turn input s)
-    (λ t. ends input s no_version (lost_answer s op g) running (inr (inr (op, called, refl, lost-is s op g))))
-    (λ t. record {
-      id = refl;
-      calls = refl;
-      sent_kept = λ e. refl;
-      begun = refl;
-      stop = None;
-      notes = refl;
-      under_way = refl;
-      running = λ e q. absurd (cc);
-      cause = λ e q. absurd (cc);
-      says = λ p i. by (head_of s.config g) p i;
-    })
-  where
-    by : (o : Option ServerId) (p : Post) → IsIn p (call_to s op o) → Says s true s.under_way p
-    by None p i = absurd i
-    by (Some server) p (inl e) = rw e (refl, (refl, running, called, refl, running))
-    by (Some server) p (inr i) = absurd i
+-- what a session asks is what it says
+says-of : (s : SessionState) (sent way : Bool) (m : Message) → AsksOf s m → s.under_way ≡ true → (IsCall m → (sent ≡ true) × (way ≡ true)) → SaysOf s sent way m
+says-of s sent way (a_message.Call epoch number op) h w c = (h.0, w, h.1, (c tt).0, (c tt).1)
+says-of s sent way (a_message.Ask epoch number g terms) h w c = tt
+says-of s sent way (a_message.StopServer number server) h w c = tt
+says-of s sent way (a_message.AddReplica number server g) h w c = h.1
+says-of s sent way (a_message.Poll epoch) h w c = tt
+says-of s sent way other h w c = absurd h
 
--- a search asks regions, or ends since its plan is lost
-pub asks : (input : Input) (s : SessionState) (op : Op) (terms : List Term) (plan : Planned) → s.under_way ≡ true
-    → numbered s.calls s.begun ≡ Some op → key_of op ≡ None → Turn input s (ask_regions s terms plan)
-asks input s op terms (a_plan.Lost g) running called no_key = ends input s no_version (an_answer.Refused g s.config.epoch) running (inr (inl (op, called, no_key)))
-asks input s op terms (a_plan.Regions subspace regions) running called no_key = record {
-  id = refl;
-  calls = refl;
-  sent_kept = λ e. e;
-  begun = refl;
-  stop = None;
-  notes = refl;
-  under_way = refl;
-  running = λ e q. absurd (cc);
-  cause = λ e q. absurd (cc);
-  says = λ p i. (let r = in-flat_map (λ (g : RegionId). ask_to s terms g (head_of s.config g)) regions p i in by r.0 (head_of s.config r.0) p r.2);
-}
-  where
-    by : (g : RegionId) (o : Option ServerId) (p : Post) → IsIn p (ask_to s terms g o) → Says s s.sent s.under_way p
-    by g None p i = absurd i
-    by g (Some server) p (inl e) = rw e (refl, tt)
-    by g (Some server) p (inr i) = absurd i
+-- each way to end is one of the three
+ends-so : (space : Space) (input : Input) (s : SessionState) (e : CallStop) → Ends space input s e.version e.answer → EndsBy input s e
+ends-so space input s e (inl r) = inl (r.id, r.from, r.input_is)
+ends-so space input s e (inr (inl r)) = inr (inr (r.op, r.called, r.version, subst (Lost s.sent r.op) (sym r.answer) (lost-is s r.op (key_region space r.key))))
+ends-so space input s e (inr (inr (inl r))) = inr (inl (Search r.terms, r.called, refl))
+ends-so space input s e (inr (inr (inr (inl r)))) = inr (inl (Search r.terms, r.called, refl))
+ends-so space input s e (inr (inr (inr (inr r)))) = inr (inl (r.op, r.called, administrative_no_key r.op r.administers))
 
--- the call under way is sent
-pub sends : (input : Input) (space : Space) (s : SessionState) (op : Op) → s.under_way ≡ true → numbered s.calls s.begun ≡ Some op
-    → Turn input s (send space s op)
-sends input space s (Put key sets) running called = sends_key input s (Put key sets) (key_region space key) running called
-sends input space s (Get key) running called = sends_key input s (Get key) (key_region space key) running called
-sends input space s (Del key) running called = sends_key input s (Del key) (key_region space key) running called
-sends input space s (Cput key tests sets) running called = sends_key input s (Cput key tests sets) (key_region space key) running called
-sends input space s (Atomic key edits) running called = sends_key input s (Atomic key edits) (key_region space key) running called
-sends input space s (Search terms) running called = asks input s (Search terms) terms (plan_of space s.config terms) running called refl
-sends input space s (Stop server) running called = record {
-  id = refl;
-  calls = refl;
-  sent_kept = λ e. e;
-  begun = refl;
-  stop = None;
-  notes = refl;
-  under_way = refl;
-  running = λ e q. absurd (cc);
-  cause = λ e q. absurd (cc);
-  says = λ p i. elim i [ inl e ↦ rw e (refl, tt) | inr j ↦ absurd j ];
-}
-sends input space s (Add server region) running called = record {
-  id = refl;
-  calls = refl;
-  sent_kept = λ e. e;
-  begun = refl;
-  stop = None;
-  notes = refl;
-  under_way = refl;
-  running = λ e q. absurd (cc);
-  cause = λ e q. absurd (cc);
-  says = λ p i. elim i [ inl e ↦ rw e (refl, called) | inr j ↦ absurd j ];
+-- a step that begins no call, as a turn
+turn-of : (space : Space) (input : Input) (s : SessionState) (step : SessionStep) → Goes space input s step → Turn input s step
+turn-of space input s step g = record {
+  id = g.id;
+  calls = g.calls;
+  sent_kept = g.sent_kept;
+  begun = g.begun;
+  stop = g.stop;
+  notes = g.notes;
+  under_way = g.way;
+  running = λ e q. (g.cause e q).0;
+  cause = λ e q. ends-so space input s e (g.cause e q).1;
+  says = λ p i. (let h = g.posts p i in (h.0, says-of s step.state.sent step.state.under_way p.message h.1 (g.running p i) (g.calling p i)));
 }
 
--- a step with a poll after it
-pub polls : (input : Input) (s : SessionState) (step : SessionStep) → Turn input s step → Turn input s (with_poll step)
-polls input s step turn = record {
-  id = turn.id;
-  calls = turn.calls;
-  sent_kept = turn.sent_kept;
-  begun = turn.begun;
-  stop = turn.stop;
-  notes = turn.notes;
-  under_way = turn.under_way;
-  running = turn.running;
-  cause = turn.cause;
-  says = λ p i. elim (in-append step.posts
-      (provided step.state.under_way (post (Session step.state.id) Coordinator (a_message.Poll step.state.config.epoch) ∷ [])) p i) [
-        | inl j ↦ turn.says p j
-        | inr j ↦ by step.state.under_way p j
-      ];
-}
+-- a turn doesn't depend on the configuration and the parts of a search
+of-others : (input : Input) (s t : SessionState) (step : SessionStep) → t ≡ record s { config = t.config; parts = t.parts } → Turn input t step
+    → Turn input s step
+of-others input s t step e turn = by (subst (λ (x : SessionState). Turn input x step) e turn)
   where
-    by : (b : Bool) (p : Post)
-        → IsIn p (provided b (post (Session step.state.id) Coordinator (a_message.Poll step.state.config.epoch) ∷ [])) → Says s step.state.sent step.state.under_way p
-    by true p (inl e) = rw e (ap Session turn.id, tt)
-    by true p (inr i) = absurd i
-    by false p i = absurd i
+    by : Turn input (record s { config = t.config; parts = t.parts }) step → Turn input s step
+    by u = record {
+      id = u.id;
+      calls = u.calls;
+      sent_kept = u.sent_kept;
+      begun = u.begun;
+      stop = u.stop;
+      notes = u.notes;
+      under_way = u.under_way;
+      running = u.running;
+      cause = u.cause;
+      says = u.says;
+    }
+
+-- a call may begin, then what was under way may end
+pub record SessionTurn (input : Input) (s : SessionState) (step : SessionStep) : Type 0 where
+  pub start : Bool
+  pub fresh : start ≡ true → s.under_way ≡ false
+  pub rest : List Note
+  pub notes : step.notes ≡ began_notes start (s.begun + 1) ++ rest
+  pub turn : Turn input (started start s) (record { state = step.state; posts = step.posts; notes = rest })
+
+-- each step of a session
+pub session_turn : (space : Space) (input : Input) (s : SessionState) → SessionTurn input s (session_step space s input)
+session_turn space input s = let d = session-does space s input in record {
+  start = d.start;
+  fresh = d.idle;
+  rest = d.rest;
+  notes = d.notes;
+  turn = of-others input (started d.start s) d.mid _ d.mid_is (turn-of space input d.mid _ d.goes);
+}

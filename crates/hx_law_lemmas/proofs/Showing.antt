@@ -1,17 +1,10 @@
 -- The rows that a replica finds, where each of its slots keeps what its region keeps of the key's line up to a front.
-use Rattle.hx_model.specs.Lines.{upto}
-use Rattle.std.proofs.Common.{◌≡◌, ℕ, inl, inr, true, List, Some, None, sym, ap, ◌∙◌, subst}
-use Rattle.hx_model.specs.Types.{RegionId, Row, Space, Term, Update}
-use Rattle.hx_types.specs.Words.{IsIn}
-use Rattle.hx_types.specs.Subspaces.{is_key_region}
-use Rattle.hx_model.specs.Matching.{matches}
-use Rattle.hx_model.specs.Slots.{KeyState, found_in, kept_row, object_of, rows_of}
-use Rattle.hx_model.specs.ServerSteps.{Replica, state_in}
+use Rattle.hx_law_lemmas.proofs.Lemmas.Vocabulary.{ap, found_in, inl, inr, is_key_region, IsIn, kept_row, KeyState, List, matches, None, object_of, part_at}
+use Rattle.hx_law_lemmas.proofs.Lemmas.Vocabulary.{RegionId, Replica, Row, rows_of, Some, Space, state_in, subst, sym, Term, true, Update, upto, ℕ, ◌∙◌, ◌≡◌}
 use Rattle.hx_law_lemmas.proofs.Lists.{in-filter}
 use Rattle.hx_law_lemmas.proofs.Replicas.{state-from}
 use Rattle.hx_law_lemmas.proofs.FoundRows.{found-row, kept-key, row-found}
 use Rattle.hx_law_lemmas.proofs.Placed.{AllMade}
-use Rattle.hx_law_lemmas.specs.Facts.{part_at}
 
 module _ (space : Space) (g : RegionId) (r : Replica) (line : List ℕ → List Update) (made : (key : List ℕ) → AllMade space key (line key)) (front : List ℕ → ℕ)
     (kept : (key : List ℕ) → object_of g (state_in space r key) ≡ kept_row g None (upto (front key) (part_at g (line key))))

@@ -1,10 +1,5 @@
 -- A line that stays up to a version, whatever entry comes next, stays so however the run goes on.
-use Rattle.hx_model.specs.Lines.{upto}
-use Rattle.std.proofs.Common.{◌≡◌, ℕ, inl, inr, List, [], ◌∷◌, refl, ◌∙◌, subst}
-use Rattle.hx_model.specs.Types.{Entry, Script}
-use Rattle.hx_model.specs.Runs.{IsRun}
-use Rattle.hx_model.specs.Histories.{line_of}
-use Rattle.hx_law_lemmas.specs.Facts.{IsPartOf, StaysUpTo}
+use Rattle.hx_law_lemmas.proofs.Lemmas.Vocabulary.{[], Entry, inl, inr, IsPartOf, IsRun, line_of, List, refl, Script, StaysUpTo, subst, upto, ℕ, ◌∙◌, ◌∷◌, ◌≡◌}
 
 -- what each entry keeps, and under which it leaves the line up to the version
 pub stays-by : (script : Script) (Holds : List Entry → Type 0) (key : List ℕ) (v : ℕ)

@@ -1,9 +1,7 @@
 -- In a run a session's calls that ended did so before its later ones began.
-use Rattle.std.proofs.Common.{◌≡◌, ℕ, ◌<◌, ◌+◌, inl, inr, List, [], ◌∷◌, ap, arith}
-use Rattle.hx_model.specs.Types.{Answer, Caller, Entry, Script, SessionId, Version}
-use Rattle.hx_model.specs.Runs.{IsRun, session_of}
+use Rattle.hx_law_lemmas.proofs.Lemmas.Vocabulary.{[], Answer, ap, arith, Caller, Entry, Facts, inl, inr, IsRun, List, Script, session_of, SessionId, Version}
+use Rattle.hx_law_lemmas.proofs.Lemmas.Vocabulary.{ℕ, ◌+◌, ◌<◌, ◌∷◌, ◌≡◌}
 use Rattle.hx_law_lemmas.proofs.Lemmas.{started, end-noted, begins_now, ends_now, may_start, BeganAt, EndedAt, began_at, ended_at}
-use Rattle.hx_law_lemmas.specs.Facts.{Facts}
 use Rattle.hx_law_searches.proofs.Lemmas.{calls_kept, turn_is, facts}
 use Rattle.hx_law_order.specs.Headline.{RunsKeepTurns}
 

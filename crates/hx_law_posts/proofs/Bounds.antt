@@ -1,9 +1,8 @@
 -- What bounds the state of an actor after so many entries, and that it bounds it after more of them.
-use Rattle.std.proofs.Common.{◌≡◌, ℕ, ◌+◌, ◌≤◌, true, arith}
-use Rattle.hx_model.specs.Types.{Actor, Answer, Config, Coordinator, Kept, Mark, RegionId, Row, Server, Session, Space, Update}
+use Rattle.hx_law_lemmas.proofs.Lemmas.Vocabulary.{Actor, ActorExists, Answer, AnswerUpTo, arith, Bounds, Config, Coordinator, has_place_in, IsConfigOf}
+use Rattle.hx_law_lemmas.proofs.Lemmas.Vocabulary.{IsSessionOf, IsSoundAnswer, IsSoundKept, IsSoundUpdate, Kept, Mark, RegionId, Row, Server, Session, Space}
+use Rattle.hx_law_lemmas.proofs.Lemmas.Vocabulary.{true, Update, ℕ, ◌+◌, ◌≡◌, ◌≤◌}
 use Rattle.hx_types.specs.declared.calls.Answer.TheVariants as an_answer
-use Rattle.hx_types.specs.Spaces.{IsConfigOf}
-use Rattle.hx_types.specs.Posts.{ActorExists, AnswerUpTo, Bounds, IsSessionOf, IsSoundAnswer, IsSoundKept, IsSoundUpdate, has_place_in}
 use Rattle.hx_law_lemmas.proofs.Lemmas.{all-in, all-of}
 
 -- what bounds the posts of an entry

@@ -1,21 +1,16 @@
 -- Calls, updates, acknowledgements and searches: what a server does on them, in every configuration of the space.
-use Rattle.std.proofs.Common.{◌≡◌, ℕ, ◌+◌, ◌<◌, ◌≤◌, inl, inr, true, List, [], ◌∷◌, Option, Some, None, refl, sym, ap, ◌∙◌, subst, arith, leb}
-use Rattle.std.proofs.lemmas.Bool.{cond_both}
-use Rattle.hx_model.specs.Types.{Actor, Caller, Decision, Epoch, Op, Post, RegionId, Row, Server, ServerId, Session, Space, Term, Update}
+use Rattle.hx_law_lemmas.proofs.Lemmas.Vocabulary.{[], accepting, ack_step, acked, acked_of, acknowledged, Actor, ActorExists, ap, arith, asked, at_slot}
+use Rattle.hx_law_lemmas.proofs.Lemmas.Vocabulary.{by_moves, by_posts, call_at, call_step, called, called_by, Caller, cond_both, context_of, decide, decided}
+use Rattle.hx_law_lemmas.proofs.Lemmas.Vocabulary.{Decision, doubt_in, Epoch, Fits, found_in, get_answer, get_step, hears_ack, hears_update, inl, inr}
+use Rattle.hx_law_lemmas.proofs.Lemmas.Vocabulary.{is_session_actor, is_write, IsIn, IsMaybeObjectOf, IsMaybeRowUpTo, IsRowOf, IsSessionOf, IsSoundPost, key_of}
+use Rattle.hx_law_lemmas.proofs.Lemmas.Vocabulary.{key_region, KeyFits, KeyState, known_to, leads, leb, List, lists_ready, None, object_in, object_of, offered}
+use Rattle.hx_law_lemmas.proofs.Lemmas.Vocabulary.{Op, Option, pending_with, place_number, Post, post, refl, RegionId, Replica, replica_for, replica_of, reply}
+use Rattle.hx_law_lemmas.proofs.Lemmas.Vocabulary.{Row, Server, ServerId, ServerState, ServerStep, Session, SlotStep, Some, Space, state_in, stuck_of, subst}
+use Rattle.hx_law_lemmas.proofs.Lemmas.Vocabulary.{sym, Term, top_of, true, unmoved, Update, update_step, updated, waiting_doubt, write_step, ℕ, ◌+◌, ◌<◌, ◌∙◌}
+use Rattle.hx_law_lemmas.proofs.Lemmas.Vocabulary.{◌∷◌, ◌≡◌, ◌≤◌}
 use Rattle.hx_types.specs.declared.outcomes.Decision.TheVariants as a_decision
 use Rattle.hx_types.specs.declared.messages.Message.TheVariants as a_message
-use Rattle.hx_types.specs.Words.{IsIn, post}
-use Rattle.hx_types.specs.Effects.{is_write, key_of}
-use Rattle.hx_types.specs.Configs.{leads, lists_ready}
-use Rattle.hx_types.specs.Spaces.{Fits, IsMaybeObjectOf, IsMaybeRowUpTo, IsRowOf, KeyFits}
-use Rattle.hx_types.specs.Posts.{ActorExists, IsSessionOf, IsSoundPost, is_session_actor}
-use Rattle.hx_model.specs.Regions.{key_region}
-use Rattle.hx_model.specs.Hearing.{hears_ack, hears_update}
-use Rattle.hx_model.specs.Neighbours.{place_number}
-use Rattle.hx_model.specs.Slots.{KeyState, acknowledged, found_in, object_in, object_of, offered, top_of}
-use Rattle.hx_model.specs.Leading.{decide, stuck_of}
-use Rattle.hx_model.specs.ServerSteps.{Replica, ServerState, ServerStep, SlotStep, accepting, ack_step, acked, acked_of, asked, at_slot, by_moves, by_posts, call_at, call_step, called, called_by, decided, doubt_in, get_answer, get_step, known_to, pending_with, replica_for, replica_of, reply, context_of, state_in, unmoved, update_step, updated, waiting_doubt, write_step}
-use Rattle.hx_law_lemmas.proofs.Lemmas.{all-of, in-provided, when_some_both, accepting-known-in_line as accepting-known}
+use Rattle.hx_law_lemmas.proofs.Lemmas.{each-one, all-of, in-provided, when_some_both, accepting-known-in_line as accepting-known}
 use Rattle.hx_law_lemmas.proofs.Lemmas.{acknowledged-known-in_line as acknowledged-known, offered-known-in_line as offered-known, replica-found, state-key}
 use Rattle.hx_law_lemmas.proofs.Lemmas.{fits-key, get-sound, found-row}
 use Rattle.hx_law_posts.proofs.Bounds.{IsSoundAt, bounds}
@@ -36,10 +31,6 @@ module _ (space : Space) (sessions n : ℕ) (s : ServerId) (st : ServerState) (r
   abbrev IsSound : Post → Type 0
   IsSound p = IsSoundPost space sessions n p
 
-  -- one sound post
-  one-sound : (p : Post) → IsSound p → (q : Post) → IsIn q (p ∷ []) → IsSound q
-  one-sound p h q i = elim i [ inl e ↦ subst IsSound (sym e) h | inr j ↦ absurd j ]
-
   module _ (r : Replica) (i : IsIn r st.replicas) (t : KeyState) (h : IsSoundSlot space sessions n r.region t) where
     -- an update that may be held is accepted
     accept-good : (u : Update) → IsSoundAt space sessions n r.region u → IsGood (at_slot st r t (by_moves (context_of space st r.region) (accepting (context_of space st r.region) t (offered r.region t u))))
@@ -56,13 +47,13 @@ module _ (space : Space) (sessions n : ℕ) (s : ServerId) (st : ServerState) (r
     decided-good caller session a_decision.Old k = posts-good space sessions n s st relies r i t h [] (λ p j. absurd j)
     decided-good caller session (a_decision.Again v answer) k =
         posts-good space sessions n s st relies r i t h (reply (context_of space st r.region) caller v answer ∷ [])
-        (one-sound (reply (context_of space st r.region) caller v answer) (reply-sound space sessions n (context_of space st r.region) (here space sessions n s st relies r i) caller v answer session (let l = k.0 in omega (arith, l)) k.1))
+        (each-one IsSound (reply (context_of space st r.region) caller v answer) (reply-sound space sessions n (context_of space st r.region) (here space sessions n s st relies r i) caller v answer session (let l = k.0 in omega (arith, l)) k.1))
     decided-good caller session (a_decision.Wait v) k =
         posts-good space sessions n s st relies r i t h (waiting_doubt (context_of space st r.region) caller v (stuck_of st.config t))
         (waiting-sound space sessions n (context_of space st r.region) (here space sessions n s st relies r i) r.region t h caller session v k)
     decided-good caller session (a_decision.Stuck g) k =
         posts-good space sessions n s st relies r i t h (doubt_in (context_of space st r.region) caller (record { 0 = 0 }) g ∷ [])
-        (one-sound (doubt_in (context_of space st r.region) caller (record { 0 = 0 }) g) (doubt-sound space sessions n (context_of space st r.region) (here space sessions n s st relies r i) caller (record { 0 = 0 }) g session (omega arith) k))
+        (each-one IsSound (doubt_in (context_of space st r.region) caller (record { 0 = 0 }) g) (doubt-sound space sessions n (context_of space st r.region) (here space sessions n s st relies r i) caller (record { 0 = 0 }) g session (omega arith) k))
     decided-good caller session (a_decision.Assign u) k = let a = accept-good u k.0 in record { state = a.state; posts = a.posts }
 
     -- the object of a slot
@@ -75,7 +66,7 @@ module _ (space : Space) (sessions n : ℕ) (s : ServerId) (st : ServerState) (r
     get-good caller session =
         let answer = get_answer (object_in (object_of r.region t)) in
         posts-good space sessions n s st relies r i t h (reply (context_of space st r.region) caller (record { 0 = t.floor }) answer ∷ [])
-        (one-sound (reply (context_of space st r.region) caller (record { 0 = t.floor }) answer)
+        (each-one IsSound (reply (context_of space st r.region) caller (record { 0 = t.floor }) answer)
         (reply-sound space sessions n (context_of space st r.region) (here space sessions n s st relies r i) caller (record { 0 = t.floor }) answer session (let f = h.floor in omega (arith, f))
         (get-sound (bounds space sessions n) (object_in (object_of r.region t)) (slot-object (object_of r.region t) (object-sound space sessions n r.region t h)))))
 
@@ -138,7 +129,7 @@ module _ (space : Space) (sessions n : ℕ) (s : ServerId) (st : ServerState) (r
   asked-good from x session epoch e number g terms (Some r) f =
       let k = replica-found g st.replicas r (f r refl) in
       saying-good space sessions n s st relies _
-      (λ p i. one-sound (post (Server st.id) from (a_message.Found epoch number r.region (found_in r.region terms r.states)))
+      (λ p i. each-one IsSound (post (Server st.id) from (a_message.Found epoch number r.region (found_in r.region terms r.states)))
       (record {
         from = relies.exists;
         to = x;

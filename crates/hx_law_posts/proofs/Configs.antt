@@ -1,15 +1,8 @@
 -- Configurations of a space: the first one is such, and their members are servers of the space.
-use Rattle.std.proofs.Common.{◌≡◌, ℕ, zero, suc, ◌+◌, ◌*◌, ◌/◌, ◌%◌, ◌<◌, ◌≤◌, inl, inr, List, [], ◌∷◌, map, length, refl, sym, ap, ◌∙◌, subst, arith}
-use Rattle.std.specs.List.{slice_get}
-use Rattle.std.proofs.Math.Nat.{div-add-mod, mod-lt, mul-le-mul_left, mul-suc}
-use Rattle.std.proofs.lemmas.Bool.{cases_order}
-use Rattle.std.proofs.lemmas.List.{length-append, length-map, map-append}
-use Rattle.hx_model.specs.Types.{Config, Member, RegionId, Space}
-use Rattle.hx_types.specs.Words.{IsIn, below}
-use Rattle.hx_types.specs.Subspaces.{region_count}
-use Rattle.hx_types.specs.Configs.{first_config, first_member, members_of}
-use Rattle.hx_types.specs.Spaces.{AllDiffer, IsConfigOf, IsListOf, IsServerOf, IsSpace}
-use Rattle.hx_law_lemmas.proofs.Lemmas.{all-in, all-of, differ-append, in-below, in-map, in-slice_get, when_some_both}
+use Rattle.hx_law_lemmas.proofs.Lemmas.Vocabulary.{[], AllDiffer, ap, arith, below, Config, first_config, first_member, inl, inr, IsConfigOf, IsIn, IsListOf}
+use Rattle.hx_law_lemmas.proofs.Lemmas.Vocabulary.{IsServerOf, IsSpace, length-map, List, map, map-append, Member, members_of, mod-lt, region_count, RegionId}
+use Rattle.hx_law_lemmas.proofs.Lemmas.Vocabulary.{slice_get, Space, subst, suc, sym, zero, ℕ, ◌%◌, ◌+◌, ◌∙◌, ◌∷◌, ◌≡◌, ◌≤◌}
+use Rattle.hx_law_lemmas.proofs.Lemmas.{length-below, mod-apart, all-in, all-of, differ-append, in-below, in-map, in-slice_get, when_some_both}
 
 -- each member of a configuration of the space is a server of it
 pub member-server : (space : Space) (config : Config) → IsConfigOf space config → (g : RegionId) (m : Member) → IsIn m (members_of config g) → IsServerOf space m.server
@@ -17,22 +10,6 @@ member-server space config of_space g m =
     when_some_both (slice_get config.regions g.0) [] (λ (members : List Member). members) (λ (l : List Member). IsIn m l → IsServerOf space m.server)
     (λ e i. absurd i)
     (λ (members : List Member) e i. all-in (λ (x : Member). IsServerOf space x.server) members m (all-in (IsListOf space) config.regions members of_space.each (in-slice_get config.regions g.0 members e)).each i)
-
--- how many numbers are below a bound
-pub length-below : (n : ℕ) → length (below n) ≡ n
-length-below zero = refl
-length-below (suc n) = let a = length-append (below n) (n ∷ []) in let r = length-below n in omega (arith, a, r)
-
--- two numbers less than a modulus apart leave other rests
-mod-apart : (n a b : ℕ) → a < b → b < a + n → a % n ≡ b % n → ⊥
-mod-apart n a b l m e =
-    let p : n * (a / n) + a % n ≡ a = div-add-mod a n in
-    let q : n * (b / n) + b % n ≡ b = div-add-mod b n in
-    elim (cases_order (a / n) (b / n)) [
-      | inl h ↦ (let r : n * (a / n) ≡ n * (b / n) = ap (λ k. n * k) h in omega (arith, p, q, r, e, l))
-      | inr (inl h) ↦ (let r : n * suc (a / n) ≤ n * (b / n) = mul-le-mul_left n h in let s : n * suc (a / n) ≡ n * (a / n) + n = mul-suc n (a / n) in omega (arith, p, q, r, s, e, m))
-      | inr (inr h) ↦ (let r : n * suc (b / n) ≤ n * (a / n) = mul-le-mul_left n h in let s : n * suc (b / n) ≡ n * (b / n) + n = mul-suc n (b / n) in omega (arith, p, q, r, s, e, l))
-    ]
 
 -- the number of a member's server
 abbrev pub server_number : Member → ℕ

@@ -1,17 +1,10 @@
 -- What a leader decides on a write that fits is sound, in every configuration of the space.
-use Rattle.std.proofs.Common.{◌≡◌, ℕ, ◌+◌, ◌<◌, ◌≤◌, false, List, [], Option, Some, None, refl, sym, subst, arith, leb, ltb, eqb}
-use Rattle.std.specs.Prelude.{⊤}
-use Rattle.std.proofs.lemmas.Bool.{cond_both, eq-eqb, or_left}
-use Rattle.hx_model.specs.Types.{Caller, Config, Decision, Effect, Mark, Op, Place, RegionId, Space, Update, Value}
+use Rattle.hx_law_lemmas.proofs.Lemmas.Vocabulary.{[], AnswerUpTo, arith, assigned, by_mark, Caller, cond_both, Config, decide, Decision, Effect, effect_of}
+use Rattle.hx_law_lemmas.proofs.Lemmas.Vocabulary.{eq-eqb, eqb, false, first_lost, Fits, fresh, granted, IsAnswerOf, IsMaybeObjectOf, IsRegionOf, IsSessionOf}
+use Rattle.hx_law_lemmas.proofs.Lemmas.Vocabulary.{IsSoundAnswer, IsSpace, key_region, KeyState, latest_of, leb, List, ltb, Mark, mark_of, None, Op, Option}
+use Rattle.hx_law_lemmas.proofs.Lemmas.Vocabulary.{or_left, Place, places_of, refl, refusal, RegionId, same_region, Some, Space, stuck_of, StuckAt, subst, sym}
+use Rattle.hx_law_lemmas.proofs.Lemmas.Vocabulary.{top_of, touches_of, Update, Value, ℕ, ⊤, ◌+◌, ◌<◌, ◌≡◌, ◌≤◌}
 use Rattle.hx_types.specs.declared.outcomes.Decision.TheVariants as a_decision
-use Rattle.hx_types.specs.Words.{same_region}
-use Rattle.hx_types.specs.Effects.{effect_of}
-use Rattle.hx_types.specs.Spaces.{Fits, IsAnswerOf, IsMaybeObjectOf, IsRegionOf, IsSpace}
-use Rattle.hx_types.specs.Posts.{AnswerUpTo, IsSessionOf, IsSoundAnswer}
-use Rattle.hx_model.specs.Regions.{key_region}
-use Rattle.hx_model.specs.Places.{places_of}
-use Rattle.hx_model.specs.Slots.{KeyState, latest_of, mark_of, top_of, touches_of}
-use Rattle.hx_model.specs.Leading.{StuckAt, assigned, by_mark, decide, first_lost, fresh, granted, refusal, stuck_of}
 use Rattle.hx_law_lemmas.proofs.Lemmas.{all-in, when_some_both, effect-sound, ArePlaced, placed}
 use Rattle.hx_law_posts.proofs.Bounds.{IsSoundAt, IsSoundConfig, bounds}
 use Rattle.hx_law_posts.proofs.Slots.{IsSoundSlot}

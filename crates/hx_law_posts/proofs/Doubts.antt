@@ -1,16 +1,9 @@
 -- Doubts: what is posted of updates that a lost region holds up.
-use Rattle.std.proofs.Common.{◌≡◌, ℕ, ◌+◌, ◌≤◌, inl, inr, List, [], ◌∷◌, Option, Some, None, refl, sym, subst, arith, leb}
-use Rattle.std.specs.List.{filter}
-use Rattle.std.proofs.lemmas.Bool.{cond_both}
-use Rattle.hx_model.specs.Types.{Caller, Config, Place, Post, RegionId, Space, Update, Version}
+use Rattle.hx_law_lemmas.proofs.Lemmas.Vocabulary.{[], arith, Caller, cond_both, Config, doubt_in, doubts_from, filter, first_lost, inl, inr, is_lost, IsIn}
+use Rattle.hx_law_lemmas.proofs.Lemmas.Vocabulary.{IsRegionOf, IsSessionOf, IsSoundPost, KeyState, leader_doubts, leads, leb, List, None, Option, pending_of}
+use Rattle.hx_law_lemmas.proofs.Lemmas.Vocabulary.{Place, Post, refl, RegionId, SlotContext, Some, Space, stuck_among, stuck_of, StuckAt, subst, sym, Update}
+use Rattle.hx_law_lemmas.proofs.Lemmas.Vocabulary.{Version, waiting_doubt, ℕ, ◌+◌, ◌∷◌, ◌≡◌, ◌≤◌}
 use Rattle.hx_types.specs.declared.calls.Answer.TheVariants as an_answer
-use Rattle.hx_types.specs.Words.{IsIn}
-use Rattle.hx_types.specs.Configs.{is_lost, leads}
-use Rattle.hx_types.specs.Spaces.{IsRegionOf}
-use Rattle.hx_types.specs.Posts.{IsSessionOf, IsSoundPost}
-use Rattle.hx_model.specs.Slots.{KeyState, pending_of}
-use Rattle.hx_model.specs.Leading.{StuckAt, first_lost, stuck_among, stuck_of}
-use Rattle.hx_model.specs.ServerSteps.{SlotContext, doubt_in, doubts_from, leader_doubts, waiting_doubt}
 use Rattle.hx_law_lemmas.proofs.Lemmas.{all-in, in-filter, in-map, in-provided, when_some_both}
 use Rattle.hx_law_posts.proofs.Slots.{IsSoundSlot, pending-sound}
 use Rattle.hx_law_posts.proofs.SlotPosts.{IsContext, reply-sound}

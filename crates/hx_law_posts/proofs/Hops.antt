@@ -1,13 +1,9 @@
 -- Neighbours in a configuration of the space are servers of the space, at a place of the update.
-use Rattle.std.proofs.Common.{◌≡◌, ℕ, zero, suc, ◌+◌, ◌-◌, ◌⊎◌, inl, inr, List, [], ◌∷◌, Option, Some, None, refl, sym, ap, ◌∙◌, subst, arith}
-use Rattle.std.specs.List.{slice_get}
-use Rattle.std.specs.Option.{option_map}
-use Rattle.std.proofs.lemmas.Bool.{cond_both}
-use Rattle.hx_model.specs.Types.{At, Blocked, Config, Hop, Member, Place, RegionId, ServerId, Space}
-use Rattle.hx_types.specs.Words.{IsIn, first_of_list, same_server, when_some}
-use Rattle.hx_types.specs.Configs.{head_of, is_lost, members_of}
-use Rattle.hx_types.specs.Spaces.{IsConfigOf, IsServerOf}
-use Rattle.hx_model.specs.Neighbours.{enters, enters_last, hop_at, last_member, member_after, member_before, members_at, next_of, preceding_place, prev_of}
+use Rattle.hx_law_lemmas.proofs.Lemmas.Vocabulary.{[], ap, arith, At, Blocked, cond_both, Config, enters, enters_last, first_of_list, head_of, Hop, hop_at, inl}
+use Rattle.hx_law_lemmas.proofs.Lemmas.Vocabulary.{inr, is_lost, IsConfigOf, IsIn, IsServerOf, last_member, List, Member, member_after, member_before}
+use Rattle.hx_law_lemmas.proofs.Lemmas.Vocabulary.{members_at, members_of, next_of, None, Option, option_map, Place, preceding_place, prev_of, refl, RegionId}
+use Rattle.hx_law_lemmas.proofs.Lemmas.Vocabulary.{same_server, ServerId, slice_get, Some, Space, subst, suc, sym, when_some, zero, ℕ, ◌+◌, ◌-◌, ◌∙◌, ◌∷◌, ◌≡◌}
+use Rattle.hx_law_lemmas.proofs.Lemmas.Vocabulary.{◌⊎◌}
 use Rattle.hx_law_lemmas.proofs.Lemmas.{when_some_both}
 use Rattle.hx_law_posts.proofs.Configs.{member-server}
 

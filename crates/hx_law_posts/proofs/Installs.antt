@@ -1,16 +1,12 @@
 -- A configuration is adopted: what a server keeps, posts and makes of its slots is sound.
-use Rattle.std.proofs.Common.{◌≡◌, ℕ, inl, inr, Bool, true, false, [], ◌∷◌, ◌++◌, map, length, refl, sym, ap, subst, arith, ltb}
-use Rattle.std.specs.List.{flat_map}
-use Rattle.std.proofs.lemmas.Bool.{cond_both}
-use Rattle.hx_model.specs.Types.{Config, Post, RegionId, ServerId, Space}
-use Rattle.hx_types.specs.Words.{IsIn, below}
-use Rattle.hx_types.specs.Configs.{lists}
-use Rattle.hx_types.specs.Spaces.{IsRegionOf}
-use Rattle.hx_types.specs.Posts.{IsSoundPost}
-use Rattle.hx_model.specs.Slots.{Forget, KeyState, moved_all, pending_of}
-use Rattle.hx_model.specs.ServerSteps.{Replica, ServerState, SlotContext, adopted, adopted_posts, adopted_replica, adopted_state, asking_last, tail_acks, install_at, is_active, leader_doubts, listed_regions, move_posts, passed_on, pending_posts, ready_post, replica_of, replica_or_new, replica_tick, resumed, resumed_posts, snap_posts, context_of, tick_step, unmoved, with_config}
-use Rattle.hx_model.proofs.Lemmas.{base-moved_all}
-use Rattle.hx_law_lemmas.proofs.Lemmas.{in-append, in-below, in-filter, in-flat_map, in-map, in-provided, when_some_both, AllKnownInLine as AllKnown}
+use Rattle.hx_law_lemmas.proofs.Lemmas.Vocabulary.{[], adopted, adopted_posts, adopted_replica, adopted_state, ap, arith, asking_last, base-moved_all, below}
+use Rattle.hx_law_lemmas.proofs.Lemmas.Vocabulary.{Bool, cond_both, Config, context_of, false, flat_map, Forget, inl, inr, install_at, is_active, IsIn}
+use Rattle.hx_law_lemmas.proofs.Lemmas.Vocabulary.{IsRegionOf, IsSoundPost, KeyState, leader_doubts, length, List, listed_regions, lists, ltb, map, move_posts}
+use Rattle.hx_law_lemmas.proofs.Lemmas.Vocabulary.{moved_all, passed_on, pending_of, pending_posts, Post, provided, ready_post, refl, RegionId, Replica}
+use Rattle.hx_law_lemmas.proofs.Lemmas.Vocabulary.{replica_of, replica_or_new, replica_tick, resumed, resumed_posts, ServerId, ServerState, SlotContext}
+use Rattle.hx_law_lemmas.proofs.Lemmas.Vocabulary.{snap_posts, Space, subst, sym, tail_acks, tick_step, true, unmoved, with_config, ℕ, ◌++◌, ◌∷◌, ◌≡◌}
+use Rattle.hx_law_lemmas.proofs.Lemmas.{each-append, each-flat, each-map, each-provided, in-below, in-filter, in-flat_map, in-map}
+use Rattle.hx_law_lemmas.proofs.Lemmas.{when_some_both, AllKnownInLine as AllKnown}
 use Rattle.hx_law_lemmas.proofs.Lemmas.{KnownInLine as Known, marks-known-in_line as marks-known, with_commits-known-in_line as with_commits-known}
 use Rattle.hx_law_lemmas.proofs.Lemmas.{replica-found, state_key}
 use Rattle.hx_law_posts.proofs.Bounds.{IsSoundConfig}
@@ -48,15 +44,14 @@ module _ (space : Space) (sessions n : ℕ) (s : ServerId) (st : ServerState) (r
         let b = in-flat_map (passed_on context) (pending_of t) p k in
         update_to-sound space sessions n context (here space sessions n s st relies r i) b.0 (pending-sound space sessions n r.region t ((relies.sound.replicas r i).slots t j) b.0 b.1).sound p b.2
 
+    -- what is posted of an active replica: of its snapshot, of its slots, and that it is ready
+    of-all : (ps : List Post) → ((p : Post) → IsIn p ps → IsSound p) → (p : Post) → IsIn p (provided (is_active st.config r) (snap_posts st r ++ ps ++ ready_post st r.region)) → IsSound p
+    of-all ps f = each-provided IsSound (is_active st.config r) _
+        (each-append IsSound (snap_posts st r ++ ps) (ready_post st r.region) (each-append IsSound (snap_posts st r) ps (snap-sound space sessions n s st relies r i) f) (ready-sound space sessions n s st relies r i))
+
     -- what is sent again on a tick
     tick-sound : (p : Post) → IsIn p (replica_tick space st r) → IsSound p
-    tick-sound p j = elim (in-append (snap_posts st r ++ pending_posts context r.states) (ready_post st r.region) p (in-provided (is_active st.config r) _ p j).1) [
-      | inl k ↦ elim (in-append (snap_posts st r) (pending_posts context r.states) p k) [
-        | inl q ↦ snap-sound space sessions n s st relies r i p q
-        | inr q ↦ (let a = in-flat_map (λ (t : KeyState). flat_map (passed_on context) (pending_of t)) r.states p q in passed-sound a.0 a.1 p a.2)
-      ]
-      | inr k ↦ ready-sound space sessions n s st relies r i p k
-    ]
+    tick-sound = of-all (pending_posts context r.states) (each-flat IsSound (λ (t : KeyState). flat_map (passed_on context) (pending_of t)) r.states passed-sound)
 
     -- a slot goes on
     resumed-sound : (t : KeyState) → IsIn t r.states → IsSoundSlot space sessions n r.region (moved_all (resumed context t) t)
@@ -66,25 +61,20 @@ module _ (space : Space) (sessions n : ℕ) (s : ServerId) (st : ServerState) (r
 
     -- what is posted of a slot that goes on
     resumed-posts : (t : KeyState) → IsIn t r.states → (p : Post) → IsIn p (resumed_posts context t) → IsSound p
-    resumed-posts t j p k = elim (in-append (flat_map (passed_on context) (pending_of t) ++ flat_map (move_posts context) (resumed context t)) (leader_doubts context (moved_all (resumed context t) t)) p k) [
-      | inl q ↦ elim (in-append (flat_map (passed_on context) (pending_of t)) (flat_map (move_posts context) (resumed context t)) p q) [
-        | inl w ↦ passed-sound t j p w
-        | inr w ↦ moves-sound space sessions n context (here space sessions n s st relies r i) (together [] t)
-            (λ u x. (together-sound space sessions n r.region [] (λ v y. absurd y) t ((relies.sound.replicas r i).slots t j) u x).sound)
-            (resumed context t) (resumed-known context t) p w
-      ]
-      | inr q ↦ leader-sound space sessions n context (here space sessions n s st relies r i) r.region (moved_all (resumed context t) t) (resumed-sound t j) p q
-    ]
+    resumed-posts t j =
+        each-append IsSound (flat_map (passed_on context) (pending_of t) ++ flat_map (move_posts context) (resumed context t)) (leader_doubts context (moved_all (resumed context t) t))
+        (
+        each-append IsSound (flat_map (passed_on context) (pending_of t)) (flat_map (move_posts context) (resumed context t)) (passed-sound t j)
+        (
+        moves-sound space sessions n context (here space sessions n s st relies r i) (together [] t)
+        (λ u x. (together-sound space sessions n r.region [] (λ v y. absurd y) t ((relies.sound.replicas r i).slots t j) u x).sound) (resumed context t) (resumed-known context t)
+        )
+        )
+        (leader-sound space sessions n context (here space sessions n s st relies r i) r.region (moved_all (resumed context t) t) (resumed-sound t j))
 
     -- what is posted of a replica when a configuration is adopted
     adopted-posts : (p : Post) → IsIn p (adopted_posts space st r) → IsSound p
-    adopted-posts p j = elim (in-append (snap_posts st r ++ flat_map (resumed_posts context) r.states) (ready_post st r.region) p (in-provided (is_active st.config r) _ p j).1) [
-      | inl k ↦ elim (in-append (snap_posts st r) (flat_map (resumed_posts context) r.states) p k) [
-        | inl q ↦ snap-sound space sessions n s st relies r i p q
-        | inr q ↦ (let a = in-flat_map (resumed_posts context) r.states p q in resumed-posts a.0 a.1 p a.2)
-      ]
-      | inr k ↦ ready-sound space sessions n s st relies r i p k
-    ]
+    adopted-posts = of-all (flat_map (resumed_posts context) r.states) (each-flat IsSound (resumed_posts context) r.states resumed-posts)
 
     -- a slot of an adopted replica
     adopted-slot : (b : Bool) (t : KeyState) → IsIn t r.states → IsSoundSlot space sessions n r.region (adopted_state context b t)
@@ -103,10 +93,7 @@ module _ (space : Space) (sessions n : ℕ) (s : ServerId) (st : ServerState) (r
   pub tick-good : DoesWell space sessions n s (tick_step space st)
   tick-good =
       saying-good space sessions n s st relies (asking_last st (flat_map (replica_tick space st) st.replicas))
-      (
-      asking-sound space sessions n s st relies (flat_map (replica_tick space st) st.replicas)
-      (λ p i. let f = in-flat_map (replica_tick space st) st.replicas p i in tick-sound f.0 f.1 p f.2)
-      )
+      (asking-sound space sessions n s st relies (flat_map (replica_tick space st) st.replicas) (each-flat IsSound (replica_tick space st) st.replicas tick-sound))
 
   -- the configuration of a server is adopted
   pub adopted-good : DoesWell space sessions n s (adopted space st)
@@ -114,9 +101,9 @@ module _ (space : Space) (sessions n : ℕ) (s : ServerId) (st : ServerState) (r
     state = record {
       id = relies.sound.id;
       config = relies.sound.config;
-      replicas = λ r i. (let m = in-map (adopted_replica space st) st.replicas r i in subst (IsSoundReplica space sessions n) (sym m.2) (adopted-sound m.0 m.1));
+      replicas = each-map (IsSoundReplica space sessions n) (adopted_replica space st) st.replicas adopted-sound;
     };
-    posts = λ p i. (let m = in-flat_map (adopted_posts space st) st.replicas p i in adopted-posts m.0 m.1 p m.2);
+    posts = each-flat IsSound (adopted_posts space st) st.replicas adopted-posts;
   }
 
   -- another configuration of the space
@@ -124,8 +111,7 @@ module _ (space : Space) (sessions n : ℕ) (s : ServerId) (st : ServerState) (r
   with_config-sound config h = record {
     id = relies.sound.id;
     config = h;
-    replicas = λ r i. (let m = in-map (replica_or_new st.replicas) (listed_regions config st.id) r i in
-        subst (IsSoundReplica space sessions n) (sym m.2) (kept-or-new m.0 (listed m.0 m.1)));
+    replicas = each-map (IsSoundReplica space sessions n) (replica_or_new st.replicas) (listed_regions config st.id) (λ g i. kept-or-new g (listed g i));
   }
     where
       listed : (g : RegionId) → IsIn g (listed_regions config st.id) → IsRegionOf space g

@@ -1,18 +1,13 @@
 -- The configurations that are issued are of the space: a server is out, joins a region, or is ready in it; and what an issue answers and leaves is sound.
-use Rattle.std.proofs.Common.{◌≡◌, ℕ, zero, suc, ◌+◌, ◌≤◌, ◌≢◌, inl, inr, Bool, true, false, List, [], ◌∷◌, ◌++◌, map, length, Option, Some, None, refl, sym, ap, ◌∙◌, subst, cond}
-use Rattle.std.specs.Prelude.{not, ◌&&◌}
-use Rattle.std.specs.List.{All, filter, slice_get, slice_set}
-use Rattle.std.proofs.lemmas.Bool.{and_from, cond_both, eq-eqb, false≢true}
-use Rattle.std.proofs.lemmas.List.{length-map, map-append}
-use Rattle.std.proofs.lemmas.List.Elements.{All-nil}
-use Rattle.hx_model.specs.Types.{Answer, Config, Member, RegionId, ServerId, Space}
+use Rattle.hx_law_lemmas.proofs.Lemmas.Vocabulary.{[], All, All-nil, AllDiffer, and_from, Answer, Answered, any_joining, ap, Bool, cond, cond_both, Config}
+use Rattle.hx_law_lemmas.proofs.Lemmas.Vocabulary.{config_ready, config_with, config_without, eq-eqb, false, false≢true, filter, Fits, inl, inr, is_lost}
+use Rattle.hx_law_lemmas.proofs.Lemmas.Vocabulary.{IsConfigOf, IsIn, IsListOf, IsServerOf, IsSessionOf, IsSoundAnswer, judged, length, length-map, List}
+use Rattle.hx_law_lemmas.proofs.Lemmas.Vocabulary.{lists_ready, map, map-append, Member, members_of, members_without, None, not, Option, ready_if, refl}
+use Rattle.hx_law_lemmas.proofs.Lemmas.Vocabulary.{RegionId, same_server, server_in, ServerId, slice_get, slice_set, Some, Space, stops_answered, stops_left}
+use Rattle.hx_law_lemmas.proofs.Lemmas.Vocabulary.{stops_server, subst, suc, sym, Task, true, without_server, zero, ℕ, ◌&&◌, ◌++◌, ◌+◌, ◌∙◌, ◌∷◌, ◌≡◌, ◌≢◌, ◌≤◌}
 use Rattle.hx_types.specs.declared.calls.Answer.TheVariants as an_answer
-use Rattle.hx_types.specs.Words.{IsIn, same_server, server_in, without_server}
-use Rattle.hx_types.specs.Configs.{any_joining, is_lost, lists_ready, members_of}
-use Rattle.hx_types.specs.Spaces.{AllDiffer, Fits, IsConfigOf, IsListOf, IsServerOf}
-use Rattle.hx_types.specs.Posts.{IsSessionOf, IsSoundAnswer}
-use Rattle.hx_model.specs.CoordinatorSteps.{Answered, Task, config_ready, config_with, config_without, judged, members_without, ready_if, stops_answered, stops_left, stops_server}
-use Rattle.hx_law_lemmas.proofs.Lemmas.{all-in, all-of, differ-append, in-append, in-filter, in-map, in-slice_get, map-in, when_some_both, in-slice_set}
+use Rattle.hx_law_lemmas.proofs.Lemmas.{each-append, each-one, all-in, all-of, differ-append, in-filter, in-map, in-slice_get, map-in}
+use Rattle.hx_law_lemmas.proofs.Lemmas.{when_some_both, in-slice_set}
 use Rattle.hx_law_posts.proofs.Bounds.{bounds}
 use Rattle.hx_law_posts.proofs.Configs.{server_number}
 use Rattle.hx_law_posts.proofs.SlotPosts.{any-of}
@@ -103,11 +98,8 @@ config_with-sound space config h s g exists may = set-sound space config h g (me
 
     longer : IsListOf space (members_of config g ++ record { server = s; ready = false } ∷ [])
     longer = record {
-      each = all-of (λ (m : Member). IsServerOf space m.server) (members_of config g ++ record { server = s; ready = false } ∷ []) (λ m i. elim (in-append (members_of config g) (record { server = s; ready = false } ∷ []) m i) [
-        | inl j ↦ all-in (λ (x : Member). IsServerOf space x.server) (members_of config g) m before.each j
-        | inr (inl e) ↦ subst (λ (x : Member). IsServerOf space x.server) (sym e) exists
-        | inr (inr k) ↦ absurd k
-      ]);
+      each = all-of (λ (m : Member). IsServerOf space m.server) (members_of config g ++ record { server = s; ready = false } ∷ []) (each-append (λ (x : Member). IsServerOf space x.server) (members_of config g) _
+          (λ m i. all-in (λ (x : Member). IsServerOf space x.server) (members_of config g) m before.each i) (each-one (λ (x : Member). IsServerOf space x.server) (record { server = s; ready = false }) exists));
       once = subst AllDiffer (sym (map-append server_number (members_of config g) (record { server = s; ready = false } ∷ [])))
           (differ-append (map server_number (members_of config g)) (s.0 ∷ []) before.once (All-nil _, tt)
           (λ x y i j. elim j [

@@ -1,14 +1,11 @@
 -- What a sound slot has committed: its row, marks and touches are of the space and not above the floor.
-use Rattle.hx_model.specs.Lines.{upto}
-use Rattle.std.proofs.Common.{◌≡◌, ℕ, ◌+◌, ◌<◌, ◌≤◌, ◌⊎◌, inl, inr, Bool, true, false, List, [], ◌∷◌, map, Option, Some, None, refl, sym, ap, subst, arith, cond, eqb, leb, ltb}
-use Rattle.std.specs.Option.{option_map}
-use Rattle.std.proofs.lemmas.Bool.{cond_both, cases_order, eqb-false, eqb-true, leb-true, ltb-false, ltb-true}
-use Rattle.std.proofs.lemmas.List.Elements.{All-nil}
-use Rattle.hx_model.specs.Types.{Mark, Place, RegionId, Row, SessionId, Space, Touch, Update, Value, Version}
-use Rattle.hx_types.specs.Words.{IsIn, provided, same_region, same_session}
-use Rattle.hx_types.specs.Spaces.{IsAnswerOf, IsAscending, IsMaybeObjectOf, IsMaybeRowUpTo, IsRegionOf}
-use Rattle.hx_types.specs.Posts.{AnswerUpTo, IsSessionOf, IsSoundKept}
-use Rattle.hx_model.specs.Slots.{KeyState, keeps_at, kept_of, kept_row, latest_of, mark_among, mark_by, mark_of, marks_after, object_in, object_of, row_of, top_above, top_of, touches_after, touches_of, with_mark, with_touch, with_touches}
+use Rattle.hx_law_lemmas.proofs.Lemmas.Vocabulary.{[], All-nil, AnswerUpTo, ap, arith, Bool, cases_order, cond, cond_both, eqb, eqb-false, eqb-true, false, inl}
+use Rattle.hx_law_lemmas.proofs.Lemmas.Vocabulary.{inr, IsAnswerOf, IsAscending, IsIn, IsMaybeObjectOf, IsMaybeRowUpTo, IsRegionOf, IsSessionOf, IsSoundKept}
+use Rattle.hx_law_lemmas.proofs.Lemmas.Vocabulary.{keeps_at, kept_of, kept_row, KeyState, latest_of, leb, leb-true, List, ltb, ltb-false, ltb-true, map, Mark}
+use Rattle.hx_law_lemmas.proofs.Lemmas.Vocabulary.{mark_among, mark_by, mark_of, marks_after, None, object_in, object_of, Option, option_map, Place, provided}
+use Rattle.hx_law_lemmas.proofs.Lemmas.Vocabulary.{refl, RegionId, Row, row_of, same_region, same_session, SessionId, Some, Space, subst, sym, top_above}
+use Rattle.hx_law_lemmas.proofs.Lemmas.Vocabulary.{top_of, Touch, touches_after, touches_of, true, Update, upto, Value, Version, with_mark, with_touch}
+use Rattle.hx_law_lemmas.proofs.Lemmas.Vocabulary.{with_touches, ℕ, ◌+◌, ◌<◌, ◌∷◌, ◌≡◌, ◌≤◌, ◌⊎◌}
 use Rattle.hx_law_lemmas.proofs.Lemmas.{all-in, all-of, in-provided, TouchedBy, in-upto}
 use Rattle.hx_law_posts.proofs.Bounds.{IsSoundAt, bounds}
 use Rattle.hx_law_posts.proofs.Moves.{Descends}

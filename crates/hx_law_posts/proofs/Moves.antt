@@ -1,14 +1,10 @@
 -- Moves of a slot: versions of what it has accepted descend to its base, and its floor is never below the base.
-use Rattle.std.proofs.Common.{◌≡◌, ℕ, zero, suc, ◌<◌, ◌≤◌, inl, inr, Bool, true, false, List, [], ◌∷◌, ◌++◌, map, length, Option, Some, None, refl, subst, arith, eqb, leb, not}
-use Rattle.std.specs.Prelude.{⊤}
-use Rattle.std.specs.List.{All, filter, find, list_any}
-use Rattle.std.specs.Option.{option_map}
-use Rattle.std.proofs.lemmas.Bool.{cond_both, eqb-true, false≢true, leb-false}
-use Rattle.hx_model.specs.Types.{Place, RegionId, Update}
-use Rattle.hx_types.specs.Words.{IsIn, provided, same_region, when_some}
-use Rattle.hx_model.specs.Neighbours.{is_end}
-use Rattle.hx_model.specs.Slots.{Acknowledge, Commit, Forget, Hold, KeyState, Move, Take, acknowledged, commits, follows, is_pending, moved, moved_all, offered, pending_of, place_in, settled, taken, top_above, top_of, turns, waits_below}
-use Rattle.hx_model.specs.ServerSteps.{SlotContext, accepting, tail_acks, next_at, offered_all, resumed, with_commits}
+use Rattle.hx_law_lemmas.proofs.Lemmas.Vocabulary.{[], accepting, Acknowledge, acknowledged, All, arith, Bool, Commit, commits, cond_both, eqb, eqb-true, false}
+use Rattle.hx_law_lemmas.proofs.Lemmas.Vocabulary.{false≢true, filter, find, follows, Forget, Hold, inl, inr, is_end, is_pending, IsIn, KeyState, leb}
+use Rattle.hx_law_lemmas.proofs.Lemmas.Vocabulary.{leb-false, length, List, list_any, map, Move, moved, moved_all, next_at, None, not, offered, offered_all}
+use Rattle.hx_law_lemmas.proofs.Lemmas.Vocabulary.{Option, option_map, pending_of, Place, place_in, provided, refl, RegionId, resumed, same_region, settled}
+use Rattle.hx_law_lemmas.proofs.Lemmas.Vocabulary.{SlotContext, Some, subst, suc, tail_acks, Take, taken, top_above, top_of, true, turns, Update, waits_below}
+use Rattle.hx_law_lemmas.proofs.Lemmas.Vocabulary.{when_some, with_commits, zero, ℕ, ⊤, ◌++◌, ◌<◌, ◌∷◌, ◌≡◌, ◌≤◌}
 use Rattle.hx_law_lemmas.proofs.Lemmas.{all-in, in-find, when_some_both, pending-in, AllKnownInLine as AllKnown, HeldInLine as Held}
 use Rattle.hx_law_lemmas.proofs.Lemmas.{held-moved_all-in_line as held-moved_all, known-append-in_line as known-append, offered-known-in_line as offered-known}
 

@@ -1,16 +1,11 @@
 -- In every run what is posted is sound, and versions and epochs stay small.
-use Rattle.std.proofs.Common.{◌≡◌, ℕ, ◌+◌, ◌≤◌, true, List, [], ◌∷◌, length, Option, Some, None, refl, sym, subst, arith, eqb, leb, ltb}
-use Rattle.std.specs.Prelude.{⊤, slice_get}
-use Rattle.std.proofs.lemmas.Bool.{and_parts, cond_both, eqb-true, leb-true, ltb-true}
-use Rattle.hx_model.specs.Types.{Actor, Coordinator, Deliver, Entry, Input, Message, Post, PostId, RegionId, Script, Server, ServerId, Session, SessionId}
-use Rattle.hx_types.specs.Words.{IsIn, below, post, same_server, same_session, when_some}
-use Rattle.hx_types.specs.Configs.{first_config, lists}
-use Rattle.hx_types.specs.Spaces.{IsRegionOf, IsServerOf}
-use Rattle.hx_types.specs.Posts.{IsSessionOf, IsSoundPost}
-use Rattle.hx_types.specs.Fitting.{IsScript}
-use Rattle.hx_model.specs.ServerSteps.{Replica, listed_regions, server_at_start, server_step}
-use Rattle.hx_model.specs.SessionSteps.{session_step}
-use Rattle.hx_model.specs.Runs.{IsRun, IsStep, MayTake, coordinator_of, entry_at, entry_of, is_actor, made_of, post_named, server_of, session_of}
+use Rattle.hx_law_lemmas.proofs.Lemmas.Vocabulary.{[], Actor, and_parts, arith, below, cond_both, Coordinator, coordinator_of, Deliver, Entry, entry_at}
+use Rattle.hx_law_lemmas.proofs.Lemmas.Vocabulary.{entry_of, eqb, eqb-true, first_config, Input, is_actor, IsIn, IsRegionOf, IsRun, IsScript, IsServerOf}
+use Rattle.hx_law_lemmas.proofs.Lemmas.Vocabulary.{IsSessionOf, IsSoundPost, IsStep, leb, leb-true, length, List, listed_regions, lists, ltb, ltb-true, made_of}
+use Rattle.hx_law_lemmas.proofs.Lemmas.Vocabulary.{MayTake, Message, None, Option, Post, post, post_named, PostId, refl, RegionId, Replica, same_server}
+use Rattle.hx_law_lemmas.proofs.Lemmas.Vocabulary.{same_session, Script, Server, server_at_start, server_of, server_step, ServerId, Session, session_of}
+use Rattle.hx_law_lemmas.proofs.Lemmas.Vocabulary.{session_step, SessionId, Some, subst, sym, true, when_some, ℕ, ⊤, ◌+◌, ◌∷◌, ◌≡◌, ◌≤◌}
+use Rattle.std.specs.Prelude.{slice_get}
 use Rattle.hx_law_lemmas.proofs.Lemmas.{in-below, in-filter, in-map, in-slice_get}
 use Rattle.hx_law_posts.specs.Posts.{EpochsStaySmall, PostsStaySound, VersionsStaySmall}
 use Rattle.hx_law_posts.proofs.Bounds.{IsSoundConfig}

@@ -1,12 +1,10 @@
 -- Each step of a server does well.
-use Rattle.std.proofs.Common.{◌≡◌, ℕ, ◌<◌, ◌≤◌, inl, inr, true, [], ◌∷◌, refl, sym, subst, arith}
-use Rattle.std.proofs.lemmas.Bool.{and_parts, cond_both}
-use Rattle.hx_model.specs.Types.{Actor, Deliver, Halt, Input, Message, Post, PostId, Server, ServerId, Space, Tick, Update}
+use Rattle.hx_law_lemmas.proofs.Lemmas.Vocabulary.{Actor, and_parts, arith, cond_both, Deliver, Halt, halting, has_place_in, if_installed, Input, input_step}
+use Rattle.hx_law_lemmas.proofs.Lemmas.Vocabulary.{is_session_actor, IsSoundKept, IsSoundPost, IsSoundUpdate, Message, message_step, Post, post, PostId, refl}
+use Rattle.hx_law_lemmas.proofs.Lemmas.Vocabulary.{replica_for, Server, server_step, ServerId, ServerState, ServerStep, Space, Tick, true, unmoved, Update, ℕ}
+use Rattle.hx_law_lemmas.proofs.Lemmas.Vocabulary.{◌<◌, ◌≡◌, ◌≤◌}
 use Rattle.hx_types.specs.declared.messages.Message.TheVariants as a_message
-use Rattle.hx_types.specs.Words.{IsIn, post}
-use Rattle.hx_types.specs.Posts.{IsSoundKept, IsSoundPost, IsSoundUpdate, has_place_in, is_session_actor}
-use Rattle.hx_model.specs.ServerSteps.{ServerState, ServerStep, halting, if_installed, input_step, message_step, replica_for, server_step, unmoved}
-use Rattle.hx_law_lemmas.proofs.Lemmas.{all-in}
+use Rattle.hx_law_lemmas.proofs.Lemmas.{all-in, each-one}
 use Rattle.hx_law_posts.proofs.Bounds.{bounds, exists-up, received}
 use Rattle.hx_law_posts.proofs.Servers.{DoesWell, IsSoundServer, Relies, installed-found, meeting-good, replica_for-found, unmoved-good}
 use Rattle.hx_law_posts.proofs.Calls.{acked-good, asked-good, called_by-good, updated-good}
@@ -22,15 +20,11 @@ module _ (space : Space) (sessions n : ℕ) (s : ServerId) (st : ServerState) (r
   stays : IsGood (unmoved st)
   stays = unmoved-good space sessions n s st relies
 
-  -- one sound post
-  one-sound : (p : Post) → IsSoundPost space sessions n p → (q : Post) → IsIn q (p ∷ []) → IsSoundPost space sessions n q
-  one-sound p h q i = elim i [ inl e ↦ subst (IsSoundPost space sessions n) (sym e) h | inr j ↦ absurd j ]
-
   -- a server halts
   halt-good : IsGood (halting st)
   halt-good = record {
     state = record { id = relies.sound.id; config = relies.sound.config; replicas = relies.sound.replicas };
-    posts = one-sound _ (record { from = relies.exists; to = tt; between = refl; message = tt });
+    posts = each-one (λ (p : Post). IsSoundPost space sessions n p) _ (record { from = relies.exists; to = tt; between = refl; message = tt });
   }
 
   -- each message of a sound post of an earlier entry

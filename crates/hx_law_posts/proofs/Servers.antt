@@ -1,15 +1,11 @@
 -- Sound servers: their configuration is of the space, and so is all that their replicas hold; what a step of one slot does.
-use Rattle.std.proofs.Common.{◌≡◌, ℕ, ◌≤◌, inl, inr, List, [], ◌∷◌, Option, Some, None, refl, sym, subst, ltb}
-use Rattle.std.proofs.lemmas.Bool.{cond_both}
-use Rattle.hx_model.specs.Types.{Epoch, Post, RegionId, ServerId, Space, Update}
-use Rattle.hx_types.specs.Words.{IsIn}
-use Rattle.hx_types.specs.Subspaces.{is_key_region}
-use Rattle.hx_types.specs.Configs.{is_lost}
-use Rattle.hx_types.specs.Spaces.{IsRegionOf, IsServerOf, IsSpace, KeyFits}
-use Rattle.hx_types.specs.Posts.{IsSoundPost}
-use Rattle.hx_model.specs.Slots.{KeyState, Move, moved_all}
-use Rattle.hx_model.specs.ServerSteps.{Replica, ServerState, ServerStep, SlotStep, asking_last, at_slot, by_moves, by_posts, if_installed, meeting, poll_post, replica_for, replica_of, saying, context_of, state_in, unmoved, with_replica}
-use Rattle.hx_law_lemmas.proofs.Lemmas.{AllKnownInLine as AllKnown, in-append, in-provided, in-with_replica, in-with_state, state-from, with_slot_at, Ascend, state_key}
+use Rattle.hx_law_lemmas.proofs.Lemmas.Vocabulary.{[], asking_last, at_slot, by_moves, by_posts, cond_both, context_of, Epoch, if_installed, inl, inr}
+use Rattle.hx_law_lemmas.proofs.Lemmas.Vocabulary.{is_key_region, is_lost, IsIn, IsRegionOf, IsServerOf, IsSoundPost, IsSpace, KeyFits, KeyState, List, ltb}
+use Rattle.hx_law_lemmas.proofs.Lemmas.Vocabulary.{meeting, Move, moved_all, None, Option, poll_post, Post, refl, RegionId, Replica, replica_for, replica_of}
+use Rattle.hx_law_lemmas.proofs.Lemmas.Vocabulary.{saying, ServerId, ServerState, ServerStep, SlotStep, Some, Space, state_in, subst, sym, unmoved, Update}
+use Rattle.hx_law_lemmas.proofs.Lemmas.Vocabulary.{with_replica, ℕ, ◌∷◌, ◌≡◌, ◌≤◌}
+use Rattle.hx_law_lemmas.proofs.Lemmas.{each-append, each-one, each-provided, AllKnownInLine as AllKnown, in-with_replica}
+use Rattle.hx_law_lemmas.proofs.Lemmas.{in-with_state, state-from, with_slot_at, Ascend, state_key}
 use Rattle.hx_law_posts.proofs.Texts.{with_state-ascends}
 use Rattle.hx_law_posts.proofs.Bounds.{IsSoundAt, IsSoundConfig, config-up}
 use Rattle.hx_law_posts.proofs.Moves.{AllRise}
@@ -92,25 +88,19 @@ module _ (space : Space) (sessions n : ℕ) (s : ServerId) (st : ServerState) (r
 
   -- the newest configuration is asked for
   poll-sound : (p : Post) → IsIn p (poll_post st ∷ []) → IsSound p
-  poll-sound p i = elim i [
-    | inl e ↦ subst IsSound (sym e) (record { from = relies.exists; to = tt; between = refl; message = relies.sound.config.epoch })
-    | inr j ↦ absurd j
-  ]
+  poll-sound = each-one IsSound (poll_post st) (record { from = relies.exists; to = tt; between = refl; message = relies.sound.config.epoch })
 
   -- a message of a higher epoch: it is asked for first
   pub meeting-good : (epoch : Epoch) (step : ServerStep) → IsGood step → IsGood (meeting st epoch step)
   meeting-good epoch step h = record {
     state = h.state;
-    posts = λ p i. elim (in-append _ step.posts p i) [
-      | inl j ↦ poll-sound p (in-provided (ltb st.config.epoch.0 epoch.0) (poll_post st ∷ []) p j).1
-      | inr j ↦ h.posts p j
-    ];
+    posts = each-append IsSound _ step.posts (each-provided IsSound (ltb st.config.epoch.0 epoch.0) (poll_post st ∷ []) poll-sound) h.posts;
   }
 
   -- where anything is posted, it is asked for last
   pub asking-sound : (ps : List Post) → ((p : Post) → IsIn p ps → IsSound p) → (p : Post) → IsIn p (asking_last st ps) → IsSound p
-  asking-sound [] f p i = absurd i
-  asking-sound (x ∷ rest) f p i = elim (in-append (x ∷ rest) (poll_post st ∷ []) p i) [ inl j ↦ f p j | inr j ↦ poll-sound p j ]
+  asking-sound [] f = f
+  asking-sound (x ∷ rest) f = each-append IsSound (x ∷ rest) (poll_post st ∷ []) f poll-sound
 
   -- replicas with one of them changed
   pub with_replica-sound : (x : Replica) → IsSoundReplica space sessions n x → IsSoundServer space sessions n s (record st { replicas = with_replica x st.replicas })

@@ -1,21 +1,15 @@
 -- Each step of a session posts what is sound, and leaves it with a configuration of the space.
-use Rattle.hx_model.specs.Lines.{no_version}
-use Rattle.std.proofs.Common.{◌≡◌, ℕ, zero, suc, ◌+◌, ◌≤◌, inl, inr, Bool, true, false, List, [], ◌∷◌, map, length, Option, Some, None, refl, sym, ap, ◌∙◌, subst, arith, cond, ltb}
-use Rattle.std.specs.List.{All}
-use Rattle.std.proofs.lemmas.Bool.{cond_both}
-use Rattle.hx_model.specs.Types.{Actor, Add, Answer, Atomic, Config, Coordinator, Cput, Del, Deliver, Get, Halt, Input, Message, Op, Planned, Post, PostId, Put}
-use Rattle.hx_model.specs.Types.{RegionId, Script, Search, ServerId, Session, SessionId, Stop, Term, Tick, Version}
+use Rattle.hx_law_lemmas.proofs.Lemmas.Vocabulary.{[], Actor, Add, All, all_parts, Answer, ap, arith, ask_regions, ask_to, Atomic, begin, call_to, calls_of}
+use Rattle.hx_law_lemmas.proofs.Lemmas.Vocabulary.{cond_both, Config, Coordinator, Cput, Del, Deliver, end_with_parts, ending, false, Fits, Get, goes_between}
+use Rattle.hx_law_lemmas.proofs.Lemmas.Vocabulary.{head_of, inl, Input, inr, is_lost, IsIn, IsRegionOf, IsScript, IsSessionOf, IsSoundMessage, IsSoundPost}
+use Rattle.hx_law_lemmas.proofs.Lemmas.Vocabulary.{key_region, length, List, lost_answer, map, Message, no_version, None, numbered, Op, Option, Part, plan_of}
+use Rattle.hx_law_lemmas.proofs.Lemmas.Vocabulary.{Planned, Post, post, PostId, Put, refl, RegionId, Script, Search, send, send_to, ServerId, Session}
+use Rattle.hx_law_lemmas.proofs.Lemmas.Vocabulary.{session_step, SessionId, SessionState, SessionStep, Some, staying, Stop, subst, suc, sym, Term, TermsFit}
+use Rattle.hx_law_lemmas.proofs.Lemmas.Vocabulary.{to_coordinator, true, Version, with_part, with_poll, zero, ℕ, ◌+◌, ◌∙◌, ◌∷◌, ◌≡◌, ◌≤◌}
 use Rattle.hx_types.specs.declared.messages.Message.TheVariants as a_message
 use Rattle.hx_types.specs.declared.outcomes.Planned.TheVariants as a_plan
-use Rattle.hx_types.specs.Words.{IsIn, post, provided, when_some}
-use Rattle.hx_types.specs.Configs.{head_of, is_lost}
-use Rattle.hx_types.specs.Spaces.{Fits, IsRegionOf, TermsFit}
-use Rattle.hx_types.specs.Fitting.{IsScript, calls_of, numbered}
-use Rattle.hx_types.specs.Posts.{IsSessionOf, IsSoundMessage, IsSoundPost, goes_between}
-use Rattle.hx_model.specs.Regions.{key_region}
-use Rattle.hx_model.specs.Planning.{plan_of}
-use Rattle.hx_model.specs.SessionSteps.{Part, SessionState, SessionStep, all_parts, ask_regions, ask_to, awaits, begin, call_to, call_under_way, end_with_parts, ending, is_administrative, is_key_call, lost_answer, send, send_to, session_install, session_message, session_step, session_tick, staying, to_coordinator, with_part, with_poll}
-use Rattle.hx_law_lemmas.proofs.Lemmas.{all-in, in-append, in-flat_map, in-provided, in-slice_get, when_some_both, NamesRegions, plan-regions}
+use Rattle.hx_law_lemmas.proofs.Lemmas.{session-cases, each-append, each-one, each-provided, all-in, in-flat_map, in-slice_get, when_some_both}
+use Rattle.hx_law_lemmas.proofs.Lemmas.{NamesRegions, plan-regions}
 use Rattle.hx_law_posts.proofs.Bounds.{IsSoundConfig, bounds, config-up}
 use Rattle.hx_law_posts.proofs.Hops.{head-server}
 
@@ -133,18 +127,10 @@ module _ (script : Script) (valid : IsScript script) (n : ℕ) (u : SessionId) (
   poll-good : (step : SessionStep) → DoesWell step → DoesWell (with_poll step)
   poll-good step t = record {
     own = t.own;
-    posts = λ p i. elim (in-append step.posts (provided step.state.under_way (post (Session step.state.id) Coordinator (a_message.Poll step.state.config.epoch) ∷ [])) p i) [
-      | inl j ↦ t.posts p j
-      | inr j ↦ elim (in-provided step.state.under_way (post (Session step.state.id) Coordinator (a_message.Poll step.state.config.epoch) ∷ []) p j).1 [
-        | inl e ↦ subst IsSound (sym e) (record {
-          from = subst (IsSessionOf (length script.sessions)) (sym t.own.id) exists;
-          to = tt;
-          between = refl;
-          message = t.own.config.epoch;
-        })
-        | inr k ↦ absurd k
-      ]
-    ];
+    posts = each-append IsSound step.posts _ t.posts
+        (each-provided IsSound step.state.under_way (post (Session step.state.id) Coordinator (a_message.Poll step.state.config.epoch) ∷ [])
+        (each-one IsSound (post (Session step.state.id) Coordinator (a_message.Poll step.state.config.epoch))
+        (record { from = subst (IsSessionOf (length script.sessions)) (sym t.own.id) exists; to = tt; between = refl; message = t.own.config.epoch })));
   }
 
   -- a call of the session is one of the script
@@ -152,65 +138,28 @@ module _ (script : Script) (valid : IsScript script) (n : ℕ) (u : SessionId) (
   own-call st own k op e =
       call-fits script valid u k op (sym (ap (λ (calls : List Op). numbered calls k) own.calls) ∙ e)
 
-  -- a session's tick
-  tick-good : (st : SessionState) → IsOwn script n u st → DoesWell (session_tick script.space st)
-  tick-good st k =
-      cond_both st.under_way (when_some (numbered st.calls st.begun) (staying st) (λ (op : Op). with_poll (send script.space st op)))
-      (when_some (numbered st.calls (st.begun + 1)) (staying st) (begin script.space st)) DoesWell
-      (
-      λ t. when_some_both (numbered st.calls st.begun) (staying st) (λ (op : Op). with_poll (send script.space st op)) DoesWell (λ e. staying-good st k)
-      (λ (op : Op) e. poll-good (send script.space st op) (send-good st op (own-call st k st.begun op e) k))
-      )
-      (
-      λ t. when_some_both (numbered st.calls (st.begun + 1)) (staying st) (begin script.space st) DoesWell (λ e. staying-good st k)
-      (λ (op : Op) e. begin-good st op (own-call st k (st.begun + 1) op e) k)
-      )
-
-  -- a reply ends the call or is dropped
-  end_or_stay : (b : Bool) (st : SessionState) (version : Version) (answer : Answer) → IsOwn script n u st → DoesWell (cond b (ending st version answer) (staying st))
-  end_or_stay true st version answer k = ending-good st version answer k
-  end_or_stay false st version answer k = staying-good st k
-
   -- rows are kept, and may end the call
-  found-good : (b : Bool) (st : SessionState) (parts : List Part) → IsOwn script n u st → DoesWell (cond b (end_with_parts (record st { parts = parts })) (staying st))
-  found-good true st parts k = end_or_stay (all_parts parts) (record st { parts = parts }) _ _ (record { id = k.id; config = k.config; calls = k.calls })
-  found-good false st parts k = staying-good st k
-
-  -- another configuration of the space is adopted, and a call on keys sent anew
-  install-good : (st : SessionState) → IsOwn script n u st → (config : Config) → IsSoundConfig script.space n config → DoesWell (session_install script.space st config)
-  install-good st k config h =
-      cond_both (ltb st.config.epoch.0 config.epoch.0) _ (staying st) DoesWell
-      (
-      λ t. when_some_both (call_under_way st) (staying (record st { config = config }))
-      (λ (op : Op). cond (is_administrative op) (staying (record st { config = config })) (send script.space (record st { config = config }) op)) DoesWell
-      (λ e. staying-good (record st { config = config }) own)
-      (
-      λ (op : Op) e. cond_both (is_administrative op) (staying (record st { config = config })) (send script.space (record st { config = config }) op) DoesWell
-      (λ a. staying-good (record st { config = config }) own)
-      (λ a. send-good (record st { config = config }) op (own-call st k st.begun op (under st.under_way e)) own)
-      )
-      )
-      (λ t. staying-good st k)
-    where
-      own : IsOwn script n u (record st { config = config })
-      own = record { id = k.id; config = h; calls = k.calls }
-
-      under : {op : Op} (b : Bool) → cond b (numbered st.calls st.begun) None ≡ Some op → numbered st.calls st.begun ≡ Some op
-      under true e = e
-      under false e = absurd (cc)
-
-  -- each message of a sound post of an earlier entry
-  message-good : (k : ℕ) → k ≤ n → (st : SessionState) → IsOwn script n u st → (m : Message) → IsSoundMessage (bounds script.space (length script.sessions) k) m → DoesWell (session_message script.space st m)
-  message-good j l st k (a_message.Reply number version answer) h = end_or_stay (awaits st number is_key_call) st version answer k
-  message-good j l st k (a_message.Found epoch number g rows) h = found-good _ st (map (with_part g rows) st.parts) k
-  message-good j l st k (a_message.Install config) h = install-good st k config (record { of_space = h.1; epoch = (let e = h.0 in omega (arith, e, l)) })
-  message-good j l st k (a_message.Outcome number answer) h = end_or_stay (awaits st number is_administrative) st no_version answer k
-  message-good j l st k other h = staying-good st k
+  found-good : (st : SessionState) (parts : List Part) → IsOwn script n u st → DoesWell (end_with_parts (record st { parts = parts }))
+  found-good st parts k =
+      let own : IsOwn script n u (record st { parts = parts }) = record { id = k.id; config = k.config; calls = k.calls } in
+      cond_both (all_parts parts) (ending (record st { parts = parts }) no_version _) (staying (record st { parts = parts })) DoesWell (λ t. ending-good _ no_version _ own) (λ t. staying-good _ own)
 
   -- each input of a session
   pub session-good : (st : SessionState) → IsOwn script n u st → (input : Input)
       → ((id : PostId) (from : Actor) (m : Message) → input ≡ Deliver id from m → (k : ℕ) × (k ≤ n) × IsSoundMessage (bounds script.space (length script.sessions) k) m)
       → DoesWell (session_step script.space st input)
-  session-good st k Tick f = tick-good st k
-  session-good st k Halt f = staying-good st k
-  session-good st k (Deliver id from m) f = let a = f id from m refl in message-good a.0 a.1 st k m a.2
+  session-good st k input f = session-cases script.space st input DoesWell (record {
+    rests = staying-good st k;
+    again = λ op i w c. poll-good (send script.space st op) (send-good st op (own-call st k st.begun op c) k);
+    begins = λ op i w c. begin-good st op (own-call st k (st.begun + 1) op c) k;
+    replied = λ id from version answer op i w c q. ending-good st version answer k;
+    judged = λ id from answer op i w c q. ending-good st no_version answer k;
+    found = λ id from epoch g rows op i w c q. found-good st (map (with_part g rows) st.parts) k;
+    adopts = λ id from config i l q. staying-good (record st { config = config }) (own id from config i);
+    renews = λ id from config op i l w c q. send-good (record st { config = config }) op (own-call st k st.begun op c) (own id from config i);
+  })
+    where
+      own : (id : PostId) (from : Actor) (config : Config) → input ≡ Deliver id from (a_message.Install config) → IsOwn script n u (record st { config = config })
+      own id from config i =
+          let a = f id from (a_message.Install config) i in
+          record { id = k.id; config = record { of_space = a.2.1; epoch = (let e = a.2.0 in let l = a.1 in omega (arith, e, l)) }; calls = k.calls }

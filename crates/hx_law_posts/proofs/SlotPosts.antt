@@ -1,14 +1,9 @@
 -- What a server posts of an update of the space is sound, in every configuration of the space.
-use Rattle.std.proofs.Common.{◌≡◌, ℕ, ◌+◌, ◌≤◌, inl, inr, Bool, true, List, [], ◌∷◌, Option, refl, sym, ap, ◌∙◌, subst}
-use Rattle.std.specs.List.{flat_map, list_any}
-use Rattle.std.proofs.lemmas.Bool.{eq-eqb, or_left, or_right}
-use Rattle.hx_model.specs.Types.{Answer, At, Blocked, Caller, End, Hop, Place, Post, RegionId, ServerId, Space, Update, Version}
-use Rattle.hx_types.specs.Words.{IsIn, same_region, when_some}
-use Rattle.hx_types.specs.Spaces.{IsRegionOf, IsServerOf}
-use Rattle.hx_types.specs.Posts.{IsSessionOf, IsSoundAnswer, IsSoundPost, IsSoundUpdate, has_place_in}
-use Rattle.hx_model.specs.Neighbours.{place_number, region_at}
-use Rattle.hx_model.specs.Slots.{Acknowledge, Commit, Forget, Hold, Move, Take}
-use Rattle.hx_model.specs.ServerSteps.{SlotContext, ack_to, move_posts, next_at, prev_at, reply, told_to, update_to}
+use Rattle.hx_law_lemmas.proofs.Lemmas.Vocabulary.{[], ack_to, Acknowledge, Answer, ap, At, Blocked, Bool, Caller, Commit, End, eq-eqb, flat_map, Forget}
+use Rattle.hx_law_lemmas.proofs.Lemmas.Vocabulary.{has_place_in, Hold, Hop, inl, inr, IsIn, IsRegionOf, IsServerOf, IsSessionOf, IsSoundAnswer, IsSoundPost}
+use Rattle.hx_law_lemmas.proofs.Lemmas.Vocabulary.{IsSoundUpdate, List, list_any, Move, move_posts, next_at, Option, or_left, or_right, Place, place_number}
+use Rattle.hx_law_lemmas.proofs.Lemmas.Vocabulary.{Post, prev_at, refl, region_at, RegionId, reply, same_region, ServerId, SlotContext, Space, subst, sym, Take}
+use Rattle.hx_law_lemmas.proofs.Lemmas.Vocabulary.{told_to, true, Update, update_to, Version, when_some, ℕ, ◌+◌, ◌∙◌, ◌∷◌, ◌≡◌, ◌≤◌}
 use Rattle.hx_law_lemmas.proofs.Lemmas.{all-in, in-flat_map, in-slice_get, AllKnownInLine as AllKnown, KnownInLine as Known}
 use Rattle.hx_law_posts.proofs.Bounds.{IsSoundConfig, bounds}
 use Rattle.hx_law_posts.proofs.Hops.{Reaches, next-reaches, prev-reaches}

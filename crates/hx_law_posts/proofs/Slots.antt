@@ -1,13 +1,9 @@
 -- Sound slots: what a slot of a replica holds is of the space, and its versions are small; moves keep it so.
-use Rattle.std.proofs.Common.{ℕ, ◌≤◌, inl, inr, Bool, List, [], ◌∷◌, ◌++◌, refl, sym, subst, arith}
-use Rattle.std.proofs.lemmas.List.Elements.{All-nil}
-use Rattle.hx_model.specs.Types.{Kept, RegionId, Space, Update}
-use Rattle.hx_types.specs.Words.{IsIn}
-use Rattle.hx_types.specs.Spaces.{KeyFits}
-use Rattle.hx_types.specs.Posts.{IsSoundKept}
-use Rattle.hx_model.specs.Slots.{Acknowledge, Commit, Forget, Hold, KeyState, Move, Take, moved, moved_all, new_state, pending_of, state_of_kept, top_above, top_of}
-use Rattle.hx_model.proofs.Lemmas.{base-moved_all}
-use Rattle.hx_law_lemmas.proofs.Lemmas.{in-append, in_left, in_right, pending-in, AllKnownInLine as AllKnown, HeldInLine as Held, KnownInLine as Known}
+use Rattle.hx_law_lemmas.proofs.Lemmas.Vocabulary.{[], Acknowledge, All-nil, arith, base-moved_all, Bool, Commit, Forget, Hold, inl, inr, IsIn, IsSoundKept}
+use Rattle.hx_law_lemmas.proofs.Lemmas.Vocabulary.{Kept, KeyFits, KeyState, List, Move, moved, moved_all, new_state, pending_of, refl, RegionId, Space}
+use Rattle.hx_law_lemmas.proofs.Lemmas.Vocabulary.{state_of_kept, subst, sym, Take, top_above, top_of, Update, ℕ, ◌++◌, ◌∷◌, ◌≤◌}
+use Rattle.hx_law_lemmas.proofs.Lemmas.{each-append, in_left, in_right, pending-in, AllKnownInLine as AllKnown, HeldInLine as Held}
+use Rattle.hx_law_lemmas.proofs.Lemmas.{KnownInLine as Known}
 use Rattle.hx_law_lemmas.proofs.Lemmas.{held-moved_all-in_line as held-moved_all}
 use Rattle.hx_law_posts.proofs.Bounds.{IsSoundAt, at-up, bounds, kept-up}
 use Rattle.hx_law_posts.proofs.Moves.{AllRise, IsAfter, IsOrdered, ordered-moved_all}
@@ -48,10 +44,7 @@ module _ (space : Space) (sessions n : ℕ) (g : RegionId) where
 
   -- updates that may be held, and what a sound slot holds, may be held
   pub together-sound : (us : List Update) → ((u : Update) → IsIn u us → IsAt u) → (t : KeyState) → IsSoundSlot space sessions n g t → (u : Update) → IsIn u (together us t) → IsAt u
-  together-sound us f t h u i = elim (in-append us (t.accepted ++ t.early) u i) [
-    | inl j ↦ f u j
-    | inr j ↦ elim (in-append t.accepted t.early u j) [ inl k ↦ h.accepted u k | inr k ↦ h.early u k ]
-  ]
+  together-sound us f t h = each-append IsAt us (t.accepted ++ t.early) f (each-append IsAt t.accepted t.early h.accepted h.early)
 
   -- what may be held comes after lower versions
   pub after-of : (u : Update) → IsAt u → IsAfter u

@@ -1,19 +1,17 @@
 -- Snapshots: what a server posts to a joiner is sound, and what a joiner makes of it is too.
-use Rattle.std.proofs.Common.{◌≡◌, ℕ, ◌+◌, ◌≤◌, ◌⊎◌, inl, inr, Bool, true, false, not, ◌&&◌, List, [], ◌∷◌, ◌++◌, map, Option, Some, None, refl, sym, ap, ◌∙◌, subst, arith, cond, ltb}
-use Rattle.std.specs.List.{filter, list_all}
-use Rattle.std.proofs.lemmas.Bool.{and_parts, cond_both}
-use Rattle.std.proofs.lemmas.List.Elements.{All-nil}
-use Rattle.hx_model.specs.Types.{Actor, Kept, Member, Post, RegionId, ServerId, Space, Update}
-use Rattle.hx_types.specs.Words.{IsIn, same_server, same_text, text_below, first_of_list}
-use Rattle.hx_types.specs.Subspaces.{is_key_region}
-use Rattle.hx_types.specs.Configs.{joiner_for, joiner_in, lists_joining, members_of, any_ready}
-use Rattle.hx_types.specs.Spaces.{IsServerOf, KeyFits}
-use Rattle.hx_types.specs.Posts.{IsSoundKept, IsSoundPost, IsSoundUpdate, has_place_in, keys_ascend}
-use Rattle.hx_model.specs.Hearing.{hears_snap}
-use Rattle.hx_model.specs.Slots.{KeyState, kept_of, moved_all, pending_of, pending_of_all, snapshot_of, state_among}
-use Rattle.hx_model.specs.ServerSteps.{Replica, ServerState, Slots, SlotContext, accepting, installed_slots, join_keys, join_slot, keys_of, offered_all, ready_post, replica_of, saying, snap_posts, snap_to, snapped, context_of, state_from, unmoved, with_key, with_slots}
-use Rattle.hx_law_lemmas.proofs.Lemmas.{all-of, in-append, in-filter, in-flat_map, in-map, in-provided, in_left, accepting-known-in_line as accepting-known}
+use Rattle.hx_law_lemmas.proofs.Lemmas.Vocabulary.{[], accepting, Actor, All-nil, and_parts, any_ready, ap, arith, Bool, cond, cond_both, context_of}
+use Rattle.hx_law_lemmas.proofs.Lemmas.Vocabulary.{Coordinator, false, filter, first_of_list, has_place_in, hears_snap, inl, inr, installed_slots}
+use Rattle.hx_law_lemmas.proofs.Lemmas.Vocabulary.{is_key_region, IsIn, IsServerOf, IsSoundKept, IsSoundPost, IsSoundUpdate, join_keys, join_slot, joiner_for}
+use Rattle.hx_law_lemmas.proofs.Lemmas.Vocabulary.{joiner_in, Kept, kept_of, KeyFits, keys_ascend, keys_of, KeyState, List, list_all, lists_joining, ltb, map}
+use Rattle.hx_law_lemmas.proofs.Lemmas.Vocabulary.{Member, members_of, moved_all, None, not, offered_all, Option, option_map, pending_of, pending_of_all, Post}
+use Rattle.hx_law_lemmas.proofs.Lemmas.Vocabulary.{post, ready_post, refl, RegionId, Replica, replica_of, same_server, same_text, saying, Server, ServerId}
+use Rattle.hx_law_lemmas.proofs.Lemmas.Vocabulary.{ServerState, SlotContext, Slots, snap_posts, snap_to, snapped, snapshot_of, Some, Space, state_among}
+use Rattle.hx_law_lemmas.proofs.Lemmas.Vocabulary.{state_from, subst, sym, text_below, true, unmoved, Update, with_key, with_slots, ℕ, ◌&&◌, ◌++◌, ◌+◌, ◌∙◌}
+use Rattle.hx_law_lemmas.proofs.Lemmas.Vocabulary.{◌∷◌, ◌≡◌, ◌≤◌, ◌⊎◌}
+use Rattle.hx_law_lemmas.proofs.Lemmas.{each-append, each-flat, each-map, each-one, each-provided, all-of, in-filter, in-map}
+use Rattle.hx_law_lemmas.proofs.Lemmas.{in_left, accepting-known-in_line as accepting-known}
 use Rattle.hx_law_lemmas.proofs.Lemmas.{in-with_state, replica-found, state-from, Ascend, ascend-test, state_key}
+use Rattle.hx_types.specs.declared.messages.Message.TheVariants as a_message
 use Rattle.hx_law_posts.proofs.Texts.{with_state-ascends}
 use Rattle.hx_law_posts.proofs.Bounds.{IsSoundAt, bounds, kept-up, received}
 use Rattle.hx_law_posts.proofs.Configs.{member-server}
@@ -22,7 +20,6 @@ use Rattle.hx_law_posts.proofs.Slots.{IsSoundSlot, after-of, base-sound, held-to
 use Rattle.hx_law_posts.proofs.Kept.{kept_of-sound}
 use Rattle.hx_law_posts.proofs.SlotPosts.{IsContext, moves-sound}
 use Rattle.hx_law_posts.proofs.Servers.{DoesWell, IsSoundReplica, Relies, here, saying-good, unmoved-good, with_replica-sound}
-use Rattle.std.specs.Option.{option_map}
 
 -- ---- what a server posts
 
@@ -94,8 +91,8 @@ module _ (space : Space) (sessions n : ℕ) (s : ServerId) (st : ServerState) (r
 
       kept-sound : (k : Kept) → IsIn k (snapshot_of r.region r.states) → IsSoundKept (bounds space sessions n) k
       kept-sound k j =
-          let m = in-map (kept_of r.region) (filter (λ (t : KeyState). ltb 0 t.floor) r.states) k j in
-          subst (IsSoundKept (bounds space sessions n)) (sym m.2) (kept_of-sound space sessions n r.region m.0 (h.slots m.0 (in-filter (λ (t : KeyState). ltb 0 t.floor) r.states m.0 m.1).0))
+          each-map (IsSoundKept (bounds space sessions n)) (kept_of r.region) (filter (λ (t : KeyState). ltb 0 t.floor) r.states)
+          (λ t i. kept_of-sound space sessions n r.region t (h.slots t (in-filter (λ (t : KeyState). ltb 0 t.floor) r.states t i).0)) k j
 
       ascends : keys_ascend (map kept_key (snapshot_of r.region r.states)) ≡ true
       ascends =
@@ -104,37 +101,34 @@ module _ (space : Space) (sessions n : ℕ) (s : ServerId) (st : ServerState) (r
 
       pending-of : (u : Update) → IsIn u (pending_of_all r.states) → IsSoundUpdate (bounds space sessions n) u × (has_place_in r.region u.places ≡ true)
       pending-of u j =
-          let m = in-flat_map pending_of r.states u j in
-          let a = pending-sound space sessions n r.region m.0 (h.slots m.0 m.1) u m.2 in
-          (a.sound, a.place)
+          each-flat (λ (u : Update). IsSoundUpdate (bounds space sessions n) u × (has_place_in r.region u.places ≡ true)) pending_of r.states
+          (λ t i u k. let a = pending-sound space sessions n r.region t (h.slots t i) u k in (a.sound, a.place)) u j
 
       by : (o : Option ServerId) → joiner_for st.config r.region st.id ≡ o → IsIn p (snap_to st r o) → IsSound p
       by None e j = absurd j
       by (Some x) e j =
           let m = joiner-in st.id (members_of st.config r.region) x e in
           let exists = subst (IsServerOf space) m.2 (member-server space st.config relies.sound.config.of_space r.region m.0 m.1) in
-          elim j [
-            | inl q ↦ subst IsSound (sym q) (record {
-              from = relies.exists;
-              to = exists;
-              between = refl;
-              message = (
-                relies.sound.config.epoch,
-                h.region,
-                all-of (IsSoundKept (bounds space sessions n)) (snapshot_of r.region r.states) kept-sound,
-                ascends,
-                all-of (λ (u : Update). IsSoundUpdate (bounds space sessions n) u × (has_place_in r.region u.places ≡ true)) (pending_of_all r.states) pending-of,
-              );
-            })
-            | inr k ↦ absurd k
-          ]
+          each-one IsSound (post (Server st.id) (Server x) (a_message.Snap st.config.epoch r.region (snapshot_of r.region r.states) (pending_of_all r.states))) (record {
+            from = relies.exists;
+            to = exists;
+            between = refl;
+            message = (
+              relies.sound.config.epoch,
+              h.region,
+              all-of (IsSoundKept (bounds space sessions n)) (snapshot_of r.region r.states) kept-sound,
+              ascends,
+              all-of (λ (u : Update). IsSoundUpdate (bounds space sessions n) u × (has_place_in r.region u.places ≡ true)) (pending_of_all r.states) pending-of,
+            );
+          }) p j
 
   -- a joiner is ready
   pub ready-sound : (r : Replica) → IsIn r st.replicas → (p : Post) → IsIn p (ready_post st r.region) → IsSound p
-  ready-sound r i p j = elim (in-provided (lists_joining st.config r.region st.id) _ p j).1 [
-    | inl q ↦ subst IsSound (sym q) (record { from = relies.exists; to = tt; between = refl; message = (relies.sound.config.epoch, (relies.sound.replicas r i).region) })
-    | inr k ↦ absurd k
-  ]
+  ready-sound r i = each-provided IsSound (lists_joining st.config r.region st.id) (ready ∷ [])
+      (each-one IsSound ready (record { from = relies.exists; to = tt; between = refl; message = (relies.sound.config.epoch, (relies.sound.replicas r i).region) }))
+    where
+      ready : Post
+      ready = post (Server st.id) Coordinator (a_message.Ready st.config.epoch r.region)
 
 -- ---- what a joiner makes of it
 
@@ -182,10 +176,7 @@ module _ (space : Space) (sessions n : ℕ) (context : SlotContext) (at : IsCont
           | inr j ↦ h.each x j
         ];
         ascend = with_state-ascends (moved_all moves t) slots.states h.ascend;
-        posts = λ p i. elim (in-append slots.posts _ p i) [
-          | inl j ↦ h.posts p j
-          | inr j ↦ moves-sound space sessions n context at (together us t) (λ u k. (all u k).sound) moves known p j
-        ];
+        posts = each-append (λ (p : Post). IsSoundPost space sessions n p) slots.posts _ h.posts (moves-sound space sessions n context at (together us t) (λ u k. (all u k).sound) moves known);
       }
 
   -- each key's slot
@@ -233,10 +224,7 @@ module _ (space : Space) (sessions n : ℕ) (s : ServerId) (st : ServerState) (r
       (
       λ b. record {
         state = with_replica-sound space sessions n s st relies _ (record { region = (relies.sound.replicas r inside).region; slots = all.each; ascend = all.ascend });
-        posts = λ p i. elim (in-append (installed_slots (context_of space st r.region) snapshot pending).posts (ready_post st r.region) p i) [
-          | inl j ↦ all.posts p j
-          | inr j ↦ ready-sound space sessions n s st relies r inside p j
-        ];
+        posts = each-append (λ (p : Post). IsSoundPost space sessions n p) _ (ready_post st r.region) all.posts (ready-sound space sessions n s st relies r inside);
       }
       )
       )

@@ -1,9 +1,6 @@
 -- Slots that stand in the order of their keys when one is put in.
-use Rattle.std.proofs.Common.{◌≡◌, ℕ, inl, inr, true, false, List, [], ◌∷◌, sym, ap, ◌∙◌, subst, cond}
-use Rattle.std.proofs.lemmas.Bool.{cond_both, false≢true}
-use Rattle.hx_types.specs.Words.{IsIn, same_text, text_below}
-use Rattle.hx_model.specs.Slots.{KeyState, with_state}
-use Rattle.hx_model.proofs.Lemmas.{eq_of_same_text, same_text_self}
+use Rattle.hx_law_lemmas.proofs.Lemmas.Vocabulary.{[], ap, cond, cond_both, eq_of_same_text, false, false≢true, inl, inr, IsIn, KeyState, List, same_text}
+use Rattle.hx_law_lemmas.proofs.Lemmas.Vocabulary.{same_text_self, subst, sym, text_below, true, with_state, ℕ, ◌∙◌, ◌∷◌, ◌≡◌}
 use Rattle.hx_law_lemmas.proofs.Lemmas.{Ascend, below-other, below-trans, state_key}
 
 -- a text that tests neither the same nor below is above

@@ -1,17 +1,10 @@
 -- What a run says of the begins and ends of calls, of replies and of the callers of updates.
-use Rattle.hx_model.specs.Lines.{no_version}
-use Rattle.std.proofs.Common.{◌≡◌, ℕ, ◌<◌, ◌≤◌, ◌⊎◌, inl, inr, true, false, List, [], ◌∷◌, length, Some, refl, ap}
-use Rattle.hx_model.specs.Types.{Actor, Answer, Caller, Entry, Epoch, Get, Op, Script, Session, SessionId, Update, Version}
+use Rattle.hx_law_lemmas.proofs.Lemmas.Vocabulary.{[], Actor, Answer, ap, call_of, Caller, Entry, Epoch, false, Get, inl, inr, is_doubt, is_refused, is_write}
+use Rattle.hx_law_lemmas.proofs.Lemmas.Vocabulary.{IsIn, key_of, length, line_of, List, no_version, Op, post, posts_of, refl, Script, Session, session_of}
+use Rattle.hx_law_lemmas.proofs.Lemmas.Vocabulary.{SessionId, Some, true, Update, Version, WasTold, ℕ, ◌<◌, ◌∷◌, ◌≡◌, ◌≤◌, ◌⊎◌}
 use Rattle.hx_types.specs.declared.messages.Message.TheVariants as a_message
 use Rattle.hx_types.specs.declared.traces.Note.TheVariants as a_note
-use Rattle.hx_types.specs.Words.{IsIn, post}
-use Rattle.hx_types.specs.Effects.{is_write, key_of}
-use Rattle.hx_types.specs.Fitting.{call_of, is_doubt, is_refused}
-use Rattle.hx_model.specs.Runs.{session_of}
-use Rattle.hx_model.specs.Histories.{line_of}
-use Rattle.hx_law_lemmas.specs.Words.{posts_of}
 use Rattle.hx_law_lemmas.proofs.Lemmas.{BeganAt, EndedAt}
-use Rattle.hx_law_lemmas.specs.Facts.{WasTold}
 
 -- call a was ended with this version and answer before call b began
 abbrev pub EndedFirst : List Entry → Caller → Version → Answer → Caller → Type 0

@@ -1,14 +1,8 @@
 -- An entry of the coordinator or of a server keeps what a run says of calls.
-use Rattle.std.proofs.Common.{◌≡◌, ℕ, ◌<◌, ◌≤◌, ◌⊎◌, inl, inr, true, false, List, [], ◌∷◌, Some, sym, ap, ◌∙◌, subst, arith}
-use Rattle.hx_model.specs.Types.{Actor, Answer, Caller, Entry, Epoch, Get, Op, Script, Session, SessionId, Update, Version}
+use Rattle.hx_law_lemmas.proofs.Lemmas.Vocabulary.{[], Actor, Answer, ap, arith, call_of, Caller, Entry, Epoch, false, Get, inl, inr, is_doubt, IsIn, key_of}
+use Rattle.hx_law_lemmas.proofs.Lemmas.Vocabulary.{line_of, List, Op, post, posts_of, Script, Session, session_of, SessionId, SessionState, Some, subst, sym}
+use Rattle.hx_law_lemmas.proofs.Lemmas.Vocabulary.{true, Update, Version, ℕ, ◌<◌, ◌∙◌, ◌∷◌, ◌≡◌, ◌≤◌, ◌⊎◌}
 use Rattle.hx_types.specs.declared.messages.Message.TheVariants as a_message
-use Rattle.hx_types.specs.Words.{IsIn, post}
-use Rattle.hx_types.specs.Effects.{key_of}
-use Rattle.hx_types.specs.Fitting.{call_of, is_doubt}
-use Rattle.hx_model.specs.SessionSteps.{SessionState}
-use Rattle.hx_model.specs.Runs.{session_of}
-use Rattle.hx_model.specs.Histories.{line_of}
-use Rattle.hx_law_lemmas.specs.Words.{posts_of}
 use Rattle.hx_law_lemmas.proofs.Lemmas.{in-append, in_right, BeganAt, EndedAt}
 use Rattle.hx_law_searches.proofs.Calls.{Calls, EndedFirst, IsKnown, WasPosted, ended-known}
 

@@ -1,16 +1,10 @@
 -- Every run keeps what is said of calls.
-use Rattle.hx_model.specs.Lines.{upto}
-use Rattle.std.proofs.Common.{◌≡◌, ℕ, ◌-◌, ◌<◌, ◌⊎◌, inl, inr, List, [], ◌∷◌, refl, sym, ap, ◌∙◌, subst, arith, eqb}
-use Rattle.std.proofs.lemmas.Bool.{cond-true, eq-eqb, true≢false}
-use Rattle.hx_model.specs.Types.{Actor, Caller, Coordinator, Entry, Post, Script, Server, ServerId, Session, SessionId, Update}
+use Rattle.hx_law_lemmas.proofs.Lemmas.Vocabulary.{[], Actor, ap, arith, Caller, cond-true, Coordinator, coordinator_of, coordinator_step, DeliversCall, Entry}
+use Rattle.hx_law_lemmas.proofs.Lemmas.Vocabulary.{eq-eqb, eqb, Facts, inl, inr, IsIn, IsRun, IsStep, line_notes, line_of, List, made_of, MayTake, Output, Post}
+use Rattle.hx_law_lemmas.proofs.Lemmas.Vocabulary.{post, refl, Script, Server, server_of, ServerId, Session, session_after, session_of, session_step, SessionId}
+use Rattle.hx_law_lemmas.proofs.Lemmas.Vocabulary.{subst, sym, true≢false, Update, upto, ℕ, ◌-◌, ◌<◌, ◌∙◌, ◌∷◌, ◌≡◌, ◌⊎◌}
 use Rattle.hx_types.specs.declared.messages.Message.TheVariants as a_message
-use Rattle.hx_types.specs.Words.{IsIn, post}
-use Rattle.hx_model.specs.SessionSteps.{session_step}
-use Rattle.hx_model.specs.Runs.{IsRun, IsStep, Output, MayTake, coordinator_of, made_of, server_of, session_after, session_of}
-use Rattle.hx_model.specs.Histories.{line_notes, line_of}
 use Rattle.hx_law_lemmas.proofs.Lemmas.{arrived, in-upto, SessionTurn, session_turn, line-numbered, numbered-within as in-below}
-use Rattle.hx_model.specs.CoordinatorSteps.{coordinator_step}
-use Rattle.hx_law_lemmas.specs.Facts.{DeliversCall, Facts}
 use Rattle.hx_law_chains.proofs.Lemmas.{issued-line, named, OfCoordinator, coordinator-plain, AnySnapshot, OfServer, server-plain}
 use Rattle.hx_law_searches.proofs.Calls.{Calls, IsKnown, WasPosted}
 use Rattle.hx_law_searches.proofs.CallsElsewhere.{other_calls}

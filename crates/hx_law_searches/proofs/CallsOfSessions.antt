@@ -1,16 +1,10 @@
 -- An entry of a session keeps what a run says of calls.
-use Rattle.std.proofs.Common.{◌≡◌, ℕ, ◌+◌, ◌<◌, ◌≤◌, inl, inr, Bool, true, false, List, ◌∷◌, length, Some, None, refl, sym, ap, ◌∙◌, subst, arith, eqb}
-use Rattle.std.proofs.lemmas.Bool.{cases_eq, cond-false, ne_eqb, true≢false}
-use Rattle.hx_model.specs.Types.{Actor, Answer, Caller, Deliver, Entry, Epoch, Input, Op, Post, PostId, Script, Session, SessionId, Update, Version}
+use Rattle.hx_law_lemmas.proofs.Lemmas.Vocabulary.{Actor, Answer, ap, arith, Bool, call_of, Caller, calls_of, cases_eq, cond-false, Deliver, Entry, Epoch, eqb}
+use Rattle.hx_law_lemmas.proofs.Lemmas.Vocabulary.{false, inl, Input, inr, is_doubt, is_write, IsIn, key_of, length, line_of, List, MayTake, ne_eqb, None}
+use Rattle.hx_law_lemmas.proofs.Lemmas.Vocabulary.{numbered, Op, Post, post, PostId, posts_of, refl, Script, Session, session_after, session_of, SessionId}
+use Rattle.hx_law_lemmas.proofs.Lemmas.Vocabulary.{SessionState, Some, subst, sym, true, true≢false, Update, Version, ℕ, ◌+◌, ◌<◌, ◌∙◌, ◌∷◌, ◌≡◌, ◌≤◌}
 use Rattle.hx_types.specs.declared.messages.Message.TheVariants as a_message
 use Rattle.hx_types.specs.declared.traces.Note.TheVariants as a_note
-use Rattle.hx_types.specs.Words.{IsIn, post}
-use Rattle.hx_types.specs.Effects.{is_write, key_of}
-use Rattle.hx_types.specs.Fitting.{call_of, calls_of, is_doubt, numbered}
-use Rattle.hx_model.specs.SessionSteps.{SessionState}
-use Rattle.hx_model.specs.Runs.{MayTake, session_after, session_of}
-use Rattle.hx_model.specs.Histories.{line_of}
-use Rattle.hx_law_lemmas.specs.Words.{posts_of}
 use Rattle.hx_law_lemmas.proofs.Lemmas.{in-append, in_right, CallStop, EndsNow, goes_on, started, started_same, was_running, BeganAt, EndedAt, arrived}
 use Rattle.hx_law_lemmas.proofs.Lemmas.{SessionTurn, begins_now, ends_now, keeps_lines, may_start}
 use Rattle.hx_law_chains.proofs.Lemmas.{AreNamed}

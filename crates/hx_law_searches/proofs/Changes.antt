@@ -1,15 +1,7 @@
 -- Changes of a key's line as items of its history.
-use Rattle.std.proofs.Common.{◌≡◌, ℕ, true, List, sym, ap, ◌∙◌}
-use Rattle.std.proofs.lemmas.Bool.{and_from, and_parts}
-use Rattle.hx_model.specs.Types.{Entry, Item, Op, Script, Update}
-use Rattle.hx_types.specs.Words.{IsIn}
-use Rattle.hx_types.specs.Effects.{is_write}
-use Rattle.hx_types.specs.Fitting.{is_done}
-use Rattle.hx_model.specs.Runs.{IsRun}
-use Rattle.hx_model.specs.Histories.{history_of, line_of}
-use Rattle.hx_model.specs.Searching.{changes_object}
+use Rattle.hx_law_lemmas.proofs.Lemmas.Vocabulary.{and_from, and_parts, ap, changes_object, Entry, Facts, history_of, is_done, is_write, IsIn, IsRun, Item}
+use Rattle.hx_law_lemmas.proofs.Lemmas.Vocabulary.{line_of, List, Op, Script, sym, true, Update, ℕ, ◌∙◌, ◌≡◌}
 use Rattle.hx_law_lemmas.proofs.Lemmas.{Sorted, AllMade, line-made, line-sorted, update-at}
-use Rattle.hx_law_lemmas.specs.Facts.{Facts}
 use Rattle.hx_law_searches.proofs.Histories.{write_of}
 use Rattle.hx_law_searches.proofs.Items.{done-stands, item-there}
 use Rattle.hx_law_searches.proofs.Orders.{Wrote, item-wrote}

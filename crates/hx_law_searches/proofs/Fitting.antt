@@ -1,24 +1,19 @@
 -- Every run fits its script: its calls begin once and end once, as their operations can, and what is assigned is answered so too.
-use Rattle.std.proofs.Common.{◌≡◌, ℕ, ◌+◌, ◌⊎◌, inl, inr, Bool, true, false, not, ◌&&◌, ◌||◌, List, [], ◌∷◌, ◌++◌, map, length, Option, Some, None, refl, sym, ap, ◌∙◌, subst, cond, eqb, is_some}
-use Rattle.std.specs.Prelude.{reverse}
-use Rattle.std.proofs.lemmas.Bool.{and_from, and_parts, cond-true, eq-eqb, eqb-true, false≢true, or_left}
-use Rattle.hx_model.specs.Lines.{line_object, upto}
-use Rattle.hx_model.specs.Types.{Actor, Answer, Atomic, Caller, Coordinator, Cput, Del, Effect, Entry, Get, Note, Op, Put, Script, Search, Server, ServerId}
-use Rattle.hx_model.specs.Types.{Session, SessionId, Space, Update, Value, Version}
+use Rattle.hx_law_lemmas.proofs.Lemmas.Vocabulary.{[], Actor, and_from, and_parts, Answer, ap, assigns_well, Atomic, Bool, call_of, Caller, changed_to, cond}
+use Rattle.hx_law_lemmas.proofs.Lemmas.Vocabulary.{cond-true, Coordinator, coordinator_of, Cput, Del, Effect, effect_of, ends_well, Entry, eq-eqb, eqb}
+use Rattle.hx_law_lemmas.proofs.Lemmas.Vocabulary.{eqb-true, Facts, false, false≢true, Get, get_answer, has_begun, has_ended, inl, inr, is_begin_of}
+use Rattle.hx_law_lemmas.proofs.Lemmas.Vocabulary.{is_cmp_fail, is_done, is_end_of, is_found, is_not_found, is_overflow, is_refused, is_some, is_too_long}
+use Rattle.hx_law_lemmas.proofs.Lemmas.Vocabulary.{is_write, IsIn, IsRun, key_of, left_as, length, line_notes, line_object, line_of, List, made_of, map, None}
+use Rattle.hx_law_lemmas.proofs.Lemmas.Vocabulary.{not, Note, Noted, noted_in, notes_fit, numbered, Op, Option, or_left, other_note_fits, Output, Put, refl}
+use Rattle.hx_law_lemmas.proofs.Lemmas.Vocabulary.{reverse, same_actor, same_session, same_text, same_text_self, Script, Search, Server, server_of, ServerId}
+use Rattle.hx_law_lemmas.proofs.Lemmas.Vocabulary.{Session, session_of, SessionId, Some, Space, subst, sym, Tells, tests_hold, true, Update, upto, Value}
+use Rattle.hx_law_lemmas.proofs.Lemmas.Vocabulary.{Version, when_some, written, ℕ, ◌&&◌, ◌++◌, ◌+◌, ◌||◌, ◌∙◌, ◌∷◌, ◌≡◌, ◌⊎◌}
 use Rattle.hx_types.specs.declared.calls.Answer.TheVariants as an_answer
 use Rattle.hx_types.specs.declared.traces.Note.TheVariants as a_note
-use Rattle.hx_types.specs.Words.{IsIn, same_actor, same_session, same_text, when_some}
-use Rattle.hx_types.specs.Effects.{changed_to, effect_of, is_write, key_of, left_as, tests_hold, written}
-use Rattle.hx_types.specs.Fitting.{Noted, assigns_well, call_of, ends_well, has_begun, has_ended, is_begin_of, is_cmp_fail, is_overflow, is_too_long, is_done, is_end_of, is_found, is_not_found, is_refused, noted_in, notes_fit, numbered, other_note_fits}
-use Rattle.hx_model.proofs.Lemmas.{same_text_self}
-use Rattle.hx_model.specs.Histories.{line_notes, line_of}
-use Rattle.hx_model.specs.Runs.{IsRun, Output, coordinator_of, made_of, server_of, session_of}
-use Rattle.hx_model.specs.ServerSteps.{get_answer}
 use Rattle.hx_law_lemmas.proofs.Lemmas.{atomic-both, any-in, in-append, in-map, in-reverse, in_left, in_right, of-reverse, CallStop, began_notes, end_notes}
 use Rattle.hx_law_lemmas.proofs.Lemmas.{started, BeganAt, EndedAt, of_session, session_self, SessionTurn, all_notes, update-at}
 use Rattle.hx_law_posts.proofs.Lemmas.{any-of}
 use Rattle.hx_law_chains.proofs.Lemmas.{Issues, coordinator-plain, named, AnySnapshot, AssignsOne, server-plain}
-use Rattle.hx_law_lemmas.specs.Facts.{Facts, Tells}
 use Rattle.hx_law_searches.proofs.Calls.{Calls}
 use Rattle.hx_law_searches.proofs.CallsKept.{calls_kept, step_is, turn_is}
 use Rattle.hx_law_searches.proofs.Items as items

@@ -1,27 +1,18 @@
 -- What histories and searches need of runs, from what every run keeps of chains.
-use Rattle.hx_model.specs.Lines.{upto}
-use Rattle.std.proofs.Common.{◌≡◌, ℕ, ◌≤◌, ◌⊎◌, inl, inr, true, false, List, [], ◌∷◌, length, Option, Some, None, refl, sym, ap, ◌∙◌, subst, arith}
-use Rattle.std.proofs.lemmas.Bool.{cond_both, false≢true}
-use Rattle.hx_model.specs.Types.{Actor, Answer, Caller, Config, Deliver, Entry, Epoch, Get, Op, PostId, RegionId, Row, Script, Server, ServerId, Session, Term}
-use Rattle.hx_model.specs.Types.{Update, Version}
+use Rattle.hx_law_lemmas.proofs.Lemmas.Vocabulary.{[], Actor, Answer, AnswersGet, ap, arith, AssignsNext, call_of, Caller, cond_both, Config, coordinator_of}
+use Rattle.hx_law_lemmas.proofs.Lemmas.Vocabulary.{Deliver, Entry, Epoch, Facts, false, false≢true, found_in, Get, has_halted, if_installed, inl, inr, is_actor}
+use Rattle.hx_law_lemmas.proofs.Lemmas.Vocabulary.{is_key_region, is_refused, IsIn, IsLine, IsRun, IsScript, IsUpdateAfter, kept_row, key_of, KeyState, length}
+use Rattle.hx_law_lemmas.proofs.Lemmas.Vocabulary.{line_of, List, members_of, None, object_of, Op, Option, part_at, post, PostId, posts_of, refl, RegionId}
+use Rattle.hx_law_lemmas.proofs.Lemmas.Vocabulary.{Replica, replica_for, replica_of, Row, Script, Server, server_of, ServerId, ServerState, Session, ShowsRows}
+use Rattle.hx_law_lemmas.proofs.Lemmas.Vocabulary.{Some, state_in, StaysUpTo, subst, sym, Tells, Term, true, Update, upto, Version, WasTold, ℕ, ◌∙◌, ◌∷◌, ◌≡◌}
+use Rattle.hx_law_lemmas.proofs.Lemmas.Vocabulary.{◌≤◌, ◌⊎◌}
 use Rattle.hx_types.specs.declared.messages.Message.TheVariants as a_message
-use Rattle.hx_types.specs.Words.{IsIn, post}
-use Rattle.hx_types.specs.Configs.{members_of}
-use Rattle.hx_types.specs.Effects.{key_of}
-use Rattle.hx_types.specs.Subspaces.{is_key_region}
-use Rattle.hx_types.specs.Fitting.{IsScript, call_of, is_refused}
-use Rattle.hx_model.specs.Runs.{IsRun, coordinator_of, has_halted, is_actor, server_of}
-use Rattle.hx_model.specs.ServerSteps.{Replica, ServerState, replica_for, if_installed, replica_of, state_in}
-use Rattle.hx_model.specs.Slots.{KeyState, found_in, kept_row, object_of}
-use Rattle.hx_model.specs.Histories.{line_of}
-use Rattle.hx_law_lemmas.specs.Words.{posts_of}
 use Rattle.hx_law_lemmas.proofs.Lemmas.{replica-found, state-there, AllMade, Differ, replica_for-found, installed-found, rows-full}
 use Rattle.hx_law_lemmas.proofs.Lemmas.{rows-sound, stays-by, numbered-within as in-below}
 use Rattle.hx_law_folds.specs.Folding.{IsSlotOf}
 use Rattle.hx_law_chains.proofs.Lemmas.{Chained, Scene, Seat, along-fixed, chained-run, fixed-run, late-run, lines-run, replica-ascends, scene, seat-of, world}
 use Rattle.hx_law_chains.proofs.Lemmas.{replica-sent, snapshots-kept, Along, Fixed, KeyOk, Law, Lawful, Told, lawful-made, lawful-numbered}
 use Rattle.hx_law_epochs.proofs.Lemmas.{IsKnown, Real}
-use Rattle.hx_law_lemmas.specs.Facts.{AnswersGet, AssignsNext, Facts, IsLine, IsUpdateAfter, ShowsRows, StaysUpTo, Tells, WasTold, part_at}
 use Rattle.hx_law_searches.proofs.Fronts.{front, front-fixed, front-kept, front-reaches, front-within}
 
 -- an update with the law stands so

@@ -1,13 +1,7 @@
 -- How far an installed replica's slot shows its key's line: up to a front that is fixed, and that reaches all that is committed along its chain.
-use Rattle.hx_model.specs.Lines.{upto}
-use Rattle.std.proofs.Common.{◌≡◌, ℕ, ◌<◌, ◌≤◌, ◌⊎◌, inl, inr, true, List, [], ◌∷◌, length, None, refl, sym, ap, ◌∙◌, subst, arith, leb}
-use Rattle.std.proofs.lemmas.Bool.{cond_both}
-use Rattle.hx_model.specs.Types.{RegionId, Script, ServerId, Update}
-use Rattle.hx_types.specs.Words.{IsIn}
-use Rattle.hx_types.specs.Configs.{members_of}
-use Rattle.hx_types.specs.Spaces.{IsSpace}
-use Rattle.hx_model.specs.Regions.{key_region}
-use Rattle.hx_model.specs.Slots.{KeyState, has_place, kept_row, object_of, top_above, top_of}
+use Rattle.hx_law_lemmas.proofs.Lemmas.Vocabulary.{[], ap, arith, cond_both, has_place, inl, inr, IsIn, IsSpace, kept_row, key_region, KeyState, leb, length}
+use Rattle.hx_law_lemmas.proofs.Lemmas.Vocabulary.{List, members_of, None, object_of, refl, RegionId, Script, ServerId, subst, sym, top_above, top_of, true}
+use Rattle.hx_law_lemmas.proofs.Lemmas.Vocabulary.{Update, upto, ℕ, ◌<◌, ◌∙◌, ◌∷◌, ◌≡◌, ◌≤◌, ◌⊎◌}
 use Rattle.hx_law_lemmas.proofs.Lemmas.{upto_here, upto_past, Differ, Sorted, in-only, in-top, in-upto, in-upto_from, only, only-in, only-sorted, top-least}
 use Rattle.hx_law_lemmas.proofs.Lemmas.{upto-low, upto-sorted, passes-key, places-apart}
 use Rattle.hx_law_folds.specs.Folding.{IsSlotOf}

@@ -1,14 +1,9 @@
 -- What a finished search was gathered from, as facts on the whole run.
-use Rattle.std.proofs.Common.{◌≡◌, ℕ, ◌+◌, ◌<◌, ◌⊎◌, inl, inr, List, [], ◌∷◌, length, Option, Some, None, refl, sym, ap, ◌∙◌, subst, arith}
-use Rattle.hx_model.specs.Types.{Answer, Caller, Entry, Op, RegionId, Row, Script, Search, Space, Term, Version}
+use Rattle.hx_law_lemmas.proofs.Lemmas.Vocabulary.{[], Answer, ap, arith, begin_of, call_of, CallEnd, Caller, end_of, Entry, Facts, FinishedSearch, inl, inr}
+use Rattle.hx_law_lemmas.proofs.Lemmas.Vocabulary.{IsRun, length, List, None, numbered, Op, Option, refl, RegionId, Row, rows_in, Script, Search, search_of}
+use Rattle.hx_law_lemmas.proofs.Lemmas.Vocabulary.{Some, Space, subst, sym, Term, terms_of, Version, when_some, with_rows, ℕ, ◌+◌, ◌<◌, ◌∙◌, ◌∷◌, ◌≡◌, ◌⊎◌}
 use Rattle.hx_types.specs.declared.calls.Answer.TheVariants as an_answer
-use Rattle.hx_types.specs.Words.{when_some}
-use Rattle.hx_types.specs.Fitting.{call_of, numbered}
-use Rattle.hx_model.specs.Runs.{IsRun}
-use Rattle.hx_model.specs.Histories.{CallEnd, begin_of, end_of}
-use Rattle.hx_model.specs.Searching.{FinishedSearch, rows_in, search_of, terms_of, with_rows}
 use Rattle.hx_law_lemmas.proofs.Lemmas.{BeganAt, EndedAt, began_at, ended_at, end-noted, Gathered}
-use Rattle.hx_law_lemmas.specs.Facts.{Facts}
 use Rattle.hx_law_chains.proofs.Lemmas.{named}
 use Rattle.hx_law_searches.proofs.Moments.{part-length}
 use Rattle.hx_law_searches.proofs.Searched.{WasShown, searched-run, shown-up, turn-of}

@@ -1,24 +1,17 @@
 -- The history of every key is linear.
-use Rattle.hx_model.specs.Lines.{line_object, no_version, upto}
-use Rattle.std.proofs.Common.{◌≡◌, ℕ, ◌+◌, ◌<◌, ◌≤◌, ◌⊎◌, inl, inr, Bool, true, false, not, ◌&&◌, List, [], ◌∷◌, ◌++◌, length, Option, Some, None, refl, sym, ap, ◌∙◌, subst, arith, cond, leb, ltb, append-nil, append_assoc}
-use Rattle.std.specs.Prelude.{reverse}
-use Rattle.std.proofs.lemmas.Bool.{cond_both, and_parts, and_from, leb-true, le-leb, ltb-true, lt-ltb, false≢true, true≢false, cases_lt}
-use Rattle.hx_model.specs.Types.{Actor, Answer, Caller, Coordinator, Entry, Get, Item, Note, Op, Script, Server, Session, SessionId, Update, Value, Version}
+use Rattle.hx_law_lemmas.proofs.Lemmas.Vocabulary.{[], Actor, and_from, and_parts, Answer, ap, append-nil, append_assoc, arith, begin_of, Bool, call_of}
+use Rattle.hx_law_lemmas.proofs.Lemmas.Vocabulary.{CallEnd, Caller, cases_lt, cond, cond_both, Coordinator, EachOnce, effect_of, end_of, ended_before, Entry}
+use Rattle.hx_law_lemmas.proofs.Lemmas.Vocabulary.{Facts, false, false≢true, Get, get_answer, get_item, get_items, gets_of, history_of, history_on, in_place}
+use Rattle.hx_law_lemmas.proofs.Lemmas.Vocabulary.{inl, inr, is_doubt, is_get_of, is_refused, is_write, IsBefore, IsCall, IsEffect, IsIn, IsLegal, IsLine}
+use Rattle.hx_law_lemmas.proofs.Lemmas.Vocabulary.{IsLinear, IsRun, Item, key_of, le-leb, leb, leb-true, length, line_object, line_of, List, lt-ltb, ltb}
+use Rattle.hx_law_lemmas.proofs.Lemmas.Vocabulary.{ltb-true, no_version, None, not, not_refused, Note, note_of_end, object_now, Op, Option, provided, refl}
+use Rattle.hx_law_lemmas.proofs.Lemmas.Vocabulary.{reverse, Script, Server, Session, SessionId, Some, subst, sym, Tells, top_above, true, true≢false, Update}
+use Rattle.hx_law_lemmas.proofs.Lemmas.Vocabulary.{upto, Value, Version, was_refused, when_some, ℕ, ◌&&◌, ◌++◌, ◌+◌, ◌<◌, ◌∙◌, ◌∷◌, ◌≡◌, ◌≤◌, ◌⊎◌}
 use Rattle.hx_types.specs.declared.traces.Note.TheVariants as a_note
-use Rattle.hx_types.specs.Words.{IsBefore, IsIn, provided, when_some}
-use Rattle.hx_types.specs.Effects.{effect_of, is_write, key_of}
-use Rattle.hx_types.specs.Fitting.{call_of, is_doubt, is_refused}
-use Rattle.hx_model.specs.Runs.{IsRun}
-use Rattle.hx_model.specs.Slots.{top_above}
-use Rattle.hx_model.specs.ServerSteps.{get_answer}
-use Rattle.hx_model.specs.Histories.{CallEnd, begin_of, end_of, get_item, get_items, gets_of, history_of, history_on, in_place, is_get_of, line_of, not_refused, note_of_end}
-use Rattle.hx_model.specs.Legal.{IsEffect, IsLegal, object_now}
-use Rattle.hx_model.specs.Linear.{EachOnce, IsCall, IsLinear, ended_before, was_refused}
 use Rattle.hx_law_lemmas.proofs.Lemmas.{get-of, get_effect, get_leaves, Pairwise, in-append, in-flat_map, in-provided, in_left, in_right, pairwise-append}
 use Rattle.hx_law_lemmas.proofs.Lemmas.{stands_before, numbered-within as in-below, upto_past, GetEnd, GetNote, entry_got, entry_short, gets-in, in-gets}
 use Rattle.hx_law_lemmas.proofs.Lemmas.{began_notes, end_notes, BeganAt, EndedAt, began_at, begin_is, ended_at, Sorted, numbered-sorted, upto_all, upto_upto}
 use Rattle.hx_law_lemmas.proofs.Lemmas.{caller-once, line-numbered, update-at, all_notes}
-use Rattle.hx_law_lemmas.specs.Facts.{Facts, IsLine, Tells}
 use Rattle.hx_law_searches.proofs.Calls.{Calls, LaterThan, NoCall}
 use Rattle.hx_law_searches.proofs.CallsKept.{calls_kept, turn_is}
 use Rattle.hx_law_searches.proofs.Times.{begins_first, ended_unique, first_of, not_again}

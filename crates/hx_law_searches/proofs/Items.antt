@@ -1,16 +1,11 @@
 -- Where the items of a key's history stand, and that calls begin once.
-use Rattle.std.proofs.Common.{◌≡◌, ℕ, ◌<◌, inl, inr, true, false, List, [], ◌∷◌, ◌++◌, Option, Some, None, refl, sym, ◌∙◌, subst, arith, ltb, IsSome}
-use Rattle.std.proofs.lemmas.Bool.{lt-ltb, false≢true}
-use Rattle.hx_model.specs.Types.{Answer, Caller, Entry, Op, Script, Session, Update}
+use Rattle.hx_law_lemmas.proofs.Lemmas.Vocabulary.{[], Answer, arith, began_before, begin_of, call_of, Caller, Entry, Facts, false, false≢true, gets_of}
+use Rattle.hx_law_lemmas.proofs.Lemmas.Vocabulary.{history_of, history_on, inl, inr, is_done, is_refused, IsIn, IsRun, IsSome, line_of, List, lt-ltb, ltb, None}
+use Rattle.hx_law_lemmas.proofs.Lemmas.Vocabulary.{not_refused, Op, Option, refl, Script, Session, Some, subst, sym, true, Update, when_some, write_item, ℕ}
+use Rattle.hx_law_lemmas.proofs.Lemmas.Vocabulary.{◌++◌, ◌<◌, ◌∙◌, ◌∷◌, ◌≡◌}
 use Rattle.hx_types.specs.declared.calls.Answer.TheVariants as an_answer
-use Rattle.hx_types.specs.Words.{IsIn, when_some}
-use Rattle.hx_types.specs.Fitting.{call_of, is_done, is_refused}
-use Rattle.hx_model.specs.Runs.{IsRun}
-use Rattle.hx_model.specs.Histories.{begin_of, gets_of, history_of, history_on, line_of, not_refused, write_item}
-use Rattle.hx_model.specs.Linear.{began_before}
 use Rattle.hx_law_lemmas.proofs.Lemmas.{in_left, in_right, BeganAt, began_at, begin_is, begins_now}
 use Rattle.hx_types.specs.declared.traces.Note.TheVariants as a_note
-use Rattle.hx_law_lemmas.specs.Facts.{Facts}
 use Rattle.hx_law_searches.proofs.CallsKept.{calls_kept, turn_is}
 use Rattle.hx_law_searches.proofs.Histories.{write_of}
 use Rattle.hx_law_searches.proofs.Writes.{in-not_refused}

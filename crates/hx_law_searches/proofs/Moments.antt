@@ -1,11 +1,7 @@
 -- A trace at earlier moments: its begins, ends and posts.
-use Rattle.std.proofs.Common.{◌≡◌, ℕ, ◌≤◌, inl, inr, List, [], ◌∷◌, length, refl, sym, ap, subst, arith}
-use Rattle.hx_model.specs.Types.{Answer, Caller, Entry, Post, Script, Version}
-use Rattle.hx_types.specs.Words.{IsIn}
-use Rattle.hx_model.specs.Runs.{IsRun}
-use Rattle.hx_law_lemmas.specs.Words.{posts_of}
+use Rattle.hx_law_lemmas.proofs.Lemmas.Vocabulary.{[], Answer, ap, arith, Caller, Entry, inl, inr, IsIn, IsPartOf, IsRun, length, List, Post, posts_of, refl}
+use Rattle.hx_law_lemmas.proofs.Lemmas.Vocabulary.{Script, subst, sym, Version, ℕ, ◌∷◌, ◌≡◌, ◌≤◌}
 use Rattle.hx_law_lemmas.proofs.Lemmas.{in-append, BeganAt, EndedAt}
-use Rattle.hx_law_lemmas.specs.Facts.{IsPartOf}
 
 -- a part of a run is a run
 pub part-run : (script : Script) (s t : List Entry) → IsPartOf s t → IsRun script t → IsRun script s

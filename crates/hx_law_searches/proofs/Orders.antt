@@ -1,15 +1,10 @@
 -- What the items of a key's history are, in what order their versions stand, and what is known of one that ended before an entry.
-use Rattle.std.proofs.Common.{◌≡◌, ℕ, ◌<◌, ◌≤◌, ◌⊎◌, inl, inr, true, false, List, [], ◌∷◌, ◌++◌, Option, Some, None, refl, sym, ap, ◌∙◌, subst, arith, cond, leb, ltb, append-nil}
-use Rattle.std.proofs.lemmas.Bool.{and_parts, cond_both, false≢true, leb-true, ltb-true, true≢false}
-use Rattle.hx_model.specs.Types.{Answer, Caller, Entry, Get, Item, Op, Script, Update, Value, Version}
-use Rattle.hx_types.specs.Words.{IsBefore, IsIn, when_some}
-use Rattle.hx_types.specs.Effects.{is_write, key_of}
-use Rattle.hx_types.specs.Fitting.{call_of, is_doubt}
-use Rattle.hx_model.specs.Runs.{IsRun}
-use Rattle.hx_model.specs.Histories.{CallEnd, end_of, gets_of, history_of, history_on, in_place, line_of, not_refused, note_of_end, write_item}
-use Rattle.hx_model.specs.Linear.{EachOnce, ended_before}
+use Rattle.hx_law_lemmas.proofs.Lemmas.Vocabulary.{[], and_parts, Answer, ap, append-nil, arith, call_of, CallEnd, Caller, cond, cond_both, EachOnce, end_of}
+use Rattle.hx_law_lemmas.proofs.Lemmas.Vocabulary.{ended_before, Entry, Facts, false, false≢true, Get, gets_of, history_of, history_on, in_place, inl, inr}
+use Rattle.hx_law_lemmas.proofs.Lemmas.Vocabulary.{is_doubt, is_write, IsBefore, IsIn, IsLine, IsRun, Item, key_of, leb, leb-true, line_of, List, ltb, ltb-true}
+use Rattle.hx_law_lemmas.proofs.Lemmas.Vocabulary.{None, not_refused, note_of_end, Op, Option, refl, Script, Some, subst, sym, true, true≢false, Update, Value}
+use Rattle.hx_law_lemmas.proofs.Lemmas.Vocabulary.{Version, when_some, write_item, ℕ, ◌++◌, ◌<◌, ◌∙◌, ◌∷◌, ◌≡◌, ◌≤◌, ◌⊎◌}
 use Rattle.hx_law_lemmas.proofs.Lemmas.{in-append, gets-in, EndedAt, ended_at, end-noted, Sorted, numbered-sorted, caller-once, line-numbered, update-at}
-use Rattle.hx_law_lemmas.specs.Facts.{Facts, IsLine}
 use Rattle.hx_law_searches.proofs.Calls.{Calls}
 use Rattle.hx_law_searches.proofs.CallsKept.{calls_kept}
 use Rattle.hx_law_searches.proofs.Histories.{ended-told, linear, write_of}

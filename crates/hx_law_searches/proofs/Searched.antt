@@ -1,17 +1,11 @@
 -- What every run keeps for searches: who asks is a session's search that has begun, and each part that a session has was shown to it.
-use Rattle.std.proofs.Common.{◌≡◌, ℕ, inl, inr, true, List, [], ◌∷◌, Some, refl, sym, ap, ◌∙◌, subst}
-use Rattle.std.specs.Prelude.{⊤}
-use Rattle.std.proofs.lemmas.Bool.{cond-false, cases_eq, ne_eqb, false≢true}
-use Rattle.hx_model.specs.Types.{Actor, Caller, Coordinator, Entry, Epoch, Message, Op, Post, RegionId, Row, Script, Search, Server, ServerId, Session}
-use Rattle.hx_model.specs.Types.{SessionId, Term}
+use Rattle.hx_law_lemmas.proofs.Lemmas.Vocabulary.{[], Actor, ap, call_of, Caller, cases_eq, cond-false, Coordinator, coordinator_of, Entry, Epoch, Facts}
+use Rattle.hx_law_lemmas.proofs.Lemmas.Vocabulary.{false≢true, inl, inr, IsIn, IsPartOf, IsRun, List, made_of, MayTake, Message, ne_eqb, numbered, Op, Output}
+use Rattle.hx_law_lemmas.proofs.Lemmas.Vocabulary.{Post, post, posts_of, refl, RegionId, Row, same_session, Script, Search, Server, server_of, ServerId}
+use Rattle.hx_law_lemmas.proofs.Lemmas.Vocabulary.{Session, session_after, session_of, session_step, SessionId, SessionState, ShowsRows, Some, subst, sym, Term}
+use Rattle.hx_law_lemmas.proofs.Lemmas.Vocabulary.{true, ℕ, ⊤, ◌∙◌, ◌∷◌, ◌≡◌}
 use Rattle.hx_types.specs.declared.messages.Message.TheVariants as a_message
-use Rattle.hx_types.specs.Words.{IsIn, post, same_session}
-use Rattle.hx_types.specs.Fitting.{call_of, numbered}
-use Rattle.hx_model.specs.SessionSteps.{SessionState, session_step}
-use Rattle.hx_model.specs.Runs.{IsRun, Output, MayTake, coordinator_of, made_of, server_of, session_after, session_of}
-use Rattle.hx_law_lemmas.specs.Words.{posts_of}
 use Rattle.hx_law_lemmas.proofs.Lemmas.{in-append, BeganAt, arrived, Asks, HasParts, SearchTurn, search-turn}
-use Rattle.hx_law_lemmas.specs.Facts.{Facts, IsPartOf, ShowsRows}
 use Rattle.hx_law_searches.proofs.Calls.{Calls}
 use Rattle.hx_law_searches.proofs.CallsKept.{calls_kept, step_is}
 use Rattle.hx_law_chains.proofs.Lemmas.{named, OfCoordinator, coordinator-plain, AnySnapshot, OfServer, server-plain}

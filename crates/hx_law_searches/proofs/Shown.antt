@@ -1,18 +1,10 @@
 -- What is known at the end of a run of rows that were shown to a search: they are what the region keeps of each line up to a front that reaches as far as any call that ended before the search began.
-use Rattle.hx_model.specs.Lines.{upto}
-use Rattle.std.proofs.Common.{◌≡◌, ℕ, ◌<◌, ◌≤◌, inl, inr, true, false, List, [], ◌∷◌, length, Some, None, refl, sym, ap, ◌∙◌, subst, arith, leb}
-use Rattle.std.proofs.lemmas.Bool.{cond_both, leb-true, leb-false}
-use Rattle.hx_model.specs.Types.{Answer, Caller, Entry, Op, RegionId, Row, Script, Session, Term, Update, Version}
-use Rattle.hx_types.specs.Words.{IsIn}
-use Rattle.hx_types.specs.Effects.{key_of}
-use Rattle.hx_types.specs.Fitting.{call_of, is_doubt}
-use Rattle.hx_model.specs.Matching.{matches}
-use Rattle.hx_model.specs.Slots.{has_place, kept_row}
-use Rattle.hx_model.specs.Runs.{IsRun}
-use Rattle.hx_model.specs.Histories.{line_of}
+use Rattle.hx_law_lemmas.proofs.Lemmas.Vocabulary.{[], Answer, ap, arith, call_of, Caller, cond_both, Entry, Facts, false, has_place, inl, inr, is_doubt, IsIn}
+use Rattle.hx_law_lemmas.proofs.Lemmas.Vocabulary.{IsPartOf, IsRun, kept_row, key_of, leb, leb-false, leb-true, length, line_of, List, matches, None, Op}
+use Rattle.hx_law_lemmas.proofs.Lemmas.Vocabulary.{part_at, refl, RegionId, Row, Script, Session, ShowsRows, Some, subst, sym, Term, true, Update, upto}
+use Rattle.hx_law_lemmas.proofs.Lemmas.Vocabulary.{Version, ℕ, ◌<◌, ◌∙◌, ◌∷◌, ◌≡◌, ◌≤◌}
 use Rattle.hx_law_lemmas.proofs.Lemmas.{numbered-within as in-below, upto_past, BeganAt, EndedAt, Sorted, in-upto, in-upto_from, only-in, top-least, upto_all}
 use Rattle.hx_law_lemmas.proofs.Lemmas.{line-numbered, line-sorted}
-use Rattle.hx_law_lemmas.specs.Facts.{Facts, IsPartOf, ShowsRows, part_at}
 use Rattle.hx_law_searches.proofs.Calls.{IsKnown, ended-known}
 use Rattle.hx_law_searches.proofs.CallsKept.{calls_kept}
 use Rattle.hx_law_searches.proofs.Items.{began-unique}

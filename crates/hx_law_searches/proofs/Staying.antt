@@ -1,12 +1,6 @@
 -- Rows that a session was ever sent are of changes that stay in their keys' lines, and servers serve the calls.
-use Rattle.std.proofs.Common.{List, subst, sym}
-use Rattle.hx_model.specs.Types.{Caller, Entry, RegionId, Row, Script, Update}
-use Rattle.hx_types.specs.Words.{IsIn}
-use Rattle.hx_model.specs.Lines.{upto}
-use Rattle.hx_model.specs.Runs.{IsRun}
-use Rattle.hx_model.specs.Histories.{line_of}
+use Rattle.hx_law_lemmas.proofs.Lemmas.Vocabulary.{Caller, Entry, Facts, IsIn, IsRun, line_of, List, part_at, RegionId, Row, Script, subst, sym, Update, upto}
 use Rattle.hx_law_lemmas.proofs.Lemmas.{Sorted, in-upto, in-upto_from, only-in, only-sorted, upto-low, upto-sorted, kept-is, line-sorted}
-use Rattle.hx_law_lemmas.specs.Facts.{Facts, part_at}
 use Rattle.hx_law_searches.specs.Headline.{IsRowOfLine, RunsKeepRows, RunsServeCalls}
 use Rattle.hx_law_searches.proofs.FromChains.{facts}
 use Rattle.hx_law_searches.proofs.Moments.{part-before, part-run}

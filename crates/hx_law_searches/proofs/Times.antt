@@ -1,11 +1,8 @@
 -- The order of begins and ends in a run.
-use Rattle.std.proofs.Common.{◌≡◌, ℕ, ◌<◌, ◌≤◌, inl, inr, List, [], ◌∷◌, Some, sym, ap, ◌∙◌, arith}
-use Rattle.hx_model.specs.Types.{Answer, Caller, Entry, Script, Session, Version}
+use Rattle.hx_law_lemmas.proofs.Lemmas.Vocabulary.{[], Answer, ap, arith, Caller, Entry, Facts, inl, inr, IsIn, IsRun, List, Script, Session, Some, sym}
+use Rattle.hx_law_lemmas.proofs.Lemmas.Vocabulary.{Version, ℕ, ◌<◌, ◌∙◌, ◌∷◌, ◌≡◌, ◌≤◌}
 use Rattle.hx_types.specs.declared.traces.Note.TheVariants as a_note
-use Rattle.hx_types.specs.Words.{IsIn}
-use Rattle.hx_model.specs.Runs.{IsRun}
 use Rattle.hx_law_lemmas.proofs.Lemmas.{CallStop, BeganAt, EndedAt, begins_now, ends_now, may_start}
-use Rattle.hx_law_lemmas.specs.Facts.{Facts}
 use Rattle.hx_law_searches.proofs.Calls.{Calls, EndedFirst}
 use Rattle.hx_law_searches.proofs.CallsKept.{calls_kept, turn_is}
 

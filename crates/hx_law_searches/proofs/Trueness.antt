@@ -1,24 +1,12 @@
 -- Each row of a finished search is a change that matches, began before the search ended, and wasn't followed by a change that ended before the search began.
-use Rattle.hx_model.specs.Lines.{upto}
-use Rattle.std.proofs.Common.{◌≡◌, ℕ, ◌<◌, ◌≤◌, inl, inr, Bool, true, false, not, ◌&&◌, List, [], map, Option, Some, None, refl, sym, ap, ◌∙◌, subst, arith}
-use Rattle.std.specs.List.{list_any}
-use Rattle.std.proofs.lemmas.Bool.{and_parts, cases_order, true≢false}
-use Rattle.hx_model.specs.Types.{Caller, Entry, Item, RegionId, Row, Script, Search, Term, Update, Version}
-use Rattle.hx_types.specs.Words.{IsBefore, IsIn, when_some}
-use Rattle.hx_types.specs.Effects.{is_write}
-use Rattle.hx_types.specs.Fitting.{IsScript}
-use Rattle.hx_types.specs.Posts.{keys_ascend}
-use Rattle.hx_model.specs.Matching.{matches}
-use Rattle.hx_model.specs.Slots.{has_place}
-use Rattle.hx_model.specs.SessionSteps.{Part, merged_parts}
-use Rattle.hx_model.specs.Runs.{IsRun}
-use Rattle.hx_model.specs.Histories.{history_of, line_of}
-use Rattle.hx_model.specs.Linear.{began_before, ended_before}
-use Rattle.hx_model.specs.Searching.{FinishedSearch, IsSearchTrue, IsTrueRow, changes_object, no_change_before}
+use Rattle.hx_law_lemmas.proofs.Lemmas.Vocabulary.{[], and_parts, ap, arith, began_before, Bool, Caller, cases_order, changes_object, ended_before, Entry}
+use Rattle.hx_law_lemmas.proofs.Lemmas.Vocabulary.{Facts, false, FinishedSearch, has_place, history_of, inl, inr, is_write, IsBefore, IsIn, IsRun, IsScript}
+use Rattle.hx_law_lemmas.proofs.Lemmas.Vocabulary.{IsSearchTrue, IsTrueRow, Item, keys_ascend, line_of, List, list_any, map, matches, merged_parts}
+use Rattle.hx_law_lemmas.proofs.Lemmas.Vocabulary.{no_change_before, None, not, Option, Part, part_at, refl, RegionId, Row, Script, Search, Some, subst, sym}
+use Rattle.hx_law_lemmas.proofs.Lemmas.Vocabulary.{Term, true, true≢false, Update, upto, Version, when_some, ℕ, ◌&&◌, ◌<◌, ◌∙◌, ◌≡◌, ◌≤◌}
 use Rattle.hx_law_lemmas.proofs.Lemmas.{any-in, before-first, BeganAt, cut-at, merged-ascends, merged-in, part_rows, row_key, Sorted, in-only, in-upto}
 use Rattle.hx_law_lemmas.proofs.Lemmas.{in-upto_from, only-in, only-sorted, same_version, upto-low, upto-sorted, Lies, keeps-where, passes-key, passes-old}
 use Rattle.hx_law_lemmas.proofs.Lemmas.{Changed, Kept, Stands, kept-is, next-change, stands, ascend-test}
-use Rattle.hx_law_lemmas.specs.Facts.{Facts, part_at}
 use Rattle.hx_law_searches.proofs.Changes.{change-item, item-change, made, sorted}
 use Rattle.hx_law_searches.proofs.Gathering.{Finished, ShownBefore}
 use Rattle.hx_law_searches.proofs.Histories.{write_of}

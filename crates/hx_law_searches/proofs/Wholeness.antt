@@ -1,26 +1,14 @@
 -- A finished search shows the last change of each key that began before it ended, where it or a later item ended before the search began.
-use Rattle.std.proofs.Common.{◌≡◌, ℕ, zero, suc, ◌+◌, ◌<◌, ◌≤◌, ◌⊎◌, inl, inr, Bool, true, false, List, [], ◌∷◌, map, length, get_or, Option, Some, None, refl, sym, ap, ◌∙◌, subst, arith, add-one, is_some}
-use Rattle.std.specs.List.{Contains, list_all, list_any}
-use Rattle.std.proofs.lemmas.Bool.{and_from, and_parts, cases_Bool, false≢true}
-use Rattle.hx_model.specs.Types.{Caller, Entry, Item, RegionId, Row, Script, Space, Term, Update, Value, Version}
-use Rattle.hx_types.specs.Words.{IsIn, below, when_some}
-use Rattle.hx_types.specs.Effects.{is_write}
-use Rattle.hx_types.specs.Fitting.{IsScript, is_done}
-use Rattle.hx_types.specs.Spaces.{IsSpace}
-use Rattle.hx_model.specs.Matching.{matches}
-use Rattle.hx_model.specs.Regions.{key_region, place_of}
-use Rattle.hx_model.specs.Places.{declared_subspaces}
-use Rattle.hx_model.specs.Slots.{has_place, keeps_at}
-use Rattle.hx_model.specs.SessionSteps.{Part, merged_parts}
-use Rattle.hx_model.specs.Runs.{IsRun}
-use Rattle.hx_model.specs.Histories.{history_of, line_of}
-use Rattle.hx_model.specs.Linear.{began_before, ended_before}
-use Rattle.hx_model.specs.Searching.{ItemWithNewer, FinishedSearch, IsChangeShown, IsSearchWhole, IsShown, changes_object, last_change}
-use Rattle.hx_region.proofs.Lemmas.{Contains-below, all_asked, asked}
-use Rattle.hx_region.specs.Spans.{subspace_count}
+use Rattle.hx_law_lemmas.proofs.Lemmas.Vocabulary.{[], add-one, all_asked, and_from, and_parts, ap, arith, began_before, below, Bool, Caller, cases_Bool}
+use Rattle.hx_law_lemmas.proofs.Lemmas.Vocabulary.{changes_object, Contains, Contains-below, declared_subspaces, ended_before, Entry, Facts, false, false≢true}
+use Rattle.hx_law_lemmas.proofs.Lemmas.Vocabulary.{FinishedSearch, get_or, has_place, history_of, inl, inr, is_done, is_some, is_write, IsChangeShown, IsIn}
+use Rattle.hx_law_lemmas.proofs.Lemmas.Vocabulary.{IsRun, IsScript, IsSearchWhole, IsShown, IsSpace, Item, ItemWithNewer, keeps_at, key_region, last_change}
+use Rattle.hx_law_lemmas.proofs.Lemmas.Vocabulary.{length, line_of, List, list_all, list_any, map, matches, merged_parts, None, Option, Part, place_of, refl}
+use Rattle.hx_law_lemmas.proofs.Lemmas.Vocabulary.{RegionId, Row, Script, Some, Space, subspace_count, subst, suc, sym, Term, true, Update, Value, Version}
+use Rattle.hx_law_lemmas.proofs.Lemmas.Vocabulary.{when_some, zero, ℕ, ◌+◌, ◌<◌, ◌∙◌, ◌∷◌, ◌≡◌, ◌≤◌, ◌⊎◌}
+use Rattle.hx_region.proofs.Lemmas.{asked}
 use Rattle.hx_law_lemmas.proofs.Lemmas.{any-in, before-first, in-map, BeganAt, LastChange, last-is, IsCovered, merged-covers, merged-in, part_rows}
 use Rattle.hx_law_lemmas.proofs.Lemmas.{same_version, keeps-key, keeps-new, passes-key, Made, kept-newest, row_with, stands}
-use Rattle.hx_law_lemmas.specs.Facts.{Facts}
 use Rattle.hx_law_searches.proofs.Changes.{change-item, item-change, made, sorted}
 use Rattle.hx_law_searches.proofs.Gathering.{Finished, ShownBefore}
 use Rattle.hx_law_searches.proofs.Histories.{write_of}

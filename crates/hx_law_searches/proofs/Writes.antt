@@ -1,15 +1,9 @@
 -- A key's line without what was refused: each update is the effect of its write on the object after those before it, and objects after versions stay.
-use Rattle.hx_model.specs.Lines.{line_object, upto}
-use Rattle.std.proofs.Common.{◌≡◌, ℕ, ◌<◌, ◌≤◌, inl, inr, Bool, true, false, not, List, [], ◌∷◌, Some, refl, sym, ap, ◌∙◌, arith, leb}
-use Rattle.std.proofs.lemmas.Bool.{cond_both, leb-true, leb-false, false≢true}
-use Rattle.hx_model.specs.Types.{Op, Script, Update}
-use Rattle.hx_types.specs.Words.{IsIn}
-use Rattle.hx_types.specs.Effects.{effect_of, is_write, key_of}
-use Rattle.hx_types.specs.Fitting.{call_of, is_refused}
-use Rattle.hx_model.specs.Histories.{not_refused}
+use Rattle.hx_law_lemmas.proofs.Lemmas.Vocabulary.{[], ap, arith, Bool, call_of, cond_both, effect_of, false, false≢true, inl, inr, is_refused, is_write, IsIn}
+use Rattle.hx_law_lemmas.proofs.Lemmas.Vocabulary.{IsLine, IsUpdateAfter, key_of, leb, leb-false, leb-true, line_object, List, not, not_refused, Op, refl}
+use Rattle.hx_law_lemmas.proofs.Lemmas.Vocabulary.{Script, Some, sym, true, Update, upto, ℕ, ◌<◌, ◌∙◌, ◌∷◌, ◌≡◌, ◌≤◌}
 use Rattle.hx_law_lemmas.proofs.Lemmas.{in-filter, effect_well, numbered-within as in-below, upto_past, Sorted, numbered-sorted, top-least, upto_all}
 use Rattle.hx_law_lemmas.proofs.Lemmas.{line-numbered, line-upto}
-use Rattle.hx_law_lemmas.specs.Facts.{IsLine, IsUpdateAfter}
 
 -- an update that wasn't refused, after the older ones that weren't
 pub record Write (script : Script) (key : List ℕ) (us : List Update) (u : Update) : Type 0 where

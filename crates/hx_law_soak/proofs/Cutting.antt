@@ -1,12 +1,7 @@
 -- Histories whose items descend by the turns of their callers, cut below a turn.
-use Rattle.std.proofs.Common.{◌≡◌, ◌≢◌, ℕ, ◌+◌, ◌<◌, ◌≤◌, ◌⊎◌, inl, inr, Bool, true, false, cond, List, [], ◌∷◌, nat_lt, refl, sym, ap, ◌∙◌, subst, arith}
-use Rattle.std.specs.Prelude.{⊤}
-use Rattle.std.specs.List.{filter}
-use Rattle.std.proofs.lemmas.Bool.{cases_Bool, cases_order, cond-true, cond-false, false_from_ne_true, false≢true, lt-ltb, ltb-true}
-use Rattle.hx_model.specs.Types.{Item, Space}
-use Rattle.hx_types.specs.Words.{IsBefore, IsIn}
-use Rattle.hx_model.specs.Legal.{IsEffect, IsLegal, object_now}
-use Rattle.hx_model.specs.Linear.{EachOnce}
+use Rattle.hx_law_lemmas.proofs.Lemmas.Vocabulary.{[], ap, arith, Bool, cases_Bool, cases_order, cond, cond-false, cond-true, EachOnce, false}
+use Rattle.hx_law_lemmas.proofs.Lemmas.Vocabulary.{false_from_ne_true, false≢true, filter, inl, inr, IsBefore, IsEffect, IsIn, IsLegal, Item, List, lt-ltb}
+use Rattle.hx_law_lemmas.proofs.Lemmas.Vocabulary.{ltb-true, nat_lt, object_now, refl, Space, subst, sym, true, ℕ, ⊤, ◌+◌, ◌<◌, ◌∙◌, ◌∷◌, ◌≡◌, ◌≢◌, ◌≤◌, ◌⊎◌}
 use Rattle.hx_law_soak.proofs.Turns.{rank}
 
 -- each item is of a later turn than those below it

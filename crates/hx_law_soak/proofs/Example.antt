@@ -1,17 +1,11 @@
 -- A soak of one call, and what calls add up to in their order, by computing: so the premises of the law can be met, and the definitions say what they should.
-use Rattle.std.proofs.Common.{◌≡◌, ℕ, inl, inr, Bool, true, false, not, List, [], ◌∷◌, length, IsSome, Option, Some, None, refl, sym, ap, ◌∙◌, subst, arith}
-use Rattle.std.specs.Prelude.{codes}
-use Rattle.std.specs.List.{list_all}
 use Rattle.std.specs.Fmt.{digits}
-use Rattle.std.proofs.lemmas.Bool.{and_parts, false≢true}
+use Rattle.hx_law_lemmas.proofs.Lemmas.Vocabulary.{[], and_parts, ap, arith, Bool, call_of, Caller, codes, Deliver, Entry, false, false≢true, Halt, inl, Input}
+use Rattle.hx_law_lemmas.proofs.Lemmas.Vocabulary.{inr, IsRun, IsSome, length, List, list_all, next_entry, None, not, note_of_end, Op, Option, refl, scheduled}
+use Rattle.hx_law_lemmas.proofs.Lemmas.Vocabulary.{Some, subst, sym, Tick, true, ℕ, ◌∙◌, ◌∷◌, ◌≡◌}
 use Rattle.hex.specs.Hex.{encode_with}
-use Rattle.hx_model.specs.Types.{Caller, Deliver, Entry, Halt, Input, Op, Tick}
-use Rattle.hx_types.specs.Fitting.{call_of}
 use Rattle.hx_print.specs.Printing.{named_text, quoted, value_text}
 use Rattle.hx_report.specs.Reporting.{object_text}
-use Rattle.hx_model.specs.Histories.{note_of_end}
-use Rattle.hx_model.specs.Runs.{IsRun}
-use Rattle.hx_model.specs.Schedule.{next_entry, scheduled}
 use Rattle.hx_law_causes.proofs.Lemmas.{scheduled-run}
 use Rattle.hx_soak.specs.Soaking.{script_drawn, soak}
 use Rattle.hx_soak.proofs.Lemmas.{is_script}

@@ -1,17 +1,10 @@
 -- In a run in which no server is halted and no call asks for another configuration no call is refused or in doubt, and each search ends with rows.
-use Rattle.std.proofs.Common.{◌≡◌, ℕ, inl, inr, true, false, List, [], ◌∷◌, ◌++◌, Some, None, refl, sym, ap, ◌∙◌, subst}
-use Rattle.std.proofs.lemmas.Bool.{false≢true}
-use Rattle.hx_model.specs.Types.{Add, Answer, Caller, Config, Entry, Op, RegionId, Script, ServerId, Session, Stop, Version}
+use Rattle.hx_law_lemmas.proofs.Lemmas.Vocabulary.{[], Add, Answer, AnsweredCall, ap, begin_of, call_of, Caller, Config, Entry, false, false≢true, HasCause}
+use Rattle.hx_law_lemmas.proofs.Lemmas.Vocabulary.{inl, inr, is_administrative, is_doubt, is_fulfilled, is_lost, is_refused, is_rows, IsIn, IsRun, IsScript}
+use Rattle.hx_law_lemmas.proofs.Lemmas.Vocabulary.{key_of, List, None, Op, refl, RegionId, Script, server_named, ServerId, Session, Some, Stop, subst, sym}
+use Rattle.hx_law_lemmas.proofs.Lemmas.Vocabulary.{true, Version, ℕ, ◌++◌, ◌∙◌, ◌∷◌, ◌≡◌}
 use Rattle.hx_types.specs.declared.calls.Answer.TheVariants as an_answer
 use Rattle.hx_types.specs.declared.traces.Note.TheVariants as a_note
-use Rattle.hx_types.specs.Words.{IsIn}
-use Rattle.hx_types.specs.Configs.{is_lost}
-use Rattle.hx_types.specs.Effects.{key_of}
-use Rattle.hx_types.specs.Fitting.{IsScript, call_of, is_doubt, is_refused, is_rows}
-use Rattle.hx_model.specs.Causes.{AnsweredCall, HasCause, is_fulfilled, server_named}
-use Rattle.hx_model.specs.Histories.{begin_of}
-use Rattle.hx_model.specs.Runs.{IsRun}
-use Rattle.hx_model.specs.SessionSteps.{is_administrative}
 use Rattle.hx_law_lemmas.proofs.Lemmas.{in_right, not-lost, EndedAt}
 use Rattle.hx_law_causes.specs.Causes.{LosesNothing}
 use Rattle.hx_law_causes.proofs.Lemmas.{runs_answer_all, runs_have_causes}

@@ -1,5 +1,5 @@
 -- The law on soaks.
-use Rattle.std.proofs.Common.{ap, ◌∙◌}
+use Rattle.hx_law_lemmas.proofs.Lemmas.Vocabulary.{ap, ◌∙◌}
 use Rattle.hx_soak.specs.Soaking.{soak}
 use Rattle.hx_soak.specs.Tallying.{Tally}
 use Rattle.hx_soak.specs.Summing.{tally_text}

@@ -1,20 +1,11 @@
 -- A finished soak: each turn's call has ended, each key's history is its session's calls in order, and so what the map of the calls taken one after the other has.
-use Rattle.std.proofs.Common.{◌≡◌, ◌≢◌, ℕ, zero, suc, ◌+◌, ◌<◌, ◌≤◌, inl, inr, true, false, List, [], ◌∷◌, IsSome, Option, Some, None, ◌/◌, ◌%◌, ◌^◌, ◌==◌, cond, nat_lt, refl, sym, ap, ◌∙◌, subst, add-one, arith}
-use Rattle.std.specs.List.{fold}
-use Rattle.std.proofs.lemmas.Bool.{cases_Bool, cond_both, cond-false, false≢true, lt-ltb}
-use Rattle.std.proofs.lemmas.List.{map-append}
-use Rattle.std.proofs.lemmas.List.Sums.{fold_push}
-use Rattle.hx_model.specs.Types.{Caller, Entry, Item, Op, Script, SessionId, Value}
-use Rattle.hx_types.specs.Effects.{effect_of, key_of}
-use Rattle.hx_types.specs.Fitting.{IsScript, call_of, calls_of, is_doubt, is_refused, is_rows, numbered}
-use Rattle.hx_types.specs.Words.{IsBefore, IsIn, below, same_text, when_some}
-use Rattle.hx_model.specs.Histories.{CallEnd, begin_of, end_of, history_of, note_of_end}
-use Rattle.hx_model.specs.Legal.{IsEffect, object_now}
-use Rattle.hx_model.specs.Linear.{IsLinear}
-use Rattle.hx_model.specs.SessionSteps.{is_administrative}
-use Rattle.hx_model.proofs.Lemmas.{eq_of_same_text}
+use Rattle.hx_law_lemmas.proofs.Lemmas.Vocabulary.{[], add-one, ap, arith, begin_of, below, call_of, CallEnd, Caller, calls_of, cases_Bool, cond, cond-false}
+use Rattle.hx_law_lemmas.proofs.Lemmas.Vocabulary.{cond_both, effect_of, end_of, Entry, eq_of_same_text, Facts, false, false≢true, fold, fold_push, history_of}
+use Rattle.hx_law_lemmas.proofs.Lemmas.Vocabulary.{inl, inr, is_administrative, is_doubt, is_refused, is_rows, IsBefore, IsEffect, IsIn, IsLinear, IsScript}
+use Rattle.hx_law_lemmas.proofs.Lemmas.Vocabulary.{IsSome, Item, key_of, List, lt-ltb, map-append, nat_lt, None, note_of_end, numbered, object_now, Op, Option}
+use Rattle.hx_law_lemmas.proofs.Lemmas.Vocabulary.{refl, same_text, Script, SessionId, Some, subst, suc, sym, true, Value, when_some, zero, ℕ, ◌%◌, ◌+◌, ◌/◌}
+use Rattle.hx_law_lemmas.proofs.Lemmas.Vocabulary.{◌<◌, ◌==◌, ◌^◌, ◌∙◌, ◌∷◌, ◌≡◌, ◌≢◌, ◌≤◌}
 use Rattle.hx_law_lemmas.proofs.Lemmas.{in-slice_get, BeganAt, EndedAt, began_at, begin_is, ended_at}
-use Rattle.hx_law_lemmas.specs.Facts.{Facts}
 use Rattle.hx_law_searches.proofs.Lemmas.{facts, runs_are_linear}
 use Rattle.hx_soak.specs.Calling.{call_of_kind}
 use Rattle.hx_soak.specs.Drawing.{draw_of}

@@ -1,9 +1,7 @@
 -- Maps as lists of objects in byte order of their keys: what a key has, what stays where one object is put, and that two with the same objects are one.
-use Rattle.std.proofs.Common.{◌≡◌, ℕ, ◌⊎◌, inl, inr, true, false, cond, List, [], ◌∷◌, ◌++◌, Option, Some, None, refl, sym, ap, ◌∙◌, subst}
-use Rattle.std.proofs.lemmas.Bool.{cases_Bool, cond_both, cond-true, cond-false, false_from_ne_true, false≢true}
-use Rattle.hx_model.specs.Types.{Value}
-use Rattle.hx_types.specs.Words.{IsIn, same_text, text_below}
-use Rattle.hx_model.proofs.Lemmas.{eq_of_same_text, same_text_self}
+use Rattle.hx_law_lemmas.proofs.Lemmas.Vocabulary.{[], ap, cases_Bool, cond, cond-false, cond-true, cond_both, eq_of_same_text, false, false_from_ne_true}
+use Rattle.hx_law_lemmas.proofs.Lemmas.Vocabulary.{false≢true, inl, inr, IsIn, List, None, Option, refl, same_text, same_text_self, Some, subst, sym}
+use Rattle.hx_law_lemmas.proofs.Lemmas.Vocabulary.{text_below, true, Value, ℕ, ◌++◌, ◌∙◌, ◌∷◌, ◌≡◌, ◌⊎◌}
 use Rattle.hx_law_lemmas.proofs.Lemmas.{Ascend, below-differs, below-other, below-trans}
 use Rattle.hx_soak.specs.Tallying.{KeyObject}
 use Rattle.hx_law_soak.specs.Sequence.{keyed, object_at, with_object}

@@ -1,26 +1,17 @@
 -- Where no server is halted and no call asks for another configuration, none is issued: the coordinator stays as it started, and no server halts.
-use Rattle.std.proofs.Common.{◌≡◌, ◌≢◌, ℕ, inl, inr, true, false, not, ◌&&◌, List, [], ◌∷◌, length, map, Option, Some, None, refl, sym, ap, ◌∙◌, subst, ltb, arith}
-use Rattle.std.specs.Prelude.{⊤, if◌then◌else◌}
-use Rattle.std.specs.List.{flat_map}
-use Rattle.std.proofs.lemmas.Bool.{and_parts, cond_both, false≢true}
-use Rattle.hx_model.specs.Types.{Actor, Add, Caller, Config, Coordinator, Deliver, Entry, Epoch, Halt, Input, Member, Message, Op, Post, RegionId, Script}
-use Rattle.hx_model.specs.Types.{Server, ServerId, Session, SessionId, Space, Stop, Tick, Update}
+use Rattle.hx_law_lemmas.proofs.Lemmas.Vocabulary.{[], ack_step, acked, acked_of, Actor, Add, and_parts, any_joining, any_ready, ap, arith, asked, at_slot}
+use Rattle.hx_law_lemmas.proofs.Lemmas.Vocabulary.{call_at, call_of, called, Caller, calls_of, cond_both, Config, config_of, context_of, Coordinator}
+use Rattle.hx_law_lemmas.proofs.Lemmas.Vocabulary.{coordinator_after, coordinator_at_start, coordinator_message, coordinator_of, coordinator_step}
+use Rattle.hx_law_lemmas.proofs.Lemmas.Vocabulary.{CoordinatorState, CoordinatorStep, Deliver, Entry, Epoch, false, false≢true, first_config, flat_map, Halt}
+use Rattle.hx_law_lemmas.proofs.Lemmas.Vocabulary.{hears_ack, hears_snap, hears_update, if_installed, if◌then◌else◌, inl, Input, input_step, inr}
+use Rattle.hx_law_lemmas.proofs.Lemmas.Vocabulary.{installed_slots, is_actor, is_administrative, is_lost, IsIn, IsRun, IsScript, join_posts, key_region}
+use Rattle.hx_law_lemmas.proofs.Lemmas.Vocabulary.{last_ready_pair, leads, length, List, lists_joining, ltb, made_of, map, MayTake, Member, members_of, Message}
+use Rattle.hx_law_lemmas.proofs.Lemmas.Vocabulary.{message_step, None, not, numbered, Op, Option, Output, pending_with, place_number, Post, post, posts_of}
+use Rattle.hx_law_lemmas.proofs.Lemmas.Vocabulary.{ready_post, refl, RegionId, Replica, replica_for, resting, same_server, saying, Script, Server, server_after}
+use Rattle.hx_law_lemmas.proofs.Lemmas.Vocabulary.{server_of, server_step, ServerId, ServerState, ServerStep, Session, session_of, SessionId, SessionState}
+use Rattle.hx_law_lemmas.proofs.Lemmas.Vocabulary.{snapped, Some, Space, state_in, Stop, subst, sym, telling, Tick, to_server, true, unmoved, Update}
+use Rattle.hx_law_lemmas.proofs.Lemmas.Vocabulary.{update_step, updated, when_some, with_slots, ℕ, ⊤, ◌&&◌, ◌∙◌, ◌∷◌, ◌≡◌, ◌≢◌}
 use Rattle.hx_types.specs.declared.messages.Message.TheVariants as a_message
-use Rattle.hx_types.specs.Words.{IsIn, post, same_server, when_some}
-use Rattle.hx_types.specs.Configs.{any_joining, any_ready, first_config, is_lost, leads, lists_joining, members_of}
-use Rattle.hx_types.specs.Fitting.{IsScript, call_of, calls_of, numbered}
-use Rattle.hx_model.specs.CoordinatorSteps.{CoordinatorState, CoordinatorStep, coordinator_at_start, coordinator_message, coordinator_step}
-use Rattle.hx_model.specs.CoordinatorSteps.{join_posts, last_ready_pair, resting, telling, to_server}
-use Rattle.hx_model.specs.ServerSteps.{Replica, ServerState, ServerStep, ack_step, acked, acked_of, asked, at_slot, call_at, called, context_of, if_installed}
-use Rattle.hx_model.specs.ServerSteps.{input_step, installed_slots, message_step, pending_with, ready_post, replica_for, saying, server_step, snapped, state_in}
-use Rattle.hx_model.specs.ServerSteps.{unmoved, update_step, updated, with_slots}
-use Rattle.hx_model.specs.SessionSteps.{SessionState, is_administrative}
-use Rattle.hx_model.specs.Causes.{config_of}
-use Rattle.hx_model.specs.Hearing.{hears_ack, hears_snap, hears_update}
-use Rattle.hx_model.specs.Neighbours.{place_number}
-use Rattle.hx_model.specs.Regions.{key_region}
-use Rattle.hx_model.specs.Runs.{IsRun, Output, MayTake, coordinator_after, coordinator_of, is_actor, made_of, server_after, server_of, session_of}
-use Rattle.hx_law_lemmas.specs.Words.{posts_of}
 use Rattle.hx_law_lemmas.proofs.Lemmas.{all-ready, any-in, in-append, in-flat_map, in-map, in-provided, arrived}
 use Rattle.hx_law_epochs.proofs.Lemmas.{epochs-run, server-does-well, Tells}
 use Rattle.hx_law_chains.proofs.Lemmas.{named}

@@ -1,17 +1,11 @@
 -- What all callers of a generated script add up to is what all turns do.
-use Rattle.std.proofs.Common.{◌≡◌, ℕ, zero, suc, ◌+◌, ◌/◌, ◌%◌, ◌<◌, Bool, true, false, cond, ◌==◌, List, [], ◌∷◌, ◌++◌, map, length, refl, ap, sym, ◌∙◌, add-one, arith}
-use Rattle.std.specs.List.{count_by, flat_map, sum_by}
-use Rattle.std.proofs.lemmas.Bool.{eqb-true}
-use Rattle.std.proofs.lemmas.List.{append-nil, length-append, length-map}
-use Rattle.std.proofs.lemmas.List.Sums.{sum_by-append, sum_by-cons, sum_by_push}
-use Rattle.hx_model.specs.Types.{Caller, Op}
-use Rattle.hx_types.specs.Fitting.{calls_of}
-use Rattle.hx_types.specs.Words.{below}
+use Rattle.hx_law_lemmas.proofs.Lemmas.Vocabulary.{[], add-one, ap, append-nil, arith, below, Bool, Caller, callers_of, calls_of, cond, count_by, eqb-true}
+use Rattle.hx_law_lemmas.proofs.Lemmas.Vocabulary.{false, flat_map, length, length-append, length-map, List, map, Op, refl, suc, sum_by, sum_by-append}
+use Rattle.hx_law_lemmas.proofs.Lemmas.Vocabulary.{sum_by-cons, sum_by_push, sym, true, zero, ℕ, ◌%◌, ◌++◌, ◌+◌, ◌/◌, ◌<◌, ◌==◌, ◌∙◌, ◌∷◌, ◌≡◌}
 use Rattle.hx_soak.specs.Calling.{call_drawn}
 use Rattle.hx_soak.specs.Drawing.{draw_of}
 use Rattle.hx_soak.specs.Soaking.{script_drawn, session_at, turns_of}
 use Rattle.hx_soak.proofs.Lemmas.{one_more}
-use Rattle.hx_model.specs.Histories.{callers_of}
 use Rattle.hx_law_soak.proofs.Turns.{caller_at, calls-of, dealt_out}
 
 -- a count over lists joined is the sum of counts

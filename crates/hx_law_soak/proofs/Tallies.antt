@@ -1,19 +1,11 @@
 -- What the records and histories of a finished soak add up to is what the calls taken one after the other do.
-use Rattle.std.proofs.Common.{◌≡◌, ℕ, zero, suc, ◌+◌, ◌<◌, ◌≤◌, inl, inr, Bool, true, false, cond, ◌&&◌, List, [], ◌∷◌, ◌++◌, reverse, Option, Some, None, refl, sym, ap, ◌∙◌, subst, add-one, arith}
-use Rattle.std.specs.Prelude.{is_some}
-use Rattle.std.specs.List.{count_by, list_all, sum_by}
-use Rattle.std.specs.Option.{option_map}
-use Rattle.std.proofs.lemmas.Bool.{and_parts, cond_both, false≢true}
-use Rattle.std.proofs.lemmas.List.{reverse-reverse}
-use Rattle.std.proofs.lemmas.List.Sums.{sum_by_push}
-use Rattle.hx_model.specs.Types.{Answer, Atomic, Caller, Cput, Del, Effect, Entry, Get, Item, Op, Record, Script, Space, Value}
+use Rattle.hx_law_lemmas.proofs.Lemmas.Vocabulary.{[], add-one, and_parts, Answer, ap, arith, Atomic, below, Bool, CallEnd, Caller, callers_of, cond, cond_both}
+use Rattle.hx_law_lemmas.proofs.Lemmas.Vocabulary.{count_by, Cput, Del, Effect, effect_of, Entry, false, false≢true, Get, history_of, inl, inr, is_cmp_fail}
+use Rattle.hx_law_lemmas.proofs.Lemmas.Vocabulary.{is_done, is_found, is_not_found, is_rows, is_some, IsIn, Item, key_of, keys_ascend, List, list_all, list_of}
+use Rattle.hx_law_lemmas.proofs.Lemmas.Vocabulary.{None, object_now, Op, Option, option_map, put_where, Record, record_at, record_of, records_of, refl, reverse}
+use Rattle.hx_law_lemmas.proofs.Lemmas.Vocabulary.{reverse-reverse, Script, Some, Space, subst, suc, sum_by, sum_by_push, sym, tests_hold, text_below, true}
+use Rattle.hx_law_lemmas.proofs.Lemmas.Vocabulary.{Value, when_some, zero, ℕ, ◌&&◌, ◌++◌, ◌+◌, ◌<◌, ◌∙◌, ◌∷◌, ◌≡◌, ◌≤◌}
 use Rattle.hx_types.specs.declared.calls.Answer.TheVariants as an_answer
-use Rattle.hx_types.specs.Effects.{effect_of, key_of, put_where, tests_hold}
-use Rattle.hx_types.specs.Fitting.{is_cmp_fail, is_done, is_found, is_not_found, is_rows}
-use Rattle.hx_types.specs.Posts.{keys_ascend}
-use Rattle.hx_types.specs.Words.{IsIn, below, list_of, text_below, when_some}
-use Rattle.hx_model.specs.Histories.{CallEnd, callers_of, history_of, record_at, record_of, records_of}
-use Rattle.hx_model.specs.Legal.{object_now}
 use Rattle.hx_history.specs.declared.key_histories.KeyHistory.{KeyHistory}
 use Rattle.hx_history.specs.Listed.{AreHistories, IsHistory, keys_of_histories}
 use Rattle.hx_law_lemmas.proofs.Lemmas.{atomic-both, all-in, Ascend, below-differs}

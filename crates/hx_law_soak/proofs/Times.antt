@@ -1,11 +1,8 @@
 -- A session's calls begin one after another, each after the one before ended; and what ended has begun.
-use Rattle.std.proofs.Common.{◌≡◌, ℕ, ◌+◌, ◌<◌, inl, inr, List, [], ◌∷◌, length, refl, sym, ap, ◌∙◌, subst, arith}
-use Rattle.hx_model.specs.Types.{Answer, Caller, Entry, Script, Version}
+use Rattle.hx_law_lemmas.proofs.Lemmas.Vocabulary.{[], Answer, ap, arith, Caller, Entry, Facts, inl, inr, IsIn, IsRun, length, List, refl, Script, session_of}
+use Rattle.hx_law_lemmas.proofs.Lemmas.Vocabulary.{subst, sym, Version, ℕ, ◌+◌, ◌<◌, ◌∙◌, ◌∷◌, ◌≡◌}
 use Rattle.hx_types.specs.declared.traces.Note.TheVariants as a_note
-use Rattle.hx_types.specs.Words.{IsIn}
-use Rattle.hx_model.specs.Runs.{IsRun, session_of}
 use Rattle.hx_law_lemmas.proofs.Lemmas.{started, begins_now, ends_now, may_start, BeganAt, EndedAt}
-use Rattle.hx_law_lemmas.specs.Facts.{Facts}
 use Rattle.hx_law_searches.proofs.Lemmas.{Calls, calls_kept, turn_is}
 
 module _ (script : Script) (facts : Facts script) where

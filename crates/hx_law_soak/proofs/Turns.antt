@@ -1,11 +1,8 @@
 -- Which call of which session a turn is, and which turn each call of a generated script.
-use Rattle.std.proofs.Common.{◌≡◌, ℕ, zero, suc, ◌+◌, ◌*◌, ◌/◌, ◌%◌, ◌<◌, ◌≤◌, inl, inr, ◌==◌, List, [], ◌∷◌, ◌++◌, length, Option, Some, None, slice_get, refl, ap, sym, ◌∙◌, subst, add-one, arith}
-use Rattle.std.proofs.lemmas.Bool.{cases_lt, cond_both, eq-eqb, eqb-true, false≢true}
-use Rattle.std.proofs.lemmas.List.{append-nil, length-append}
-use Rattle.std.proofs.lemmas.Option.{slice_get-map}
-use Rattle.std.specs.Option.{option_map}
-use Rattle.hx_model.specs.Types.{Caller, Op}
-use Rattle.hx_types.specs.Fitting.{call_of, calls_of, numbered}
+use Rattle.hx_law_lemmas.proofs.Lemmas.Vocabulary.{[], add-one, ap, append-nil, arith, call_of, Caller, calls_of, cases_lt, cond_both, eq-eqb, eqb-true}
+use Rattle.hx_law_lemmas.proofs.Lemmas.Vocabulary.{false≢true, inl, inr, length, length-append, List, None, numbered, Op, Option, option_map, refl}
+use Rattle.hx_law_lemmas.proofs.Lemmas.Vocabulary.{slice_get-map, Some, subst, suc, sym, zero, ℕ, ◌%◌, ◌*◌, ◌++◌, ◌+◌, ◌/◌, ◌<◌, ◌==◌, ◌∙◌, ◌∷◌, ◌≡◌, ◌≤◌}
+use Rattle.std.proofs.Common.{slice_get}
 use Rattle.hx_soak.specs.Calling.{call_drawn}
 use Rattle.hx_soak.specs.Drawing.{draw_of}
 use Rattle.hx_soak.specs.Soaking.{calls_drawn, script_drawn, session_at, turns_of}

@@ -1,31 +1,17 @@
 -- Assignments and tests are read again.
-use Rattle.std.proofs.Common.{◌≡◌, ℕ, ◌-◌, ◌<◌, zero, suc, Bool, true, false, not, List, [], ◌∷◌, ◌++◌, map, length, Option, Some, None, Ok, refl, sym, ap, ◌∙◌, subst, arith, append_assoc}
-use Rattle.std.specs.Prelude.{codes, ◌||◌, slice_get, IsSomeAnd}
-use Rattle.std.specs.List.{All}
-use Rattle.std.specs.Str.{bytes_eq}
-use Rattle.std.proofs.lemmas.Bool.{le-leb}
-use Rattle.std.proofs.lemmas.List.{append-nil}
-use Rattle.std.proofs.lemmas.List.Concat.{flat_map-cons}
-use Rattle.std.proofs.lemmas.List.Elements.{All-head, All-tail}
-use Rattle.hx_lex.specs.Letters.{is_digit, begins_with, IsWord}
-use Rattle.hx_types.specs.declared.spaces.Attribute.{Attribute}
-use Rattle.hx_types.specs.declared.spaces.Kind.{Kind}
+use Rattle.hx_law_texts.proofs.Vocabulary.{[], All, All-head, All-tail, AllDiffer, ap, append-nil, append_assoc, arith, Assign, assigns_text, AssignsFit}
+use Rattle.hx_law_texts.proofs.Vocabulary.{Attribute, begins_with, Bool, bytes_eq, codes, false, flat_map-cons, has_assign, is_at, is_digit, is_of, is_short}
+use Rattle.hx_law_texts.proofs.Vocabulary.{IsOfKind, IsSayable, IsSomeAnd, IsSpace, IsWord, Kind, kind_at, le-leb, length, List, map, name_of, None, not}
+use Rattle.hx_law_texts.proofs.Vocabulary.{Number, Ok, Option, refl, repeat, Sign, slice_get, Some, Space, subst, suc, sym, Text, Tok, true, Until, Value}
+use Rattle.hx_law_texts.proofs.Vocabulary.{ValuesAreSayable, Word, zero, ℕ, ◌++◌, ◌-◌, ◌<◌, ◌||◌, ◌∙◌, ◌∷◌, ◌≡◌}
 use Rattle.hx_types.specs.declared.spaces.Kind.TheVariants as kinds
-use Rattle.hx_types.specs.declared.spaces.Space.{Space}
-use Rattle.hx_types.specs.declared.values.Assign.{Assign}
-use Rattle.hx_types.specs.declared.values.Value.{Value}
 use Rattle.hx_types.specs.declared.values.Value.TheVariants as values
-use Rattle.hx_types.specs.Spaces.{IsOfKind, AssignFits, AllDiffer, AssignsFit, IsSpace}
-use Rattle.hx_types.specs.Subspaces.{kind_at}
-use Rattle.hx_print.specs.Printing.{value_text, name_of, named_text, assign_text, assigns_text}
-use Rattle.hx_script.specs.declared.line.Until.{Until}
+use Rattle.hx_types.specs.Spaces.{AssignFits}
+use Rattle.hx_print.specs.Printing.{value_text, named_text, assign_text}
 use Rattle.hx_script.specs.declared.line.Until.TheVariants as until
-use Rattle.hx_script.specs.Readers.{is_at, repeat}
-use Rattle.hx_script.specs.Toks.{Tok, Word, Number, Text, Sign}
-use Rattle.hx_script.specs.Values.{is_of, is_short, value, has_assign, free_attribute, assign, one_more, some_assigns}
+use Rattle.hx_script.specs.Values.{value, free_attribute, assign, one_more, some_assigns}
 use Rattle.hx_script.specs.Words.{named}
 use Rattle.hx_script.proofs.Lemmas.{assigns_go_on, assigns_end}
-use Rattle.hx_law_texts.specs.Sayable.{IsSayable, ValuesAreSayable}
 use Rattle.hx_law_texts.proofs.Names.{IsNamed, not_zero, none_before, IsAt, IsDeclaredAs, declared}
 use Rattle.hx_law_texts.proofs.Numbers.{signed_says}
 use Rattle.hx_law_texts.proofs.Quotes.{text_says}

@@ -1,25 +1,15 @@
 -- The lines of attributes are read again.
-use Rattle.std.proofs.Common.{◌≡◌, ℕ, ℤ, ◌+◌, ◌<◌, ◌≤◌, Bool, true, false, List, [], ◌∷◌, ◌++◌, map, length, Ok, refl, sym, ap, ◌∙◌, subst, arith, append_assoc, T}
-use Rattle.std.specs.Prelude.{codes, ◌≤ℤ◌, int_le, FitsSigned}
-use Rattle.std.specs.List.{All, list_any, flat_map}
-use Rattle.std.specs.Fmt.{signed_decimal}
-use Rattle.std.specs.Int.{w64}
-use Rattle.std.specs.Str.{bytes_eq}
-use Rattle.std.proofs.lemmas.Bool.{lt-ltb}
-use Rattle.std.proofs.lemmas.List.{append-nil, length-append}
-use Rattle.std.proofs.lemmas.List.Concat.{flat_map-cons}
-use Rattle.hx_types.specs.declared.spaces.Attribute.{Attribute}
-use Rattle.hx_types.specs.declared.spaces.Kind.{Kind}
+use Rattle.hx_law_texts.proofs.Vocabulary.{[], All, ap, append-nil, append_assoc, arith, Attribute, Bool, BoundsAreSayable, bytes_eq, codes, false, FitsSigned}
+use Rattle.hx_law_texts.proofs.Vocabulary.{flat_map, flat_map-cons, int_le, is_declared, IsKind, IsName, IsSpace, Kind, kind_line, length, length-append}
+use Rattle.hx_law_texts.proofs.Vocabulary.{line_of_toks, List, list_any, lt-ltb, map, NamesDiffer, Number, Ok, refl, Script, signed_decimal, Space, subst, sym}
+use Rattle.hx_law_texts.proofs.Vocabulary.{true, w64, Word, ℕ, ℤ, ◌++◌, ◌+◌, ◌<◌, ◌∙◌, ◌∷◌, ◌≡◌, ◌≤◌}
+use Rattle.std.proofs.Common.{T}
+use Rattle.std.specs.Prelude.{◌≤ℤ◌}
 use Rattle.hx_types.specs.declared.spaces.Kind.TheVariants as kinds
-use Rattle.hx_types.specs.declared.spaces.Space.{Space}
-use Rattle.hx_types.specs.declared.traces.Script.{Script}
-use Rattle.hx_types.specs.Spaces.{IsName, IsKind, NamesDiffer, IsSpace}
-use Rattle.hx_print.specs.Printing.{string_line, int_line, bounds_text, kind_line, attribute_line as attribute_text}
-use Rattle.hx_script.specs.Grammar.{line_of_toks, command, attribute_line, string_attribute, int_attribute}
+use Rattle.hx_print.specs.Printing.{string_line, int_line, bounds_text, attribute_line as attribute_text}
+use Rattle.hx_script.specs.Grammar.{command, attribute_line, string_attribute, int_attribute}
 use Rattle.hx_script.specs.Readers.{number_from}
-use Rattle.hx_script.specs.Toks.{Word, Number}
-use Rattle.hx_script.specs.Words.{named, new_name, is_declared}
-use Rattle.hx_law_texts.specs.Sayable.{BoundsAreSayable}
+use Rattle.hx_script.specs.Words.{named, new_name}
 use Rattle.hx_law_texts.proofs.Drafts.{attributing}
 use Rattle.hx_law_texts.proofs.Heads.{one_part, word_word}
 use Rattle.hx_law_texts.proofs.Names.{IsNamed, a_name, all_here, neither, key_apart, none_named}

@@ -1,23 +1,11 @@
 -- What stands behind the name of a space, in a call and in a step, is read again.
-use Rattle.std.proofs.Common.{◌≡◌, ℕ, pos, ◌+◌, ◌<◌, ◌≤◌, List, [], ◌∷◌, ◌++◌, length, Ok, refl, sym, subst, arith, append_assoc}
-use Rattle.std.specs.Prelude.{codes}
-use Rattle.std.specs.Fmt.{decimal}
-use Rattle.std.proofs.lemmas.List.{append-nil}
-use Rattle.hx_lex.specs.Letters.{is_word_part}
-use Rattle.hx_lex.specs.Spelling.{IsText}
-use Rattle.hx_types.specs.declared.calls.Op.{Op}
-use Rattle.hx_types.specs.declared.calls.Op.TheVariants.{Put, Get, Del, Cput, Search, Stop, Add, Atomic}
-use Rattle.hx_types.specs.declared.spaces.Space.{Space}
-use Rattle.hx_types.specs.declared.values.Assign.{Assign}
-use Rattle.hx_types.specs.Spaces.{AssignsFit, Fits, IsSpace}
-use Rattle.hx_types.specs.Subspaces.{region_count}
-use Rattle.hx_print.specs.Printing.{assigns_text, edits_text, quoted, terms_text}
-use Rattle.hx_print.specs.BundlePrinting.{op_rest, op_word}
-use Rattle.hx_script.specs.declared.keyword.CallWord.{CallWord}
+use Rattle.hx_law_texts.proofs.Vocabulary.{[], Add, append_assoc, arith, Assign, assigns_text, AssignsFit, Atomic, call, CallIsSayable, CallWord}
+use Rattle.hx_law_texts.proofs.Vocabulary.{codes, Cput, decimal, Del, edits_text, Fits, Get, is_word_part, IsSpace, IsText, List, Number, Ok, Op}
+use Rattle.hx_law_texts.proofs.Vocabulary.{pos, Put, refl, region_count, Search, Space, Stop, subst, sym, Text, Tok, ValuesAreSayable}
+use Rattle.hx_law_texts.proofs.Vocabulary.{Word, ℕ, ◌++◌, ◌<◌, ◌∷◌, ◌≡◌, ◌≤◌}
+use Rattle.hx_print.specs.Printing.{quoted}
+use Rattle.hx_print.specs.BundlePrinting.{op_rest}
 use Rattle.hx_script.specs.declared.keyword.CallWord.TheVariants as calls
-use Rattle.hx_script.specs.Calls.{call}
-use Rattle.hx_script.specs.Toks.{Tok, Word, Number, Text}
-use Rattle.hx_law_texts.specs.Sayable.{CallIsSayable, ValuesAreSayable}
 use Rattle.hx_law_texts.proofs.Assignments.{all_left, assigns_say, assigns_toks, goes_no_further}
 use Rattle.hx_law_texts.proofs.Calls.{add_again, atomic_again, cput_again, del_again, few_regions, few_servers, get_again, put_again, search_again, stop_again}
 use Rattle.hx_law_texts.proofs.Edits.{edits_say, edits_toks}

@@ -1,15 +1,9 @@
 -- No bundle is read back but those within the limits that can be said.
-use Rattle.std.proofs.Common.{◌≡◌, ℕ, suc, ◌+◌, ◌≤◌, List, [], ◌∷◌, length, Ok, ap, refl, subst}
-use Rattle.std.specs.List.{All}
-use Rattle.std.proofs.lemmas.List.Elements.{All-nil, All-cons, All-head, All-tail}
-use Rattle.hx_bundle.specs.declared.bundles.Bundle.{Bundle}
-use Rattle.hx_bundle.specs.declared.bundles.BundleStep.{BundleStep}
-use Rattle.hx_bundle.specs.Bundles.{IsBundle, IsStepIn}
+use Rattle.hx_law_texts.proofs.Vocabulary.{[], All, All-cons, All-head, All-nil, All-tail, ap, Bundle, bundle_of, bundle_sound, bundle_steps_from, BundleStep}
+use Rattle.hx_law_texts.proofs.Vocabulary.{first_bundle_step_line, IsBundle, IsSayableBundle, IsStepIn, length, List, Ok, on_printed_bundle_lines}
+use Rattle.hx_law_texts.proofs.Vocabulary.{PostIsSayable, refl, subst, suc, ℕ, ◌+◌, ◌∷◌, ◌≡◌, ◌≤◌}
 use Rattle.hx_types.specs.declared.limits.TheConstants.{MOST_STEPS}
 use Rattle.hx_print.specs.BundlePrinting.{bundle_text}
-use Rattle.hx_script.specs.BundleTexts.{bundle_of}
-use Rattle.hx_script.proofs.Lemmas.{bundle_sound}
-use Rattle.hx_law_texts.specs.SayableBundles.{IsSayableBundle, PostIsSayable, bundle_steps_from, first_bundle_step_line, on_printed_bundle_lines}
 use Rattle.hx_law_texts.proofs.BundleTold.{bundle_told}
 
 as_many : (n : ℕ) (steps : List BundleStep) → length (bundle_steps_from n steps) ≡ length steps

@@ -1,22 +1,12 @@
 -- A text of several spaces, read a line at a time, and its first three lines.
-use Rattle.std.proofs.Common.{◌≡◌, ℕ, pos, ◌+◌, ◌-◌, ◌<◌, ◌≤◌, min, List, [], ◌∷◌, ◌++◌, length, Option, Some, Ok, refl, sym, ap, subst, arith, lit<}
-use Rattle.std.specs.Prelude.{codes}
-use Rattle.std.specs.Fmt.{decimal}
-use Rattle.std.proofs.lemmas.Bool.{le-leb}
-use Rattle.std.proofs.lemmas.Fmt.{decimal_digit}
-use Rattle.hx_bundle.specs.declared.bundles.Bundle.{Bundle}
-use Rattle.hx_types.specs.declared.spaces.Space.{Space}
-use Rattle.hx_types.specs.Spaces.{IsSpace}
+use Rattle.hx_law_texts.proofs.Vocabulary.{[], ap, arith, Bundle, bundle_line_of, bundle_line_of_toks, BundleDraft, BundleSection, codes, decimal}
+use Rattle.hx_law_texts.proofs.Vocabulary.{decimal_digit, Draft, empty_bundle_draft, le-leb, lines_of, List, lit<, min, Number, Ok}
+use Rattle.hx_law_texts.proofs.Vocabulary.{pos, refl, subst, sym, Tok, Word, ℕ, ◌++◌, ◌+◌, ◌-◌, ◌<◌, ◌∷◌, ◌≡◌, ◌≤◌}
 use Rattle.hx_print.specs.Printing.{servers_line as servers_text, tolerate_line as tolerate_text}
-use Rattle.hx_script.specs.declared.bundle_draft.BundleDraft.{BundleDraft}
-use Rattle.hx_script.specs.declared.bundle_draft.BundleSection.{BundleSection}
 use Rattle.hx_script.specs.declared.bundle_draft.BundleSection.TheVariants as stages
-use Rattle.hx_script.specs.declared.draft.Draft.{Draft}
-use Rattle.hx_script.specs.BundleGrammar.{all_servers_line, all_tolerate_line, bundle_command, bundle_line_of, bundle_line_of_toks, second_hx_line}
-use Rattle.hx_script.specs.BundleTexts.{empty_bundle_draft, read_bundle_lines}
+use Rattle.hx_script.specs.BundleGrammar.{all_servers_line, all_tolerate_line, bundle_command, second_hx_line}
+use Rattle.hx_script.specs.BundleTexts.{read_bundle_lines}
 use Rattle.hx_script.specs.Readers.{number_in}
-use Rattle.hx_script.specs.Texts.{lines_of}
-use Rattle.hx_script.specs.Toks.{Tok, Word, Number}
 use Rattle.hx_law_texts.proofs.Heads.{one_part, word_number}
 use Rattle.hx_law_texts.proofs.Reading.{lines_cons}
 use Rattle.hx_law_texts.proofs.Says.{IsClean, Says, line_toks}

@@ -1,33 +1,21 @@
 -- The sessions of a bundle are read again, and its steps behind them.
-use Rattle.std.proofs.Common.{◌≡◌, ℕ, zero, suc, pos, ◌+◌, ◌-◌, ◌<◌, ◌≤◌, Bool, true, false, List, [], ◌∷◌, ◌++◌, length, map, take, Option, Some, None, Ok, refl, sym, ap, ◌∙◌, subst, arith, append_assoc, inl, inr, add-one}
-use Rattle.std.specs.Prelude.{codes, ◌⊎◌, IfSome, slice_get, sum_by}
-use Rattle.std.specs.List.{All, AllZip, flat_map}
-use Rattle.std.specs.Fmt.{decimal}
-use Rattle.std.proofs.lemmas.Bool.{le-leb, lt-ltb}
-use Rattle.std.proofs.lemmas.List.{append-nil, length-append, length-map}
-use Rattle.std.proofs.lemmas.List.Elements.{All-nil, All-cons, All-head, All-tail, All-map, All-weaker}
-use Rattle.std.proofs.lemmas.List.Sums.{sum_by-append}
-use Rattle.std.proofs.lemmas.Option.{same_Some}
-use Rattle.hx_bundle.specs.declared.bundles.Bundle.{Bundle}
-use Rattle.hx_bundle.specs.Bundles.{AreDealt, times}
-use Rattle.hx_types.specs.declared.calls.Op.{Op}
-use Rattle.hx_types.specs.declared.traces.Script.{Script}
+use Rattle.hx_law_texts.proofs.Vocabulary.{[], All, All-cons, All-head, All-map, All-nil, All-tail, All-weaker, all_at, AllZip, ap, append-nil, append_assoc}
+use Rattle.hx_law_texts.proofs.Vocabulary.{AreDealt, arith, Bundle, bundle_line_of_toks, BundleDraft, BundleSection, CallIsSayable, codes, decimal, Draft}
+use Rattle.hx_law_texts.proofs.Vocabulary.{Fits, have_keys, IfSome, inl, inr, IsSpace, le-leb, length, length-append, length-map, List, lt-ltb}
+use Rattle.hx_law_texts.proofs.Vocabulary.{map, NamesDiffer, None, Number, Ok, Op, Option, placed_all, pos, refl, same_Some, Script, script_so_far, slice_get}
+use Rattle.hx_law_texts.proofs.Vocabulary.{Some, subst, suc, sum_by, sum_by-cons, sym, take, times, true, with_session, Word, zero, ℕ, ◌++◌, ◌+◌, ◌<◌}
+use Rattle.hx_law_texts.proofs.Vocabulary.{◌∙◌, ◌∷◌, ◌≡◌, ◌≤◌, ◌⊎◌}
+use Rattle.std.proofs.Common.{add-one}
 use Rattle.hx_types.specs.Fitting.{calls_of}
-use Rattle.hx_types.specs.Spaces.{Fits, IsSpace, NamesDiffer}
 use Rattle.hx_types.specs.Words.{when_some}
 use Rattle.hx_print.specs.BundlePrinting.{bundle_session_text, bundle_sessions_text, hands_of, turns_text}
-use Rattle.hx_script.specs.declared.bundle_draft.BundleDraft.{BundleDraft}
-use Rattle.hx_script.specs.declared.bundle_draft.BundleSection.{BundleSection}
 use Rattle.hx_script.specs.declared.bundle_draft.BundleSection.TheVariants as stages
-use Rattle.hx_script.specs.declared.draft.Draft.{Draft}
-use Rattle.hx_script.specs.BundleGrammar.{behind_keys, bundle_command, bundle_line_of_toks, have_keys, next_session_line, with_session}
-use Rattle.hx_script.specs.BundleTexts.{script_so_far}
+use Rattle.hx_script.specs.BundleGrammar.{behind_keys, bundle_command, next_session_line}
 use Rattle.hx_script.specs.Readers.{number_in}
-use Rattle.hx_script.specs.Toks.{Word, Number}
-use Rattle.hx_script.proofs.Lemmas.{all_at, placed_all, placed_map}
-use Rattle.hx_law_texts.specs.Sayable.{CallIsSayable}
+use Rattle.hx_script.proofs.Lemmas.{placed_map}
 use Rattle.hx_law_texts.proofs.BundleReading.{ReadsAll, all_line_reads}
 use Rattle.hx_law_texts.proofs.BundleTurns.{Hand, IsPlayed, MayPlay, called, draft_of, hand_name, left_of, script_of_hand, turns_read}
+use Rattle.hx_law_texts.proofs.Sections.{session_parts}
 use Rattle.hx_law_texts.proofs.Heads.{word_number}
 
 -- ---- the line of a session
@@ -44,9 +32,6 @@ session_toks : (n : ℕ) (at : BundleSection) (servers tolerate : ℕ) (spaces :
 unfolding bundle_command behind_keys next_session_line number_in
 session_toks n at servers tolerate spaces turns calls (inl e) room = rw (e.0, e.1, lt-ltb (length turns) 16 room, le-leb (length turns + 1) (length turns + 1) (omega arith)) refl
 session_toks n at servers tolerate spaces turns calls (inr e) room = rw (e, lt-ltb (length turns) 16 room, le-leb (length turns + 1) (length turns + 1) (omega arith)) refl
-
-session_parts : (a d n c r : List ℕ) → (a ++ d ++ n ++ c) ++ r ≡ (a ++ (d ++ [])) ++ (n ++ (c ++ r))
-session_parts a d n c r = simp (append_assoc, append-nil)
 
 session_reads : (n : ℕ) (at : BundleSection) (servers tolerate : ℕ) (scripts : List Script) (spaces : List Draft) (before : List (List ℕ)) (turns : List ℕ) (calls : ℕ) (rest : List ℕ) (a : Bundle) → MayBegin at spaces → length before < 16
     → ReadsAll (n + 1) (at_calls stages.Calls servers tolerate (map with_session spaces) (before ++ [] ∷ []) calls) (turns_text scripts (hands_of scripts (length before + 1)) turns ++ rest) a
@@ -111,11 +96,6 @@ lines_in sessions = sum_by (λ (turns : List ℕ). length turns + 1) sessions
 abbrev pub calls_in : List (List ℕ) → ℕ
 calls_in sessions = sum_by (λ (turns : List ℕ). length turns) sessions
 
-one_sum : {A : Type 0} (f : A → ℕ) (x : A) (xs : List A) → sum_by f (x ∷ xs) ≡ f x + sum_by f xs
-one_sum f x xs =
-    let e : sum_by f (x ∷ xs) ≡ 0 + f x + sum_by f xs = sum_by-append f (x ∷ []) xs in
-    omega (arith, e)
-
 -- the sessions that are left, of these spaces, behind so many that were read
 pub record AreLeft (scripts : List Script) (before left : List (List ℕ)) (calls : ℕ) : Type 0 where
   pub few : length before + length left ≤ 16
@@ -134,7 +114,7 @@ left_after scripts before turns left calls are =
     let moved : (before ++ turns ∷ []) ++ left ≡ before ++ turns ∷ left = append_assoc before (turns ∷ []) left in
     record {
       few = omega (arith, few, length-append before (turns ∷ []));
-      few_calls = omega (arith, few_calls, one_sum (λ (x : List ℕ). length x) turns left);
+      few_calls = omega (arith, few_calls, sum_by-cons (λ (x : List ℕ). length x) turns left);
       names = are.names;
       spaces = are.spaces;
       fits = are.fits;
@@ -203,7 +183,7 @@ may_play scripts seats before turns left calls are counts of =
     let dealt : (k : ℕ) → IfSome (slice_get seats k) (λ (s : Seat). AllZip (AreDealt k) s.script.sessions (before ++ turns ∷ left)) =
     placed_unmap (λ (s : Seat). s.script) (λ k s. AllZip (AreDealt k) s.sessions (before ++ turns ∷ left)) seats (λ k. subst (λ (l : List Script). IfSome (slice_get l k) (λ (s : Script). AllZip (AreDealt k) s.sessions (before ++ turns ∷ left))) (sym are) (of.dealt k)) in
     record {
-      few = omega (arith, few_calls, one_sum (λ (x : List ℕ). length x) turns left);
+      few = omega (arith, few_calls, sum_by-cons (λ (x : List ℕ). length x) turns left);
       counts = All-map (λ (h : Hand). h.count ≤ calls) begin seats counts;
       names = subst NamesDiffer (sym (hand_names (u + 1) seats ∙ ap (λ (l : List Script). map (λ (s : Script). s.space.name) l) are)) of.names;
       spaces = All-map (λ (h : Hand). IsSpace h.script.space) begin seats (of_seats (λ (s : Script). IsSpace s.space) scripts seats are of.spaces);
@@ -284,8 +264,8 @@ sessions_read (turns ∷ left) n at servers tolerate scripts spaces seats before
     let number : length (before ++ turns ∷ []) + 1 ≡ u + 1 + 1 = omega (arith, length-append before (turns ∷ [])) in
     let later : List ℕ = bundle_sessions_text scripts (u + 1 + 1) left ++ rest in
     let text : (bundle_session_text scripts (u + 1) turns ++ bundle_sessions_text scripts (u + 1 + 1) left) ++ rest ≡ bundle_session_text scripts (u + 1) turns ++ later = append_assoc (bundle_session_text scripts (u + 1) turns) (bundle_sessions_text scripts (u + 1 + 1) left) rest in
-    let k : n + lines_in (turns ∷ left) ≡ n + 1 + length turns + lines_in left = omega (arith, one_sum (λ (x : List ℕ). length x + 1) turns left) in
-    let c : calls + calls_in (turns ∷ left) ≡ calls + length turns + calls_in left = omega (arith, one_sum (λ (x : List ℕ). length x) turns left) in
+    let k : n + lines_in (turns ∷ left) ≡ n + 1 + length turns + lines_in left = omega (arith, sum_by-cons (λ (x : List ℕ). length x + 1) turns left) in
+    let c : calls + calls_in (turns ∷ left) ≡ calls + length turns + calls_in left = omega (arith, sum_by-cons (λ (x : List ℕ). length x) turns left) in
     let moved : (before ++ turns ∷ []) ++ left ≡ before ++ turns ∷ left = append_assoc before (turns ∷ []) left in
     let those : map script_of_hand hands ≡ scripts = hand_scripts (u + 1) seats ∙ are in
     let hands_left : map left_of hands ≡ hands_of scripts (u + 1) = hands_are (u + 1) seats ∙ ap (λ (l : List Script). hands_of l (u + 1)) are in

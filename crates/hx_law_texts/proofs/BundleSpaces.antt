@@ -1,48 +1,30 @@
 -- The lines of each space are read again.
-use Rattle.std.proofs.Common.{◌≡◌, ℕ, zero, suc, pos, ◌+◌, ◌-◌, ◌*◌, ◌<◌, ◌≤◌, Bool, true, false, List, [], ◌∷◌, ◌++◌, length, map, Option, Some, Ok, refl, sym, ap, ◌∙◌, subst, arith, append_assoc, inl, inr}
-use Rattle.std.specs.Prelude.{codes, ◌⊎◌, slice_get, slice_set, sum_by}
-use Rattle.std.specs.List.{All, flat_map, list_any}
-use Rattle.std.specs.Fmt.{decimal, signed_decimal}
-use Rattle.std.specs.Str.{bytes_eq}
-use Rattle.std.proofs.lemmas.Bool.{le-leb, lt-ltb}
-use Rattle.std.proofs.lemmas.List.{append-nil, length-append, length-map, map-append}
-use Rattle.std.proofs.lemmas.List.Concat.{flat_map-cons}
-use Rattle.std.proofs.lemmas.List.Elements.{All-head, All-tail}
-use Rattle.std.proofs.lemmas.List.Sums.{sum_by-append}
-use Rattle.hx_bundle.specs.declared.bundles.Bundle.{Bundle}
-use Rattle.hx_types.specs.declared.spaces.Attribute.{Attribute}
-use Rattle.hx_types.specs.declared.spaces.Axis.{Axis}
-use Rattle.hx_types.specs.declared.spaces.Kind.{Kind}
+use Rattle.hx_law_texts.proofs.Vocabulary.{[], All, All-head, All-tail, ap, append-nil, append_assoc, ArePart, arith, Attribute, Axis, BoundsAreSayable}
+use Rattle.hx_law_texts.proofs.Vocabulary.{Bundle, bundle_line_of_toks, BundleDraft, BundleSection, bytes_eq, codes, decimal, Draft, false, flat_map}
+use Rattle.hx_law_texts.proofs.Vocabulary.{flat_map-cons, have_keys, Heading, heading_line, in_last_space, inl, inr, is_space, IsSpace, keyword_of}
+use Rattle.hx_law_texts.proofs.Vocabulary.{Kind, kind_line, le-leb, length, length-append, length-map, lines_of_space, List, list_any, lt-ltb, map, named_draft}
+use Rattle.hx_law_texts.proofs.Vocabulary.{NamesDiffer, Number, Ok, own_lines, pos, refl, region_count, Script, Section, signed_decimal, size_of}
+use Rattle.hx_law_texts.proofs.Vocabulary.{sizes_sum, slice_get, slice_set, Some, Space, spaces_line, subst, sum_by, sum_by-cons, sym, Tok, true, Word}
+use Rattle.hx_law_texts.proofs.Vocabulary.{ℕ, ◌*◌, ◌++◌, ◌+◌, ◌-◌, ◌<◌, ◌∙◌, ◌∷◌, ◌≡◌, ◌≤◌, ◌⊎◌}
+use Rattle.std.proofs.lemmas.List.{map-append}
 use Rattle.hx_types.specs.declared.spaces.Kind.TheVariants as kinds
-use Rattle.hx_types.specs.declared.spaces.Space.{Space}
-use Rattle.hx_types.specs.declared.traces.Script.{Script}
-use Rattle.hx_types.specs.Spaces.{ArePart, IsSpace, NamesDiffer}
-use Rattle.hx_types.specs.Subspaces.{region_count, size_of, sizes_sum}
-use Rattle.hx_print.specs.Printing.{attribute_line as attribute_text, axes_text, axis_text, bounds_text, int_line, key_line as key_text, kind_line, next_axis_text, space_line as space_text, string_line, subspace_line as subspace_text}
-use Rattle.hx_print.specs.BundlePrinting.{own_lines, own_text}
-use Rattle.hx_script.specs.declared.bundle_draft.BundleDraft.{BundleDraft}
-use Rattle.hx_script.specs.declared.bundle_draft.BundleSection.{BundleSection}
+use Rattle.hx_print.specs.Printing.{attribute_line as attribute_text, axes_text, axis_text, bounds_text, int_line, key_line as key_text, next_axis_text}
+use Rattle.hx_print.specs.Printing.{space_line as space_text, string_line, subspace_line as subspace_text}
+use Rattle.hx_print.specs.BundlePrinting.{own_text}
 use Rattle.hx_script.specs.declared.bundle_draft.BundleSection.TheVariants as stages
-use Rattle.hx_script.specs.declared.draft.Draft.{Draft}
-use Rattle.hx_script.specs.declared.draft.Section.{Section}
 use Rattle.hx_script.specs.declared.draft.Section.TheVariants as sections
-use Rattle.hx_script.specs.declared.keyword.Heading.{Heading}
 use Rattle.hx_script.specs.declared.keyword.Heading.TheVariants as headings
 use Rattle.hx_script.specs.declared.keyword.Keyword.TheVariants as keywords
-use Rattle.hx_script.specs.BundleGrammar.{behind_keys, bundle_command, bundle_line_of_toks, has_key, have_keys, in_last_space, is_keyed, is_space, last_space_line, named_draft, new_space_name, next_space_line, spaces_line}
-use Rattle.hx_script.specs.Grammar.{attribute_line, heading_line, int_attribute, key_line, string_attribute, subspace_line}
-use Rattle.hx_script.specs.Keywords.{keyword_of}
+use Rattle.hx_script.specs.BundleGrammar.{behind_keys, bundle_command, has_key, is_keyed, last_space_line, new_space_name, next_space_line}
+use Rattle.hx_script.specs.Grammar.{attribute_line, int_attribute, key_line, string_attribute, subspace_line}
 use Rattle.hx_script.specs.Readers.{number_from, number_in}
-use Rattle.hx_script.specs.Toks.{Tok, Word, Number}
-use Rattle.hx_script.specs.Words.{is_declared, name, named, new_name}
-use Rattle.hx_law_texts.specs.Sayable.{BoundsAreSayable}
-use Rattle.hx_law_texts.specs.SayableBundles.{lines_of_space}
+use Rattle.hx_script.specs.Words.{name, named, new_name}
 use Rattle.hx_law_texts.proofs.Attributes.{IsNext, in_order, int_parts, int_says, may_follow, with_one}
 use Rattle.hx_law_texts.proofs.BundleReading.{ReadsAll, all_line_reads, at_spaces}
 use Rattle.hx_law_texts.proofs.Heads.{one_part, two_parts, word_word}
 use Rattle.hx_law_texts.proofs.Names.{IsNamed, a_name, none_named}
 use Rattle.hx_law_texts.proofs.Numbers.{number_says}
-use Rattle.hx_law_texts.proofs.Says.{Says, nil_says, word_and_blank}
+use Rattle.hx_law_texts.proofs.Says.{nil_says, word_and_blank}
 use Rattle.hx_law_texts.proofs.Subspaces.{IsNextCut, MayCut, axis_toks, line_parts, may_cut, more_toks, subspace_again, subspace_says}
 
 -- ---- the space that was named last
@@ -256,11 +238,6 @@ named_in : (front : List Script) (w : List ℕ) → list_any (is_space w) (map w
 named_in [] w = refl
 named_in (s ∷ front) w = rw (named_in front w) refl
 
-one_sum : {A : Type 0} (f : A → ℕ) (x : A) (xs : List A) → sum_by f (x ∷ xs) ≡ f x + sum_by f xs
-one_sum f x xs =
-    let e : sum_by f (x ∷ xs) ≡ 0 + f x + sum_by f xs = sum_by-append f (x ∷ []) xs in
-    omega (arith, e)
-
 abbrev name_in : Script → List ℕ
 name_in s = s.space.name
 
@@ -285,7 +262,7 @@ spaces_on [] n servers tolerate front rest a said differ few next =
     (subst (λ (l : List Script). ReadsAll (n + sum_by lines_of_space []) (at_spaces stages.Spaces servers tolerate (map whole l)) rest a) (append-nil front) next)
 spaces_on (s ∷ more) n servers tolerate front rest a said differ few next =
     let text : flat_map own_lines (s ∷ more) ++ rest ≡ own_lines s ++ (flat_map own_lines more ++ rest) = ap (λ (x : List ℕ). x ++ rest) (flat_map-cons own_lines s more) ∙ append_assoc (own_lines s) (flat_map own_lines more) rest in
-    let k : n + sum_by lines_of_space (s ∷ more) ≡ n + lines_of_space s + sum_by lines_of_space more = omega (arith, one_sum lines_of_space s more) in
+    let k : n + sum_by lines_of_space (s ∷ more) ≡ n + lines_of_space s + sum_by lines_of_space more = omega (arith, sum_by-cons lines_of_space s more) in
     let moved : (front ++ s ∷ []) ++ more ≡ front ++ s ∷ more = append_assoc front (s ∷ []) more in
     subst (λ (x : List ℕ). ReadsAll n (at_spaces stages.Spaces servers tolerate (map whole front)) x a) (sym text)
     (own_step n stages.Spaces servers tolerate front s (flat_map own_lines more ++ rest) a (inr (refl, all_keyed front)) (All-head (IsSaid servers tolerate) s more said) (omega (arith, few, length-map front whole)) (named_in front s.space.name ∙ none_named name_in front s more differ)
@@ -298,7 +275,7 @@ pub spaces_read : (s : Script) (more : List Script) (n servers tolerate : ℕ) (
     → ReadsAll (n + sum_by lines_of_space (s ∷ more)) (at_spaces stages.Spaces servers tolerate (map whole (s ∷ more))) rest a → ReadsAll n (at_spaces stages.Naming servers tolerate []) (flat_map own_lines (s ∷ more) ++ rest) a
 spaces_read s more n servers tolerate rest a said differ few next =
     let text : flat_map own_lines (s ∷ more) ++ rest ≡ own_lines s ++ (flat_map own_lines more ++ rest) = ap (λ (x : List ℕ). x ++ rest) (flat_map-cons own_lines s more) ∙ append_assoc (own_lines s) (flat_map own_lines more) rest in
-    let k : n + sum_by lines_of_space (s ∷ more) ≡ n + lines_of_space s + sum_by lines_of_space more = omega (arith, one_sum lines_of_space s more) in
+    let k : n + sum_by lines_of_space (s ∷ more) ≡ n + lines_of_space s + sum_by lines_of_space more = omega (arith, sum_by-cons lines_of_space s more) in
     subst (λ (x : List ℕ). ReadsAll n (at_spaces stages.Naming servers tolerate []) x a) (sym text)
     (own_step n stages.Naming servers tolerate [] s (flat_map own_lines more ++ rest) a (inl (refl, refl)) (All-head (IsSaid servers tolerate) s more said) (omega arith) refl
     (spaces_on more (n + lines_of_space s) servers tolerate (s ∷ []) rest a (All-tail (IsSaid servers tolerate) s more said) differ (omega (arith, few))

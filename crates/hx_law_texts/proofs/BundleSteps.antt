@@ -1,43 +1,22 @@
 -- The steps of a bundle are read again, up to the end of the text.
-use Rattle.std.proofs.Common.{◌≡◌, ℕ, zero, suc, pos, ◌+◌, ◌^◌, ◌<◌, ◌≤◌, Bool, true, false, List, [], ◌∷◌, ◌++◌, length, map, Option, Some, Ok, refl, sym, ap, ◌∙◌, subst, arith, append_assoc, inl, inr}
-use Rattle.std.specs.Prelude.{codes, slice_get}
-use Rattle.std.specs.List.{All, flat_map, position_or_len}
-use Rattle.std.specs.Fmt.{decimal}
-use Rattle.std.specs.Str.{bytes_eq}
-use Rattle.std.proofs.lemmas.Bool.{lt-ltb}
-use Rattle.std.proofs.lemmas.List.{append-nil, length-append}
-use Rattle.std.proofs.lemmas.List.Concat.{flat_map-cons}
-use Rattle.std.proofs.lemmas.List.Elements.{All-head, All-tail}
-use Rattle.std.proofs.lemmas.Option.{same_Some, slice_get_within}
-use Rattle.hx_bundle.specs.declared.bundles.Bundle.{Bundle}
-use Rattle.hx_bundle.specs.declared.bundles.BundleStep.{BundleStep}
-use Rattle.hx_lex.specs.Letters.{IsWord}
-use Rattle.hx_types.specs.declared.messages.PostId.{PostId}
-use Rattle.hx_types.specs.declared.traces.Script.{Script}
-use Rattle.hx_types.specs.declared.traces.Step.{Step}
-use Rattle.hx_types.specs.declared.traces.Step.TheVariants.{Deliver, Tick, Halt}
-use Rattle.hx_types.specs.Spaces.{IsName, NamesDiffer}
+use Rattle.hx_law_texts.proofs.Vocabulary.{[], All, All-head, All-tail, ap, append-nil, append_assoc, arith, Bundle, bundle_line_of_toks}
+use Rattle.hx_law_texts.proofs.Vocabulary.{bundle_steps_from, BundleDraft, BundleSection, BundleStep, bytes_eq, codes, decimal, Deliver, Draft, false, flat_map}
+use Rattle.hx_law_texts.proofs.Vocabulary.{flat_map-cons, Halt, inl, inr, is_space, IsName, IsWord, keyword_of, length, length-append, List, lt-ltb}
+use Rattle.hx_law_texts.proofs.Vocabulary.{map, NamesDiffer, Number, Ok, pos, position_or_len, refl, same_Some, Script, script_so_far, Sign}
+use Rattle.hx_law_texts.proofs.Vocabulary.{slice_get, slice_get_within, Some, Step, step, StepIsSayable, StepWord, subst, suc, sym, Tick, Tok, true, Word, zero}
+use Rattle.hx_law_texts.proofs.Vocabulary.{ℕ, ◌++◌, ◌+◌, ◌<◌, ◌^◌, ◌∙◌, ◌∷◌, ◌≡◌, ◌≤◌}
 use Rattle.hx_print.specs.Printing.{actor_text, post_name}
 use Rattle.hx_print.specs.BundlePrinting.{bundle_steps_text, space_step_line as step_text, step_line_in, step_rest, step_word}
-use Rattle.hx_script.specs.declared.bundle_draft.BundleDraft.{BundleDraft}
-use Rattle.hx_script.specs.declared.bundle_draft.BundleSection.{BundleSection}
 use Rattle.hx_script.specs.declared.bundle_draft.BundleSection.TheVariants as stages
-use Rattle.hx_script.specs.declared.draft.Draft.{Draft}
 use Rattle.hx_script.specs.declared.keyword.Keyword.TheVariants as keywords
-use Rattle.hx_script.specs.declared.keyword.StepWord.{StepWord}
 use Rattle.hx_script.specs.declared.keyword.StepWord.TheVariants as step_words
-use Rattle.hx_script.specs.BundleGrammar.{all_steps_line, behind_keys, bundle_command, bundle_line_of_toks, is_space, space_named, space_step_line}
-use Rattle.hx_script.specs.BundleTexts.{read_bundle_lines, script_so_far}
-use Rattle.hx_script.specs.Calls.{step}
-use Rattle.hx_script.specs.Keywords.{keyword_of}
-use Rattle.hx_script.specs.Toks.{Tok, Word, Number, Sign}
+use Rattle.hx_script.specs.BundleGrammar.{all_steps_line, behind_keys, bundle_command, space_named, space_step_line}
+use Rattle.hx_script.specs.BundleTexts.{read_bundle_lines}
 use Rattle.hx_script.specs.Words.{named}
-use Rattle.hx_law_texts.specs.Sayable.{IsPostName, StepIsSayable}
-use Rattle.hx_law_texts.specs.SayableBundles.{bundle_steps_from}
 use Rattle.hx_law_texts.proofs.BundleReading.{ReadsAll, all_line_reads}
 use Rattle.hx_law_texts.proofs.BundleSessions.{MayBegin, at_calls}
-use Rattle.hx_law_texts.proofs.BundleTurns.{bytes_apart, bytes_same, mapped_at}
-use Rattle.hx_law_texts.proofs.Names.{IsNamed, a_name}
+use Rattle.hx_law_texts.proofs.BundleTurns.{bytes_apart, mapped_at}
+use Rattle.hx_law_texts.proofs.Names.{bytes_same, IsNamed, a_name}
 use Rattle.hx_law_texts.proofs.Numbers.{decimal_digits, number_says}
 use Rattle.hx_law_texts.proofs.Says.{Says, dot_says, nil_says, word_and_blank, word_says}
 use Rattle.hx_law_texts.proofs.Steps.{actor_is_word, deliver_again, halt_again, no_dot, small_too, tick_again}

@@ -1,44 +1,26 @@
 -- A bundle that is read can be said.
-use Rattle.std.proofs.Common.{◌≡◌, ℕ, ◌+◌, ◌-◌, ◌<◌, ◌≤◌, Bool, true, false, cond, List, [], ◌∷◌, ◌++◌, length, map, Option, Some, None, Result, Ok, Err, refl, ap, subst}
-use Rattle.std.specs.Prelude.{◌==◌, min, nat_le, nat_lt, not, slice_get, slice_set}
-use Rattle.std.specs.List.{All, list_any}
-use Rattle.std.proofs.lemmas.List.Elements.{All-nil, All-cons, All-map, All-push, All-set, All-weaker}
-use Rattle.hx_lex.specs.Lines.{tokens_of}
-use Rattle.hx_bundle.specs.declared.bundles.Bundle.{Bundle}
-use Rattle.hx_bundle.specs.declared.bundles.BundleStep.{BundleStep}
-use Rattle.hx_types.specs.declared.calls.Op.{Op}
-use Rattle.hx_types.specs.declared.spaces.Attribute.{Attribute}
-use Rattle.hx_types.specs.declared.spaces.Space.{Space}
-use Rattle.hx_types.specs.declared.traces.Script.{Script}
-use Rattle.hx_types.specs.declared.traces.Step.{Step}
-use Rattle.hx_types.specs.declared.traces.Step.TheVariants.{Deliver, Tick, Halt}
-use Rattle.hx_script.specs.declared.bundle_draft.BundleDraft.{BundleDraft}
-use Rattle.hx_script.specs.declared.bundle_draft.BundleSection.{BundleSection}
+use Rattle.hx_law_texts.proofs.Vocabulary.{[], All, All-cons, All-map, All-nil, All-push, All-set, All-weaker, all_at, ap, Attribute, Bool, BoundsAreSayable}
+use Rattle.hx_law_texts.proofs.Vocabulary.{Bundle, bundle_line_of, bundle_line_of_toks, bundle_of, BundleDraft, BundleSection, BundleStep, CallIsSayable}
+use Rattle.hx_law_texts.proofs.Vocabulary.{CallWord, cond, Deliver, Draft, empty_bundle_draft, Err, false, Halt, have_keys, Heading, heading_line}
+use Rattle.hx_law_texts.proofs.Vocabulary.{in_space, is_space, IsSayableBundle, IsSayableScript, Keyword, keyword_of, length, Limit, lines_of}
+use Rattle.hx_law_texts.proofs.Vocabulary.{List, list_any, map, min, named_draft, nat_le, nat_lt, None, not, Ok, ok_is, on_ok_ok, Op, Option, Order}
+use Rattle.hx_law_texts.proofs.Vocabulary.{PostIsSayable, push_to_last, Reader, Reason, refl, Result, Script, script_of, script_so_far, ScriptError, Section}
+use Rattle.hx_law_texts.proofs.Vocabulary.{slice_get, slice_set, Some, Space, spaces_line, Step, StepIsSayable, StepWord, subst, Tick, Tok, tokens_of}
+use Rattle.hx_law_texts.proofs.Vocabulary.{toks_from, true, Twice, version_of, with_session, ℕ, ◌++◌, ◌+◌, ◌-◌, ◌==◌, ◌∷◌, ◌≡◌, ◌≤◌}
 use Rattle.hx_script.specs.declared.bundle_draft.BundleSection.TheVariants as stages
-use Rattle.hx_script.specs.declared.draft.Draft.{Draft}
-use Rattle.hx_script.specs.declared.draft.Section.{Section}
 use Rattle.hx_script.specs.declared.draft.Section.TheVariants as sections
-use Rattle.hx_script.specs.declared.errors.Reason.{Reason}
-use Rattle.hx_script.specs.declared.errors.Reason.TheVariants.{Order, Twice, Limit}
-use Rattle.hx_script.specs.declared.errors.ScriptError.{ScriptError}
 use Rattle.hx_script.specs.declared.errors.ScriptError.TheVariants as errors
-use Rattle.hx_script.specs.declared.keyword.CallWord.{CallWord}
-use Rattle.hx_script.specs.declared.keyword.Heading.{Heading}
 use Rattle.hx_script.specs.declared.keyword.Heading.TheVariants as headings
-use Rattle.hx_script.specs.declared.keyword.Keyword.{Keyword}
 use Rattle.hx_script.specs.declared.keyword.Keyword.TheVariants as keywords
-use Rattle.hx_script.specs.declared.keyword.StepWord.{StepWord}
-use Rattle.hx_script.specs.BundleGrammar.{all_servers_line, all_steps_line, all_tolerate_line, behind_keys, bundle_command, bundle_heading_line, bundle_line_for, bundle_line_of, bundle_line_of_toks, have_keys, in_draft, in_last_space, in_space, is_space, keyed_line, last_space_line, named_draft, new_space_name, next_session_line, next_space_line, second_hx_line, space_call_line, space_named, space_number, space_step_line, spaces_line, with_session}
-use Rattle.hx_script.specs.BundleTexts.{at_number, bundle_by, bundle_finished, bundle_may_end, bundle_of, bundle_so_far, empty_bundle_draft, first_space_step, one_space, read_bundle_lines, read_first, read_second, script_so_far, version_of}
-use Rattle.hx_script.specs.Grammar.{attribute_line, call_line, heading_line, int_attribute, key_line, push_to_last, string_attribute, subspace_line, toks_from}
-use Rattle.hx_script.specs.Keywords.{keyword_of}
-use Rattle.hx_script.specs.Readers.{Reader}
-use Rattle.hx_script.specs.Texts.{lines_of, script_of}
-use Rattle.hx_script.specs.Toks.{Tok}
-use Rattle.hx_script.proofs.Lemmas.{all_at, then_ok, on_ok_ok, ok_is}
-use Rattle.hx_law_texts.specs.Sayable.{BoundsAreSayable, CallIsSayable, IsSayableScript, StepIsSayable}
-use Rattle.hx_law_texts.specs.SayableBundles.{IsSayableBundle, PostIsSayable}
-use Rattle.hx_law_texts.proofs.Told.{AllTold, Any, Tells, tells_check, tells_end, tells_give, tells_judged, tells_number_in, tells_refuse, tells_then, tells_word}
+use Rattle.hx_script.specs.BundleGrammar.{all_servers_line, all_steps_line, all_tolerate_line, behind_keys, bundle_command, bundle_heading_line}
+use Rattle.hx_script.specs.BundleGrammar.{bundle_line_for, in_draft, keyed_line, last_space_line, new_space_name, next_session_line, next_space_line}
+use Rattle.hx_script.specs.BundleGrammar.{second_hx_line, space_call_line, space_named, space_number, space_step_line}
+use Rattle.hx_script.specs.BundleTexts.{at_number, bundle_by, bundle_may_end, bundle_so_far, first_space_step, one_space, read_bundle_lines}
+use Rattle.hx_script.specs.BundleTexts.{read_first, read_second}
+use Rattle.hx_script.specs.Grammar.{attribute_line, call_line, int_attribute, key_line, string_attribute, subspace_line}
+use Rattle.hx_script.proofs.Lemmas.{then_ok}
+use Rattle.hx_law_texts.proofs.Told.{AllTold, Any, Tells, tells_check, tells_end, tells_give, tells_judged, tells_number_in, tells_refuse, tells_then}
+use Rattle.hx_law_texts.proofs.Told.{tells_word}
 use Rattle.hx_law_texts.proofs.ToldCalls.{tells_call, tells_named, tells_step}
 use Rattle.hx_law_texts.proofs.ToldLines.{BoundsSoFar, CallsSoFar, IsBounded, all_last, tells_int, tells_name, tells_string, tells_subspace}
 use Rattle.hx_law_texts.proofs.ToldTexts.{text_told, toks_told}

@@ -1,41 +1,25 @@
 -- The calls of a session are read again, in the order of its turns.
-use Rattle.std.proofs.Common.{◌≡◌, ℕ, zero, suc, ◌+◌, ◌<◌, ◌≤◌, Bool, true, false, eqb, List, [], ◌∷◌, ◌++◌, length, map, Option, Some, None, Ok, refl, sym, ap, ◌∙◌, subst, arith, append_assoc}
-use Rattle.std.specs.Prelude.{codes, IfSome, slice_get, slice_set}
-use Rattle.std.specs.List.{All, position_or_len}
-use Rattle.std.specs.Option.{option_map}
-use Rattle.std.specs.Str.{bytes_eq}
-use Rattle.std.proofs.lemmas.Bool.{eqb-false, lt-ltb, ne_eqb}
-use Rattle.std.proofs.lemmas.List.{append-nil, length-map, length-set, nil_from_length}
-use Rattle.std.proofs.lemmas.List.Concat.{flat_map-cons}
-use Rattle.std.proofs.lemmas.List.Elements.{All-head, All-set, All-tail, All-weaker}
-use Rattle.std.proofs.lemmas.Option.{same_Some, slice_get-map, slice_get_within}
-use Rattle.std.proofs.lemmas.Slice.Eq.{bytes_eq-Decides}
-use Rattle.hx_bundle.specs.declared.bundles.Bundle.{Bundle}
-use Rattle.hx_bundle.specs.Bundles.{times}
-use Rattle.hx_lex.specs.Letters.{begins_with, is_word_part, IsWord}
-use Rattle.hx_types.specs.declared.calls.Op.{Op}
-use Rattle.hx_types.specs.declared.calls.Op.TheVariants.{Put, Get, Del, Cput, Search, Stop, Add, Atomic}
-use Rattle.hx_types.specs.declared.spaces.Space.{Space}
-use Rattle.hx_types.specs.declared.traces.Script.{Script}
-use Rattle.hx_types.specs.Spaces.{Fits, IsSpace, NamesDiffer}
-use Rattle.hx_types.specs.Subspaces.{region_count}
-use Rattle.hx_print.specs.BundlePrinting.{call_line_in, calls_in_turn, op_rest, op_word, space_call_line as call_text, turns_text}
-use Rattle.hx_script.specs.declared.bundle_draft.BundleDraft.{BundleDraft}
+use Rattle.hx_law_texts.proofs.Vocabulary.{[], Add, All, All-head, All-set, All-tail, All-weaker, all_at, ap, append-nil, append_assoc, arith, Atomic}
+use Rattle.hx_law_texts.proofs.Vocabulary.{begins_with, Bool, Bundle, bundle_line_of_toks, BundleDraft, bytes_eq, bytes_eq-Decides, CallIsSayable, codes, Cput}
+use Rattle.hx_law_texts.proofs.Vocabulary.{Del, Draft, eqb, false, Fits, flat_map-cons, Get, if_some_at, IfSome, in_space, is_space, is_word_part, IsSpace}
+use Rattle.hx_law_texts.proofs.Vocabulary.{IsWord, keyword_of, length, length-map, List, lt-ltb, map, NamesDiffer, ne_eqb, Ok, Op, op_word}
+use Rattle.hx_law_texts.proofs.Vocabulary.{option_map, placed_all, position_or_len, push_to_last_is, Put, refl, region_count, same_Some, Script, Search}
+use Rattle.hx_law_texts.proofs.Vocabulary.{slice_get, slice_get-map, slice_get_within, slice_set, Some, some_here, Space, Stop, subst, suc, sym, times, Tok}
+use Rattle.hx_law_texts.proofs.Vocabulary.{true, Word, zero, ℕ, ◌++◌, ◌+◌, ◌<◌, ◌∙◌, ◌∷◌, ◌≡◌, ◌≤◌}
+use Rattle.std.proofs.lemmas.Bool.{eqb-false}
+use Rattle.std.proofs.lemmas.List.{length-set, nil_from_length}
+use Rattle.hx_print.specs.BundlePrinting.{call_line_in, calls_in_turn, op_rest, space_call_line as call_text, turns_text}
 use Rattle.hx_script.specs.declared.bundle_draft.BundleSection.TheVariants as stages
-use Rattle.hx_script.specs.declared.draft.Draft.{Draft}
 use Rattle.hx_script.specs.declared.draft.Section.TheVariants as sections
 use Rattle.hx_script.specs.declared.keyword.Keyword.TheVariants as keywords
-use Rattle.hx_script.specs.BundleGrammar.{bundle_command, bundle_line_of_toks, in_space, is_space, space_call_line, space_named}
+use Rattle.hx_script.specs.BundleGrammar.{bundle_command, space_call_line, space_named}
 use Rattle.hx_script.specs.Grammar.{call_line}
-use Rattle.hx_script.specs.Keywords.{keyword_of}
-use Rattle.hx_script.specs.Toks.{Tok, Word}
 use Rattle.hx_script.specs.Words.{named}
-use Rattle.hx_script.proofs.Lemmas.{all_at, if_some_at, map_set_same, placed_all, placed_set, some_here, push_to_last_is}
-use Rattle.hx_law_texts.specs.Sayable.{CallIsSayable}
+use Rattle.hx_script.proofs.Lemmas.{map_set_same, placed_set}
 use Rattle.hx_law_texts.proofs.BundleCalls.{rest_again, rest_says, rest_toks, word_of}
 use Rattle.hx_law_texts.proofs.BundleReading.{ReadsAll, all_line_reads}
 use Rattle.hx_law_texts.proofs.Drafts.{calling}
-use Rattle.hx_law_texts.proofs.Names.{IsNamed, a_name}
+use Rattle.hx_law_texts.proofs.Names.{bytes_same, IsNamed, a_name}
 use Rattle.hx_law_texts.proofs.Says.{Says, word_and_blank, word_says}
 use Rattle.hx_law_texts.proofs.Terms.{goes_no_further as terms_go_no_further}
 
@@ -68,9 +52,6 @@ pub mapped_at : {A B : Type 0} (P : B → Type 0) (f : A → B) (xs : List A) (i
 mapped_at P f [] i x all e = absurd cc
 mapped_at P f (y ∷ xs) zero x all e = subst (λ a. P (f a)) (same_Some y x e) (All-head P (f y) (map f xs) all)
 mapped_at P f (y ∷ xs) (suc i) x all e = mapped_at P f xs i x (All-tail P (f y) (map f xs) all) e
-
-pub bytes_same : (a : List ℕ) → bytes_eq a a ≡ true
-bytes_same a = (bytes_eq-Decides a a).1 refl
 
 pub bytes_apart : (a b : List ℕ) → (a ≡ b → ⊥) → bytes_eq a b ≡ false
 bytes_apart a b apart = by_test (bytes_eq a b) refl

@@ -1,38 +1,23 @@
 -- A whole bundle is read again.
-use Rattle.std.proofs.Common.{◌≡◌, ℕ, zero, suc, pos, ◌+◌, ◌*◌, ◌<◌, ◌≤◌, List, [], ◌∷◌, ◌++◌, length, map, take, Option, Some, None, Ok, refl, sym, ap, ◌∙◌, subst, arith, append_assoc, inl, inr, lit<}
-use Rattle.std.specs.Prelude.{codes, IfSome, IsSomeAnd, slice_get, slice_index_or, sum_by}
-use Rattle.std.specs.Option.{option_map}
-use Rattle.std.specs.List.{All, AllZip, flat_map}
-use Rattle.std.specs.Fmt.{decimal}
-use Rattle.std.proofs.lemmas.Fmt.{decimal_digit}
-use Rattle.std.proofs.lemmas.List.Elements.{All-head, All-map, All-tail, All-weaker}
-use Rattle.std.proofs.lemmas.Option.{none-some, same_Some, slice_get-map}
-use Rattle.hx_bundle.specs.declared.bundles.Bundle.{Bundle}
-use Rattle.hx_bundle.specs.declared.bundles.BundleStep.{BundleStep}
-use Rattle.hx_bundle.specs.Bundles.{AreAlike, AreDealt, HasStep, IsBundle, IsStepIn}
-use Rattle.hx_types.specs.declared.calls.Op.{Op}
-use Rattle.hx_types.specs.declared.spaces.Space.{Space}
-use Rattle.hx_types.specs.declared.ids.Actor.TheVariants.{Coordinator, Server, Session}
-use Rattle.hx_types.specs.declared.traces.Script.{Script}
-use Rattle.hx_types.specs.declared.traces.Step.{Step}
-use Rattle.hx_types.specs.declared.traces.Step.TheVariants.{Deliver, Tick, Halt}
-use Rattle.hx_types.specs.Fitting.{IsScript}
-use Rattle.hx_types.specs.Spaces.{Fits, IsName, IsSpace, NamesDiffer}
-use Rattle.hx_types.specs.Subspaces.{region_count, sizes_sum}
+use Rattle.hx_law_texts.proofs.Vocabulary.{[], All, All-head, All-map, All-tail, All-weaker, all_at, AllZip, ap, append_assoc, AreDealt, arith, Bundle}
+use Rattle.hx_law_texts.proofs.Vocabulary.{bundle_of, bundle_steps_from, BundleStep, codes, Coordinator, decimal, decimal_digit, Deliver, Draft}
+use Rattle.hx_law_texts.proofs.Vocabulary.{empty_bundle_draft, first_bundle_step_line, Fits, flat_map, Halt, if_some_at, inl, IsBundle, IsName}
+use Rattle.hx_law_texts.proofs.Vocabulary.{IsSayableBundle, IsScript, IsSomeAnd, IsSpace, IsStepIn, IsUpTo, length, lines_of_space, List, lit<, map}
+use Rattle.hx_law_texts.proofs.Vocabulary.{NamesDiffer, None, Number, Ok, on_printed_bundle_lines, Op, Option, option_map, own_lines, placed_all, pos}
+use Rattle.hx_law_texts.proofs.Vocabulary.{PostIsSayable, refl, region_count, same_Some, Script, script_so_far, Server, Session, sizes_sum, slice_get}
+use Rattle.hx_law_texts.proofs.Vocabulary.{slice_get-map, Some, some_here, Space, Step, StepIsSayable, subst, sum_by, sym, take, Tick, version_of}
+use Rattle.hx_law_texts.proofs.Vocabulary.{with_session, Word, ℕ, ◌*◌, ◌++◌, ◌+◌, ◌<◌, ◌∙◌, ◌∷◌, ◌≡◌, ◌≤◌}
+use Rattle.std.specs.Prelude.{slice_index_or}
+use Rattle.std.proofs.lemmas.Option.{none-some}
+use Rattle.hx_bundle.specs.Bundles.{AreAlike, HasStep}
 use Rattle.hx_print.specs.Printing.{servers_line, tolerate_line}
-use Rattle.hx_print.specs.BundlePrinting.{bundle_sessions_text, bundle_steps_text, bundle_text, own_lines, shared_text, space_step_line}
+use Rattle.hx_print.specs.BundlePrinting.{bundle_sessions_text, bundle_steps_text, bundle_text, shared_text, space_step_line}
 use Rattle.hx_script.specs.declared.bundle_draft.BundleSection.TheVariants as stages
-use Rattle.hx_script.specs.declared.draft.Draft.{Draft}
-use Rattle.hx_script.specs.BundleGrammar.{with_session}
-use Rattle.hx_script.specs.BundleTexts.{bundle_of, empty_bundle_draft, read_bundle_lines, script_so_far, version_from, version_line, version_of}
-use Rattle.hx_script.proofs.Lemmas.{all_at, dealt_long, if_some_at, placed_all, some_here}
+use Rattle.hx_script.specs.BundleTexts.{version_from, version_line}
+use Rattle.hx_script.proofs.Lemmas.{dealt_long}
 use Rattle.hx_script.specs.Readers.{number_in}
-use Rattle.hx_script.specs.Texts.{lines_of}
-use Rattle.hx_script.specs.Toks.{Word, Number}
-use Rattle.hx_law_texts.specs.Sayable.{IsUpTo, StepIsSayable}
-use Rattle.hx_law_texts.specs.SayableBundles.{IsSayableBundle, PostIsSayable, bundle_steps_from, first_bundle_step_line, lines_of_space, on_printed_bundle_lines}
 use Rattle.hx_law_texts.proofs.BundleReading.{ReadsAll, all_servers_read, all_tolerate_reads, at_spaces, second_hx_reads}
-use Rattle.hx_law_texts.proofs.BundleSessions.{AreLeft, AreSeated, MayBegin, Seat, at_calls, calls_in, hand_of, lines_in, of_seats, read_so_far, sessions_read}
+use Rattle.hx_law_texts.proofs.BundleSessions.{AreLeft, AreSeated, Seat, at_calls, calls_in, hand_of, lines_in, of_seats, read_so_far, sessions_read}
 use Rattle.hx_law_texts.proofs.BundleTurns.{draft_of}
 use Rattle.hx_law_texts.proofs.BundleSpaces.{IsSaid, all_keyed, spaces_read, whole}
 use Rattle.hx_law_texts.proofs.BundleSteps.{IsToldStep, ended, name_of, steps_read}

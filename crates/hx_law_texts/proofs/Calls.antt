@@ -1,36 +1,20 @@
 -- The lines of calls are read again.
-use Rattle.std.proofs.Common.{◌≡◌, ℕ, pos, ◌+◌, ◌-◌, ◌<◌, ◌≤◌, List, [], ◌∷◌, ◌++◌, length, Ok, refl, sym, ap, ◌∙◌, subst, arith, append_assoc}
-use Rattle.std.specs.Prelude.{codes}
-use Rattle.std.specs.List.{All, flat_map}
-use Rattle.std.specs.Fmt.{decimal}
-use Rattle.std.proofs.lemmas.Bool.{le-leb}
-use Rattle.std.proofs.lemmas.List.{append-nil}
-use Rattle.std.proofs.lemmas.List.Concat.{flat_map-cons}
-use Rattle.std.proofs.lemmas.List.Elements.{All-head, All-tail}
-use Rattle.hx_lex.specs.Letters.{is_word_part}
-use Rattle.hx_types.specs.declared.calls.Op.{Op}
-use Rattle.hx_types.specs.declared.calls.Op.TheVariants.{Put, Get, Del, Cput, Search, Stop, Add, Atomic}
+use Rattle.hx_law_texts.proofs.Vocabulary.{[], Add, All, All-head, All-tail, ap, append-nil, append_assoc, arith, Assign, assigns_text, AssignsFit, Atomic}
+use Rattle.hx_law_texts.proofs.Vocabulary.{CallIsSayable, codes, Cput, decimal, Del, Edit, edits_text, EditsAreSayable, EditsFit, Fits, flat_map, flat_map-cons}
+use Rattle.hx_law_texts.proofs.Vocabulary.{Get, is_word_part, IsSpace, IsText, le-leb, length, line_of_toks, List, Number, Ok, Op, op_of_line, op_of_toks, pos}
+use Rattle.hx_law_texts.proofs.Vocabulary.{push_to_last, push_to_last_is, Put, refl, region_count, Script, Search, Space, Stop, subst, sym, Term, TermIsSayable}
+use Rattle.hx_law_texts.proofs.Vocabulary.{terms_text, TermsFit, Text, Tok, ValuesAreSayable, Word, ℕ, ◌++◌, ◌+◌, ◌-◌, ◌<◌, ◌∙◌, ◌∷◌, ◌≡◌, ◌≤◌}
 use Rattle.hx_types.specs.declared.ids.RegionId.{RegionId}
 use Rattle.hx_types.specs.declared.ids.ServerId.{ServerId}
-use Rattle.hx_types.specs.declared.spaces.Space.{Space}
-use Rattle.hx_types.specs.declared.traces.Script.{Script}
-use Rattle.hx_types.specs.declared.values.Assign.{Assign}
-use Rattle.hx_types.specs.declared.values.Edit.{Edit}
-use Rattle.hx_types.specs.declared.values.Term.{Term}
-use Rattle.hx_types.specs.Spaces.{KeyFits, AssignsFit, EditsFit, TermsFit, IsServerOf, IsRegionOf, Fits, IsSpace}
-use Rattle.hx_types.specs.Subspaces.{region_count}
-use Rattle.hx_lex.specs.Spelling.{IsText}
-use Rattle.hx_print.specs.Printing.{quoted, assigns_text, edits_text, terms_text, cput_text, add_text, op_text, call_line as call_text}
+use Rattle.hx_types.specs.Spaces.{KeyFits, IsServerOf, IsRegionOf}
+use Rattle.hx_print.specs.Printing.{quoted, cput_text, add_text, op_text, call_line as call_text}
 use Rattle.hx_script.specs.declared.draft.Section.TheVariants as sections
 use Rattle.hx_script.specs.declared.line.Until.TheVariants as until
 use Rattle.hx_script.specs.Calls.{put, get, del, cput, search_call, stop, add, atomic}
-use Rattle.hx_script.specs.Grammar.{line_of_toks, push_to_last}
-use Rattle.hx_script.specs.LoneCalls.{lone_call, op_of_toks, op_of_line}
+use Rattle.hx_script.specs.LoneCalls.{lone_call}
 use Rattle.hx_script.specs.Readers.{number_in}
-use Rattle.hx_script.specs.Toks.{Tok, Word, Number, Text}
 use Rattle.hx_script.specs.Values.{short_text}
-use Rattle.hx_script.proofs.Lemmas.{push_to_last_is, toks_take}
-use Rattle.hx_law_texts.specs.Sayable.{ValuesAreSayable, EditsAreSayable, TermIsSayable, CallIsSayable}
+use Rattle.hx_script.proofs.Lemmas.{toks_take}
 use Rattle.hx_law_texts.proofs.Assignments.{assigns_toks, all_left, assigns_say, assigns_again, some_again, goes_no_further}
 use Rattle.hx_law_texts.proofs.Drafts.{calling}
 use Rattle.hx_law_texts.proofs.Edits.{edits_toks, edits_say, edits_again}
@@ -39,6 +23,7 @@ use Rattle.hx_law_texts.proofs.Numbers.{number_says}
 use Rattle.hx_law_texts.proofs.Quotes.{text_says}
 use Rattle.hx_law_texts.proofs.Reading.{ReadsTo, line_reads}
 use Rattle.hx_law_texts.proofs.Says.{Says, nil_says, blank_says, word_says, word_and_blank, line_toks}
+use Rattle.hx_law_texts.proofs.Steps.{line_parts}
 use Rattle.hx_law_texts.proofs.Terms.{terms_toks, terms_say, terms_again, goes_no_further as terms_go_no_further}
 
 -- ---- what a call says
@@ -187,9 +172,6 @@ lone_reads s op is fits said =
     rw (line_toks (op_text s op) (call_toks s op) says) (lone_again s op is fits said)
 
 -- ---- the calls of a session
-
-line_parts : (o n r : List ℕ) → (o ++ n) ++ r ≡ (o ++ []) ++ (n ++ r)
-line_parts o n r = simp (append_assoc, append-nil)
 
 call_reads : (n : ℕ) (s : Space) (regions : ℕ) (sessions : List (List Op)) (calls : ℕ) (op : Op) (rest : List ℕ) (script : Script) → IsSpace s → regions ≡ region_count s → Fits s op → CallIsSayable op → calls < 16384
     → ReadsTo (n + 1) (calling sections.Calls s regions (push_to_last sessions op) (calls + 1)) rest script → ReadsTo n (calling sections.Calls s regions sessions calls) (call_text s op ++ rest) script

@@ -1,14 +1,6 @@
 -- Drafts of a script, as far as its print was read.
-use Rattle.std.proofs.Common.{ℕ, List, []}
-use Rattle.hx_types.specs.declared.calls.Op.{Op}
-use Rattle.hx_types.specs.declared.spaces.Attribute.{Attribute}
-use Rattle.hx_types.specs.declared.spaces.Axis.{Axis}
-use Rattle.hx_types.specs.declared.spaces.Space.{Space}
-use Rattle.hx_types.specs.declared.traces.Step.{Step}
-use Rattle.hx_script.specs.declared.draft.Draft.{Draft}
-use Rattle.hx_script.specs.declared.draft.Section.{Section}
+use Rattle.hx_law_texts.proofs.Vocabulary.{[], Attribute, Axis, Draft, empty_draft, List, Op, Section, Space, Step, ℕ}
 use Rattle.hx_script.specs.declared.draft.Section.TheVariants as sections
-use Rattle.hx_script.specs.Texts.{empty_draft}
 
 -- the line `hx` was read
 abbrev pub naming : Draft

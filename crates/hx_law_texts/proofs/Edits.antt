@@ -1,31 +1,18 @@
 -- Edits are read again.
-use Rattle.std.proofs.Common.{◌≡◌, ℕ, ◌-◌, ◌<◌, true, false, List, [], ◌∷◌, ◌++◌, map, length, Option, Some, None, Ok, refl, sym, ap, ◌∙◌, subst, arith, append_assoc}
-use Rattle.std.specs.Prelude.{codes, slice_get, IsSomeAnd}
-use Rattle.std.specs.List.{All}
-use Rattle.std.proofs.lemmas.List.{append-nil}
-use Rattle.std.proofs.lemmas.List.Concat.{flat_map-cons}
-use Rattle.std.proofs.lemmas.List.Elements.{All-head, All-tail}
-use Rattle.hx_lex.specs.Letters.{is_digit, is_word_part, begins_with, IsWord}
-use Rattle.hx_types.specs.declared.spaces.Attribute.{Attribute}
-use Rattle.hx_types.specs.declared.spaces.Kind.{Kind}
+use Rattle.hx_law_texts.proofs.Vocabulary.{[], All, All-head, All-tail, AllDiffer, ap, append-nil, append_assoc, arith, Attribute, begins_with, codes, Edit}
+use Rattle.hx_law_texts.proofs.Vocabulary.{edit_kind, EditKind, edits_text, EditsAreSayable, EditsFit, false, flat_map-cons, has_edit, is_digit, is_edit_of}
+use Rattle.hx_law_texts.proofs.Vocabulary.{is_of, is_short, is_word_part, IsOfKind, IsSayable, IsSomeAnd, IsSpace, IsWord, Kind, kind_at, length, List, map}
+use Rattle.hx_law_texts.proofs.Vocabulary.{name_of, None, Ok, Option, refl, repeat, Sign, slice_get, Some, Space, subst, sym, Tok, true, Value, Word, ℕ, ◌++◌}
+use Rattle.hx_law_texts.proofs.Vocabulary.{◌-◌, ◌<◌, ◌∙◌, ◌∷◌, ◌≡◌}
 use Rattle.hx_types.specs.declared.spaces.Kind.TheVariants as kinds
-use Rattle.hx_types.specs.declared.spaces.Space.{Space}
-use Rattle.hx_types.specs.declared.values.Edit.{Edit}
-use Rattle.hx_types.specs.declared.values.EditKind.{EditKind}
 use Rattle.hx_types.specs.declared.values.EditKind.TheVariants as an_edit
-use Rattle.hx_types.specs.declared.values.Value.{Value}
 use Rattle.hx_types.specs.declared.values.Value.TheVariants as values
-use Rattle.hx_types.specs.Spaces.{IsOfKind, IsEditOf, EditFits, AllDiffer, EditsFit, IsSpace}
-use Rattle.hx_types.specs.Subspaces.{kind_at}
-use Rattle.hx_print.specs.Printing.{name_of, named_text, edit_word as word_of, edit_text, edits_text}
+use Rattle.hx_types.specs.Spaces.{IsEditOf, EditFits}
+use Rattle.hx_print.specs.Printing.{named_text, edit_word as word_of, edit_text}
 use Rattle.hx_script.specs.declared.line.Until.TheVariants as until
-use Rattle.hx_script.specs.Edits.{edit_kind, edit_word, has_edit, unedited_attribute, is_edit_of, edit_value, edit, one_more_edit, some_edits}
-use Rattle.hx_script.specs.Readers.{repeat}
-use Rattle.hx_script.specs.Toks.{Tok, Word, Sign}
-use Rattle.hx_script.specs.Values.{is_of, is_short}
+use Rattle.hx_script.specs.Edits.{edit_word, unedited_attribute, edit_value, edit, one_more_edit, some_edits}
 use Rattle.hx_script.specs.Words.{named}
 use Rattle.hx_script.proofs.Lemmas.{edits_go_on, edits_end}
-use Rattle.hx_law_texts.specs.Sayable.{IsSayable, EditsAreSayable}
 use Rattle.hx_law_texts.proofs.Assignments.{tok_of_value, named_toks, named_says, of_kind, below}
 use Rattle.hx_law_texts.proofs.Names.{not_zero, none_before, IsAt, IsDeclaredAs, declared}
 use Rattle.hx_law_texts.proofs.Says.{Says, nil_says, blank_says, word_says}

@@ -1,6 +1,6 @@
 -- A script with each kind of line, read, printed and read back by computing.
-use Rattle.std.proofs.Common.{◌≡◌, ℕ, pos, negsuc, List, [], ◌∷◌, ◌++◌, Ok, refl}
-use Rattle.std.specs.Prelude.{codes}
+use Rattle.hx_law_texts.proofs.Vocabulary.{[], Add, Atomic, codes, Coordinator, Cput, Del, Deliver, Equal, Get, Halt, List, negsuc, Ok, on_printed_lines, Op}
+use Rattle.hx_law_texts.proofs.Vocabulary.{pos, Put, Range, refl, Script, script_of, Search, Server, Session, Space, Step, Stop, Tick, ℕ, ◌++◌, ◌∷◌, ◌≡◌}
 use Rattle.std.specs.Fmt.{digits}
 use lib.Utf8.{encode}
 use Rattle.std.specs.Str.{is_utf8, chars}
@@ -9,29 +9,21 @@ use Rattle.hx_lex.specs.Lines.{tokens_from}
 use Rattle.hx_lex.specs.Numbers.{number_at}
 use Rattle.hx_lex.specs.Pieces.{piece_at, comment_at}
 use Rattle.hx_lex.specs.Quotes.{content, inside_at, text_at}
-use Rattle.hx_types.specs.declared.calls.Op.{Op}
-use Rattle.hx_types.specs.declared.calls.Op.TheVariants.{Put, Get, Del, Cput, Search, Stop, Add, Atomic}
-use Rattle.hx_types.specs.declared.ids.Actor.TheVariants.{Coordinator, Server, Session}
 use Rattle.hx_types.specs.declared.spaces.Kind.TheVariants as kinds
-use Rattle.hx_types.specs.declared.spaces.Space.{Space}
-use Rattle.hx_types.specs.declared.traces.Script.{Script}
-use Rattle.hx_types.specs.declared.traces.Step.{Step}
-use Rattle.hx_types.specs.declared.traces.Step.TheVariants.{Deliver, Tick, Halt}
 use Rattle.hx_types.specs.declared.values.EditKind.TheVariants as an_edit
-use Rattle.hx_types.specs.declared.values.Term.TheVariants.{Equal, Range}
 use Rattle.hx_types.specs.declared.values.Value.TheVariants as values
 use Rattle.hx_print.specs.Printing as printing
 use Rattle.hx_script.specs.Actors.{actor}
 use Rattle.hx_script.specs.Calls.{put, get, del, cput, search_call, stop, add, atomic, deliver, tick, halt}
 use Rattle.hx_script.specs.Edits.{edit_word, unedited_attribute, edit_value, edit, one_more_edit, some_edits}
 use Rattle.hx_script.specs.Axes.{free_axis, parts, axis, next_axis, subspace}
-use Rattle.hx_script.specs.Grammar.{hx_line, space_line, key_line, string_attribute, int_attribute, attribute_line, subspace_line, servers_line, tolerate_line, session_line, steps_line, call_line, step_line, command}
+use Rattle.hx_script.specs.Grammar.{hx_line, space_line, key_line, string_attribute, int_attribute, attribute_line, subspace_line, servers_line, tolerate_line}
+use Rattle.hx_script.specs.Grammar.{session_line, steps_line, call_line, step_line, command}
 use Rattle.hx_script.specs.Readers.{number_in, natural, number_from, steps}
-use Rattle.hx_script.specs.Texts.{read_lines, script_of}
+use Rattle.hx_script.specs.Texts.{read_lines}
 use Rattle.hx_script.specs.Values.{short_text, value, free_attribute, assign, one_more, some_assigns, free_known, range, term, one_more_term}
 use Rattle.hx_script.specs.Words.{named, name, new_name}
 use Rattle.hx_print.specs.Printing.{script_text, space_text, sessions_text, session_text, steps_text}
-use Rattle.hx_law_texts.specs.Again.{on_printed_lines}
 
 -- ---- the script
 

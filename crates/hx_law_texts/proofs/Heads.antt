@@ -1,21 +1,11 @@
 -- The lines `hx`, `space`, `key`, `servers` and `tolerate` are read again.
-use Rattle.std.proofs.Common.{◌≡◌, ℕ, pos, ◌+◌, ◌-◌, ◌^◌, ◌<◌, ◌≤◌, min, List, [], ◌∷◌, ◌++◌, Ok, refl, sym, ap, arith, append_assoc, inl, inr, lit<}
-use Rattle.std.specs.Prelude.{codes, ◌⊎◌}
-use Rattle.std.specs.Fmt.{decimal}
-use Rattle.std.proofs.lemmas.Bool.{le-leb}
-use Rattle.std.proofs.lemmas.Fmt.{decimal_digit}
-use Rattle.std.proofs.lemmas.List.{append-nil}
-use Rattle.hx_lex.specs.Letters.{IsWord}
-use Rattle.hx_types.specs.declared.spaces.Space.{Space}
-use Rattle.hx_types.specs.declared.traces.Script.{Script}
-use Rattle.hx_types.specs.Spaces.{ArePart, IsSpace}
+use Rattle.hx_law_texts.proofs.Vocabulary.{[], ap, append-nil, append_assoc, ArePart, arith, codes, decimal, decimal_digit, empty_draft, inl, inr, IsSpace}
+use Rattle.hx_law_texts.proofs.Vocabulary.{IsWord, le-leb, line_of_toks, List, lit<, min, Number, Ok, pos, refl, Script, Section, Space, sym, Word, ℕ, ◌++◌}
+use Rattle.hx_law_texts.proofs.Vocabulary.{◌+◌, ◌-◌, ◌<◌, ◌^◌, ◌∷◌, ◌≡◌, ◌≤◌, ◌⊎◌}
 use Rattle.hx_print.specs.Printing.{space_line as space_text, key_line as key_text, servers_line as servers_text, tolerate_line as tolerate_text}
-use Rattle.hx_script.specs.declared.draft.Section.{Section}
 use Rattle.hx_script.specs.declared.draft.Section.TheVariants as sections
-use Rattle.hx_script.specs.Grammar.{line_of_toks, command, hx_line, space_line, key_line, servers_line, tolerate_line}
+use Rattle.hx_script.specs.Grammar.{command, hx_line, space_line, key_line, servers_line, tolerate_line}
 use Rattle.hx_script.specs.Readers.{number_in}
-use Rattle.hx_script.specs.Texts.{empty_draft}
-use Rattle.hx_script.specs.Toks.{Word, Number}
 use Rattle.hx_script.specs.Words.{named, name}
 use Rattle.hx_law_texts.proofs.Drafts.{naming, keying, attributing, cutting, tolerating, calling}
 use Rattle.hx_law_texts.proofs.Names.{IsNamed, a_name}

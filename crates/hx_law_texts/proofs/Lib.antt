@@ -31,3 +31,4 @@ mod BundleWhole
 mod BundleTold
 mod BundleOnly
 pub mod Lemmas
+pub mod Vocabulary

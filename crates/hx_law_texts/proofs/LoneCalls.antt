@@ -1,20 +1,10 @@
 -- A line that is read as a call apart from any script can be said, and its print is read as that call.
-use Rattle.std.proofs.Common.{◌≡◌, ℕ, List, Option, Some, None, Ok, refl, subst}
-use Rattle.hx_lex.specs.Lines.{tokens_of}
-use Rattle.hx_types.specs.declared.calls.Op.{Op}
-use Rattle.hx_types.specs.declared.spaces.Space.{Space}
-use Rattle.hx_types.specs.Spaces.{Fits, IsSpace}
-use Rattle.hx_types.specs.Subspaces.{region_count}
+use Rattle.hx_law_texts.proofs.Vocabulary.{CallIsSayable, Fits, IsSpace, Keyword, keyword_of, List, None, Ok, ok_is, on_ok_ok, Op, op_of_line, op_of_toks}
+use Rattle.hx_law_texts.proofs.Vocabulary.{Option, Order, refl, region_count, Some, Space, subst, Tok, tokens_of, toks_from, ℕ, ◌≡◌}
 use Rattle.hx_print.specs.Printing.{op_text}
-use Rattle.hx_script.specs.declared.errors.Reason.TheVariants.{Order}
-use Rattle.hx_script.specs.declared.keyword.Keyword.{Keyword}
 use Rattle.hx_script.specs.declared.keyword.Keyword.TheVariants as keywords
-use Rattle.hx_script.specs.Grammar.{toks_from}
-use Rattle.hx_script.specs.Keywords.{keyword_of}
-use Rattle.hx_script.specs.LoneCalls.{call_by, lone_call, op_of_toks, op_of_line}
-use Rattle.hx_script.specs.Toks.{Tok}
-use Rattle.hx_script.proofs.Lemmas.{lone_fits, on_ok_ok, ok_is}
-use Rattle.hx_law_texts.specs.Sayable.{CallIsSayable}
+use Rattle.hx_script.specs.LoneCalls.{call_by, lone_call}
+use Rattle.hx_script.proofs.Lemmas.{lone_fits}
 use Rattle.hx_law_texts.proofs.Calls.{lone_reads}
 use Rattle.hx_law_texts.proofs.Told.{Tells, Any, tells_then, tells_refuse, tells_word}
 use Rattle.hx_law_texts.proofs.ToldCalls.{tells_call}

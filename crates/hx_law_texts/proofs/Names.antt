@@ -1,18 +1,10 @@
 -- Names and the numbers of attributes, found again.
-use Rattle.std.proofs.Common.{◌≡◌, ◌≢◌, ℕ, zero, suc, ◌+◌, ◌-◌, ◌<◌, ◌≤◌, Bool, true, false, eqb, List, [], ◌∷◌, ◌++◌, map, length, Some, Ok, refl, sym, subst, arith}
-use Rattle.std.specs.Prelude.{◌||◌, ◌==◌, nat_le, codes, slice_get}
-use Rattle.std.specs.List.{All, list_all, list_any, position_or_len}
-use Rattle.std.specs.Str.{bytes_eq}
-use Rattle.std.proofs.lemmas.Bool.{ne_eqb, le-leb, lt-ltb}
-use Rattle.std.proofs.lemmas.List.Elements.{All-head, All-tail}
-use Rattle.std.proofs.lemmas.Slice.Eq.{bytes_eq-Decides}
-use Rattle.hx_lex.specs.Letters.{is_lower, is_word_part, IsWord}
-use Rattle.hx_lex.proofs.Lemmas.{and_left, and_right}
-use Rattle.hx_types.specs.declared.spaces.Attribute.{Attribute}
-use Rattle.hx_types.specs.declared.spaces.Space.{Space}
-use Rattle.hx_types.specs.Spaces.{AllDiffer, NamesDiffer, is_word, IsName, IsKind, IsSpace}
-use Rattle.hx_print.specs.Printing.{name_of}
-use Rattle.hx_script.specs.Words.{may_name, declared_number, known_number}
+use Rattle.hx_law_texts.proofs.Vocabulary.{[], All, All-head, All-tail, AllDiffer, and_left, and_right, arith, Attribute, Bool, bytes_eq, bytes_eq-Decides}
+use Rattle.hx_law_texts.proofs.Vocabulary.{codes, declared_number, eqb, false, is_lower, is_word_part, IsKind, IsName, IsSpace, IsWord, known_number, le-leb}
+use Rattle.hx_law_texts.proofs.Vocabulary.{length, List, list_all, list_any, lt-ltb, map, may_name, name_of, NamesDiffer, nat_le, ne_eqb, Ok, position_or_len}
+use Rattle.hx_law_texts.proofs.Vocabulary.{refl, slice_get, Some, Space, subst, suc, sym, true, zero, ℕ, ◌++◌, ◌+◌, ◌-◌, ◌<◌, ◌==◌, ◌||◌, ◌∷◌, ◌≡◌, ◌≤◌}
+use Rattle.std.proofs.Common.{◌≢◌}
+use Rattle.hx_types.specs.Spaces.{is_word}
 
 -- a word that is a name where one is wanted
 pub record IsNamed (w : List ℕ) : Type 0 where
@@ -29,7 +21,7 @@ a_word (b ∷ rest) e =
     let first : is_lower b ≡ true = and_left (is_lower b) (list_all is_word_part rest) e in
     record { letter = first; parts = rw (letter_is_part b first) (and_right (is_lower b) (list_all is_word_part rest) e) }
 
-bytes_same : (a : List ℕ) → bytes_eq a a ≡ true
+pub bytes_same : (a : List ℕ) → bytes_eq a a ≡ true
 bytes_same a = (bytes_eq-Decides a a).1 refl
 
 bytes_apart : (a b : List ℕ) → a ≢ b → bytes_eq a b ≡ false

@@ -1,22 +1,16 @@
 -- A printed number says that number.
-use Rattle.std.proofs.Common.{◌≡◌, ℕ, ℤ, pos, negsuc, suc, ◌+◌, ◌^◌, ◌<◌, ◌≤◌, true, false, eqb, leb, List, [], ◌∷◌, ◌++◌, length, drop, Some, Ok, refl, ◌∙◌, subst, arith, lit<}
+use Rattle.hx_law_texts.proofs.Vocabulary.{[], and_left, and_right, arith, begins_with, decimal, decimal_nonempty, drop, drop_at, eqb, false, FitsSigned}
+use Rattle.hx_law_texts.proofs.Vocabulary.{is_digit, le-leb, leb, leb-true, length, List, list_all, lit<, lt-ltb, ne_eqb, negsuc, Number, Ok, Piece, pos, refl}
+use Rattle.hx_law_texts.proofs.Vocabulary.{signed_decimal, Some, subst, suc, take_at, Tok, token_piece, true, w64, ℕ, ℤ, ◌++◌, ◌+◌, ◌<◌, ◌^◌, ◌∙◌, ◌∷◌, ◌≡◌}
+use Rattle.hx_law_texts.proofs.Vocabulary.{◌≤◌}
 use Rattle.std.proofs.Common.{rules}
-use Rattle.std.specs.Prelude.{FitsSigned}
-use Rattle.std.specs.List.{list_all}
-use Rattle.std.specs.Fmt.{decimal, signed_decimal}
-use Rattle.std.specs.Int.{w64}
 use Rattle.std.specs.Str.{all_ascii_digits}
-use Rattle.std.proofs.lemmas.Bool.{ne_eqb, leb-true, le-leb, lt-leb, lt-ltb}
-use Rattle.std.proofs.lemmas.Fmt.{digits_decimal, digits_value-decimal, decimal_nonempty}
-use Rattle.std.proofs.lemmas.List.{take_at, drop_at}
+use Rattle.std.proofs.lemmas.Bool.{lt-leb}
+use Rattle.std.proofs.lemmas.Fmt.{digits_decimal, digits_value-decimal}
 use Rattle.std.proofs.lemmas.Str.Parse.{IsNumeralModel, numerals_by_fold, tells_all_ascii_digits}
-use Rattle.hx_lex.specs.declared.token.Piece.{Piece}
 use Rattle.hx_lex.specs.declared.token.TokenKind.TheVariants as kinds
-use Rattle.hx_lex.specs.Letters.{is_digit, begins_with}
-use Rattle.hx_lex.specs.Numbers.{value, value_from, minus, token_piece, number_at}
+use Rattle.hx_lex.specs.Numbers.{value, value_from, minus, number_at}
 use Rattle.hx_lex.specs.Pieces.{piece_at}
-use Rattle.hx_lex.proofs.Lemmas.{and_left, and_right}
-use Rattle.hx_script.specs.Toks.{Tok, Number}
 use Rattle.hx_law_texts.proofs.Says.{Says, IsClean, says, says_piece, both_clean, clean_by, whole_run}
 
 digit_not : (b c : ℕ) → is_digit b ≡ true → c < 48 → eqb b c ≡ false

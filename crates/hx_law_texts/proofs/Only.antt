@@ -1,15 +1,8 @@
 -- Nothing is read back but what is within the limits and can be said.
-use Rattle.std.proofs.Common.{◌≡◌, ℕ, suc, ◌+◌, ◌≤◌, List, [], ◌∷◌, length, Ok, refl, ap, subst}
-use Rattle.std.specs.List.{All}
-use Rattle.std.proofs.lemmas.List.Elements.{All-nil, All-cons, All-head, All-tail}
-use Rattle.hx_types.specs.declared.traces.Script.{Script}
-use Rattle.hx_types.specs.declared.traces.Step.{Step}
-use Rattle.hx_types.specs.Fitting.{IsScript}
+use Rattle.hx_law_texts.proofs.Vocabulary.{[], All, All-cons, All-head, All-nil, All-tail, ap, first_step_line, IsSayableScript, IsScript, length, List, Ok}
+use Rattle.hx_law_texts.proofs.Vocabulary.{on_lines_from, on_printed_lines, refl, Script, script_of, Step, StepIsSayable, subst, suc, text_sound, ℕ, ◌+◌, ◌∷◌}
+use Rattle.hx_law_texts.proofs.Vocabulary.{◌≡◌, ◌≤◌}
 use Rattle.hx_print.specs.Printing.{script_text}
-use Rattle.hx_script.specs.Texts.{script_of}
-use Rattle.hx_script.proofs.Lemmas.{text_sound}
-use Rattle.hx_law_texts.specs.Again.{on_lines_from, first_step_line, on_printed_lines}
-use Rattle.hx_law_texts.specs.Sayable.{StepIsSayable, IsSayableScript}
 use Rattle.hx_law_texts.proofs.ToldTexts.{text_told}
 
 same_length : (n : ℕ) (steps : List (ℕ × Step)) → length (on_lines_from n steps) ≡ length steps

@@ -1,26 +1,24 @@
 -- A text in quotes says that text.
-use Rattle.std.proofs.Common.{◌≡◌, ℕ, suc, ◌+◌, ◌<◌, ◌≤◌, Bool, true, false, cond, eqb, ltb, leb, List, [], ◌∷◌, ◌++◌, length, take, drop, get_or, Some, Ok, refl, sym, ap, ◌∙◌, subst, arith, append_assoc, inl, inr, lit<, eq-eqb}
-use Rattle.std.specs.Prelude.{◌||◌, codes}
-use Rattle.std.specs.List.{list_all, flat_map}
+use Rattle.hx_law_texts.proofs.Vocabulary.{[], and_left, and_right, ap, append-nil, append_assoc, arith, Bool, codes, cond, drop, drop_at, eqb, eqb-true, false}
+use Rattle.hx_law_texts.proofs.Vocabulary.{flat_map, flat_map-cons, get_or, inl, inr, IsText, leb, leb-true, length, length-append, List, list_all, lit<}
+use Rattle.hx_law_texts.proofs.Vocabulary.{ne_eqb, Ok, Piece, refl, Some, subst, suc, sym, take, take_at, Text, Tok, token_piece, true, ℕ, ◌++◌, ◌+◌, ◌<◌, ◌||◌}
+use Rattle.hx_law_texts.proofs.Vocabulary.{◌∙◌, ◌∷◌, ◌≡◌, ◌≤◌}
+use Rattle.std.proofs.Common.{ltb, eq-eqb}
 use Rattle.std.specs.Str.{IsUtf8}
 use Rattle.std.specs.Str.Lossy.{utf8_valid_len}
 use Rattle.std.specs.Char.{IsScalar, encode_utf8}
 use Rattle.std.specs.Str as strings
-use Rattle.std.proofs.lemmas.Bool.{ne_eqb, eqb-true, leb-true, le-ltb, cases_lt}
+use Rattle.std.proofs.lemmas.Bool.{le-ltb, cases_lt}
 use Rattle.std.proofs.lemmas.Bool.Decides.{nat_tests}
-use Rattle.std.proofs.lemmas.List.{length-append, take_at, drop_at, append-nil, take_all, drop-drop}
-use Rattle.std.proofs.lemmas.List.Concat.{flat_map-cons, flat_map-append}
+use Rattle.std.proofs.lemmas.List.{take_all, drop-drop}
+use Rattle.std.proofs.lemmas.List.Concat.{flat_map-append}
 use Rattle.std.proofs.lemmas.Str.{IsUtf8-append, IsUtf8-nil, IsUtf8-encode, encode_ascii, inside_one, utf8_valid_len-IsUtf8}
 use lib.Utf8.{scalar}
-use Rattle.hx_lex.specs.declared.token.Piece.{Piece}
 use Rattle.hx_lex.specs.declared.token.TokenKind.TheVariants as kinds
-use Rattle.hx_lex.specs.Numbers.{token_piece}
 use Rattle.hx_lex.specs.Pieces.{piece_at}
 use Rattle.hx_lex.specs.Quotes.{inside_len, content, followed_by, inside_at, text_at}
-use Rattle.hx_lex.specs.Spelling.{is_plain, IsText}
-use Rattle.hx_lex.proofs.Lemmas.{and_left, and_right}
+use Rattle.hx_lex.specs.Spelling.{is_plain}
 use Rattle.hx_print.specs.Printing.{escape, quoted}
-use Rattle.hx_script.specs.Toks.{Tok, Text}
 use Rattle.hx_law_texts.proofs.Says.{Says, IsClean, says, says_piece, both_clean, on_line}
 
 -- the escape of a byte, by the tests for it

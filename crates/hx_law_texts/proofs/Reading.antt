@@ -1,12 +1,7 @@
 -- A text, read a line at a time.
-use Rattle.std.proofs.Common.{◌≡◌, ℕ, ◌+◌, true, false, cond, eqb, not, Bool, List, [], ◌∷◌, ◌++◌, Ok, refl, subst, sym}
-use Rattle.std.specs.List.{list_all}
-use Rattle.hx_lex.proofs.Lemmas.{and_left, and_right}
-use Rattle.hx_types.specs.declared.traces.Script.{Script}
-use Rattle.hx_script.specs.declared.draft.Draft.{Draft}
-use Rattle.hx_script.specs.Grammar.{line_of, line_of_toks}
-use Rattle.hx_script.specs.Texts.{onto_first, lines_of, read_lines}
-use Rattle.hx_script.specs.Toks.{Tok}
+use Rattle.hx_law_texts.proofs.Vocabulary.{[], and_left, and_right, Bool, cond, Draft, eqb, false, line_of, line_of_toks, lines_of, List, list_all, not, Ok}
+use Rattle.hx_law_texts.proofs.Vocabulary.{refl, Script, subst, sym, Tok, true, ℕ, ◌++◌, ◌+◌, ◌∷◌, ◌≡◌}
+use Rattle.hx_script.specs.Texts.{onto_first, read_lines}
 use Rattle.hx_law_texts.proofs.Says.{Says, IsClean, on_line, line_says}
 
 pub lines_cons : (line rest : List ℕ) → IsClean line → lines_of (line ++ 10 ∷ rest) ≡ line ∷ lines_of rest

@@ -1,24 +1,16 @@
 -- What the bytes of a line say, token by token, wherever they stand.
-use Rattle.std.proofs.Common.{◌≡◌, ℕ, zero, suc, ◌+◌, ◌-◌, ◌<◌, Bool, true, false, not, eqb, leb, List, [], ◌∷◌, ◌++◌, length, map, take, drop, Option, Some, None, Result, Ok, Err, refl, sym, ap, ◌∙◌, arith, add-zero, append_assoc, lit<}
-use Rattle.std.specs.Prelude.{codes, slice_range}
-use Rattle.std.specs.List.{prefix_len, list_all}
-use Rattle.std.proofs.lemmas.Bool.{ne_eqb, eqb-true, leb-true}
-use Rattle.std.proofs.lemmas.List.{length-append, take_at, drop_at}
+use Rattle.hx_law_texts.proofs.Vocabulary.{[], and_left, and_right, ap, append_assoc, arith, begins_with, Bool, codes, Draft, drop, drop_at, eqb, eqb-true, Err}
+use Rattle.hx_law_texts.proofs.Vocabulary.{false, is_lower, is_word_part, IsWord, leb, leb-true, length, length-append, LexError, line_of, line_of_toks, List}
+use Rattle.hx_law_texts.proofs.Vocabulary.{list_all, lit<, map, meaning, ne_eqb, None, not, Ok, Option, Piece, refl, Result, Sign, slice_range, Some, suc, sym}
+use Rattle.hx_law_texts.proofs.Vocabulary.{take, take_at, Tok, tok_of, Token, token_piece, TokenKind, tokens_of, toks_from, true, Word, zero, ℕ, ◌++◌, ◌+◌, ◌-◌}
+use Rattle.hx_law_texts.proofs.Vocabulary.{◌<◌, ◌∙◌, ◌∷◌, ◌≡◌}
+use Rattle.std.proofs.Common.{add-zero}
+use Rattle.std.specs.List.{prefix_len}
 use Rattle.std.proofs.lemmas.List.Folds.{list_all-append}
-use Rattle.hx_lex.specs.declared.errors.LexError.{LexError}
-use Rattle.hx_lex.specs.declared.token.Token.{Token}
-use Rattle.hx_lex.specs.declared.token.Piece.{Piece}
-use Rattle.hx_lex.specs.declared.token.TokenKind.{TokenKind}
 use Rattle.hx_lex.specs.declared.token.TokenKind.TheVariants as kinds
 use Rattle.hx_lex.specs.Answers.{◌>>=◌}
-use Rattle.hx_lex.specs.Letters.{is_lower, is_word_part, begins_with, IsWord}
-use Rattle.hx_lex.specs.Lines.{before, token_of, tokens_from, tokens_of}
-use Rattle.hx_lex.specs.Numbers.{token_piece}
+use Rattle.hx_lex.specs.Lines.{before, token_of, tokens_from}
 use Rattle.hx_lex.specs.Pieces.{piece_at}
-use Rattle.hx_lex.proofs.Lemmas.{and_left, and_right}
-use Rattle.hx_script.specs.declared.draft.Draft.{Draft}
-use Rattle.hx_script.specs.Grammar.{toks_from, line_of, line_of_toks}
-use Rattle.hx_script.specs.Toks.{Tok, Word, Sign, tok_of, meaning}
 
 abbrev pub before_tok : Option TokenKind → List ℕ → Result (List Tok) LexError → Result (List Tok) LexError
 before_tok None bytes read = read

@@ -1,27 +1,13 @@
 -- The sessions are read again, and the steps behind them.
-use Rattle.std.proofs.Common.{◌≡◌, ℕ, pos, ◌+◌, ◌<◌, ◌≤◌, List, [], ◌∷◌, ◌++◌, length, Ok, refl, sym, subst, arith, append_assoc, inl, inr}
-use Rattle.std.specs.Prelude.{codes, ◌⊎◌, sum_by}
-use Rattle.std.specs.List.{All, flat_map}
-use Rattle.std.specs.Fmt.{decimal}
-use Rattle.std.proofs.lemmas.Bool.{le-leb, lt-ltb}
-use Rattle.std.proofs.lemmas.List.{append-nil, length-append}
-use Rattle.std.proofs.lemmas.List.Elements.{All-head, All-tail}
-use Rattle.std.proofs.lemmas.List.Sums.{sum_by-append}
-use Rattle.hx_types.specs.declared.calls.Op.{Op}
-use Rattle.hx_types.specs.declared.spaces.Space.{Space}
-use Rattle.hx_types.specs.declared.traces.Script.{Script}
-use Rattle.hx_types.specs.declared.traces.Step.{Step}
-use Rattle.hx_types.specs.Spaces.{Fits, IsSpace}
-use Rattle.hx_types.specs.Subspaces.{region_count}
+use Rattle.hx_law_texts.proofs.Vocabulary.{[], All, All-head, All-tail, append-nil, append_assoc, arith, CallIsSayable, codes, decimal, Fits, flat_map, inl}
+use Rattle.hx_law_texts.proofs.Vocabulary.{inr, IsSpace, le-leb, length, length-append, line_of_toks, List, lt-ltb, Number, Ok, on_lines_from, Op, pos, refl}
+use Rattle.hx_law_texts.proofs.Vocabulary.{region_count, Script, Section, Space, Step, StepIsSayable, subst, sum_by, sum_by-cons, sym, Word, ℕ, ◌++◌, ◌+◌}
+use Rattle.hx_law_texts.proofs.Vocabulary.{◌<◌, ◌∷◌, ◌≡◌, ◌≤◌, ◌⊎◌}
 use Rattle.hx_print.specs.Printing.{call_line as call_text, session_text, sessions_text, step_line as line_text, steps_text}
-use Rattle.hx_script.specs.declared.draft.Section.{Section}
 use Rattle.hx_script.specs.declared.draft.Section.TheVariants as sections
-use Rattle.hx_script.specs.Grammar.{line_of_toks, command, session_line, steps_line}
+use Rattle.hx_script.specs.Grammar.{command, session_line, steps_line}
 use Rattle.hx_script.specs.Readers.{number_in}
 use Rattle.hx_script.specs.Texts.{read_lines}
-use Rattle.hx_script.specs.Toks.{Word, Number}
-use Rattle.hx_law_texts.specs.Again.{on_lines_from}
-use Rattle.hx_law_texts.specs.Sayable.{CallIsSayable, StepIsSayable}
 use Rattle.hx_law_texts.proofs.Calls.{calls_read}
 use Rattle.hx_law_texts.proofs.Drafts.{calling, stepping}
 use Rattle.hx_law_texts.proofs.Heads.{word_number}
@@ -41,7 +27,7 @@ unfolding command session_line number_in
 session_toks n at s regions front calls (inl e) room = rw (e, lt-ltb (length front) 16 room, le-leb (length front + 1) (length front + 1) (omega arith)) refl
 session_toks n at s regions front calls (inr e) room = rw (e, lt-ltb (length front) 16 room, le-leb (length front + 1) (length front + 1) (omega arith)) refl
 
-session_parts : (a d n c r : List ℕ) → (a ++ d ++ n ++ c) ++ r ≡ (a ++ (d ++ [])) ++ (n ++ (c ++ r))
+pub session_parts : (a d n c r : List ℕ) → (a ++ d ++ n ++ c) ++ r ≡ (a ++ (d ++ [])) ++ (n ++ (c ++ r))
 session_parts a d n c r = simp (append_assoc, append-nil)
 
 session_reads : (n : ℕ) (at : Section) (s : Space) (regions : ℕ) (front : List (List Op)) (calls : ℕ) (ops : List Op) (rest : List ℕ) (script : Script) → MayCall at → length front < 16
@@ -62,11 +48,6 @@ lines_in sessions = sum_by (λ (calls : List Op). length calls + 1) sessions
 abbrev pub calls_in : List (List Op) → ℕ
 calls_in sessions = sum_by (λ (calls : List Op). length calls) sessions
 
-one_sum : {A : Type 0} (f : A → ℕ) (x : A) (xs : List A) → sum_by f (x ∷ xs) ≡ f x + sum_by f xs
-one_sum f x xs =
-    let e : sum_by f (x ∷ xs) ≡ 0 + f x + sum_by f xs = sum_by-append f (x ∷ []) xs in
-    omega (arith, e)
-
 -- the sessions that are left have as many calls as there is room for
 record AreLeft (s : Space) (front left : List (List Op)) (calls : ℕ) : Type 0 where
   pub few : length front + length left ≤ 16
@@ -80,7 +61,7 @@ left_after s front ops left calls are =
     let few_calls : calls + calls_in (ops ∷ left) ≤ 16384 = are.few_calls in
     record {
       few = omega (arith, few, length-append front (ops ∷ []));
-      few_calls = omega (arith, few_calls, one_sum (λ (x : List Op). length x) ops left);
+      few_calls = omega (arith, few_calls, sum_by-cons (λ (x : List Op). length x) ops left);
       fits = All-tail (λ (x : List Op). All (Fits s) x) ops left are.fits;
       said = All-tail (λ (x : List Op). All CallIsSayable x) ops left are.said;
     }
@@ -88,7 +69,7 @@ left_after s front ops left calls are =
 room_for : (s : Space) (front : List (List Op)) (ops : List Op) (left : List (List Op)) (calls : ℕ) → AreLeft s front (ops ∷ left) calls → calls + length ops ≤ 16384
 room_for s front ops left calls are =
     let few_calls : calls + calls_in (ops ∷ left) ≤ 16384 = are.few_calls in
-    omega (arith, few_calls, one_sum (λ (x : List Op). length x) ops left)
+    omega (arith, few_calls, sum_by-cons (λ (x : List Op). length x) ops left)
 
 sessions_left : (left : List (List Op)) (n : ℕ) (at : Section) (s : Space) (regions : ℕ) (front : List (List Op)) (calls : ℕ) (rest : List ℕ) (script : Script) → MayCall at → IsSpace s → regions ≡ region_count s → AreLeft s front left calls
     → ((last : Section) → MayCall last → ReadsTo (n + lines_in left) (calling last s regions (front ++ left) (calls + calls_in left)) rest script) → ReadsTo n (calling at s regions front calls) (sessions_text s (length front + 1) left ++ rest) script
@@ -104,8 +85,8 @@ sessions_left (ops ∷ left) n at s regions front calls rest script here is all 
     let number : length (front ++ ops ∷ []) + 1 ≡ length front + 1 + 1 = omega (arith, length-append front (ops ∷ [])) in
     let later : List ℕ = sessions_text s (length front + 1 + 1) left ++ rest in
     let text : (session_text s (length front + 1) ops ++ sessions_text s (length front + 1 + 1) left) ++ rest ≡ session_text s (length front + 1) ops ++ later = append_assoc (session_text s (length front + 1) ops) (sessions_text s (length front + 1 + 1) left) rest in
-    let k : n + lines_in (ops ∷ left) ≡ n + 1 + length ops + lines_in left = omega (arith, one_sum (λ (x : List Op). length x + 1) ops left) in
-    let c : calls + calls_in (ops ∷ left) ≡ calls + length ops + calls_in left = omega (arith, one_sum (λ (x : List Op). length x) ops left) in
+    let k : n + lines_in (ops ∷ left) ≡ n + 1 + length ops + lines_in left = omega (arith, sum_by-cons (λ (x : List Op). length x + 1) ops left) in
+    let c : calls + calls_in (ops ∷ left) ≡ calls + length ops + calls_in left = omega (arith, sum_by-cons (λ (x : List Op). length x) ops left) in
     let moved : front ++ ops ∷ left ≡ (front ++ ops ∷ []) ++ left = sym (append_assoc front (ops ∷ []) left) in
     let more : ReadsTo (n + 1 + length ops) (calling sections.Calls s regions (front ++ ops ∷ []) (calls + length ops)) later script =
     subst (λ (m : ℕ). ReadsTo (n + 1 + length ops) (calling sections.Calls s regions (front ++ ops ∷ []) (calls + length ops)) (sessions_text s m left ++ rest) script) number

@@ -1,32 +1,17 @@
 -- The lines of steps are read again.
-use Rattle.std.proofs.Common.{◌≡◌, ℕ, pos, ◌+◌, ◌^◌, ◌<◌, ◌≤◌, Bool, true, false, eqb, leb, List, [], ◌∷◌, ◌++◌, length, get_or, Ok, refl, sym, subst, arith, append_assoc}
-use Rattle.std.specs.Prelude.{codes, ◌||◌, ◌==◌, int_le}
-use Rattle.std.specs.List.{All, list_all, flat_map}
-use Rattle.std.specs.Fmt.{decimal}
-use Rattle.std.proofs.lemmas.Bool.{ne_eqb, leb-true, le-leb, lt-ltb}
-use Rattle.std.proofs.lemmas.Fmt.{decimal_nonempty, first_decimal}
-use Rattle.std.proofs.lemmas.List.{append-nil, length-append}
-use Rattle.std.proofs.lemmas.List.Concat.{flat_map-cons}
-use Rattle.std.proofs.lemmas.List.Elements.{All-head, All-tail}
-use Rattle.hx_lex.specs.Letters.{is_lower, is_digit, is_word_part, begins_with, IsWord}
-use Rattle.hx_lex.proofs.Lemmas.{and_left, and_right}
-use Rattle.hx_types.specs.declared.calls.Op.{Op}
-use Rattle.hx_types.specs.declared.messages.PostId.{PostId}
-use Rattle.hx_types.specs.declared.ids.Actor.{Actor}
-use Rattle.hx_types.specs.declared.ids.Actor.TheVariants.{Coordinator, Server, Session}
-use Rattle.hx_types.specs.declared.spaces.Space.{Space}
-use Rattle.hx_types.specs.declared.traces.Script.{Script}
-use Rattle.hx_types.specs.declared.traces.Step.{Step}
-use Rattle.hx_types.specs.declared.traces.Step.TheVariants.{Deliver, Tick, Halt}
+use Rattle.hx_law_texts.proofs.Vocabulary.{[], Actor, All, All-head, All-tail, and_left, and_right, append-nil, append_assoc, arith, begins_with, Bool, codes}
+use Rattle.hx_law_texts.proofs.Vocabulary.{Coordinator, decimal, decimal_nonempty, Deliver, eqb, false, flat_map, flat_map-cons, get_or, Halt, int_le}
+use Rattle.hx_law_texts.proofs.Vocabulary.{is_decimal, is_digit, is_lower, is_word_part, IsActorOf, IsPostName, IsWord, le-leb, leb, leb-true, length}
+use Rattle.hx_law_texts.proofs.Vocabulary.{length-append, line_of_toks, List, list_all, lt-ltb, ne_eqb, Number, Ok, on_lines_from, Op, pos, PostId, refl}
+use Rattle.hx_law_texts.proofs.Vocabulary.{Script, Server, Session, Sign, Space, Step, StepIsSayable, subst, sym, Tick, Tok, true, Word, ℕ, ◌++◌, ◌+◌, ◌<◌}
+use Rattle.hx_law_texts.proofs.Vocabulary.{◌==◌, ◌^◌, ◌||◌, ◌∷◌, ◌≡◌, ◌≤◌}
+use Rattle.std.proofs.lemmas.Fmt.{first_decimal}
 use Rattle.hx_print.specs.Printing.{actor_text, post_name, step_text, step_line as line_text}
-use Rattle.hx_script.specs.Actors.{is_decimal, actor}
+use Rattle.hx_script.specs.Actors.{actor}
 use Rattle.hx_script.specs.Calls.{deliver, tick, halt}
-use Rattle.hx_script.specs.Grammar.{line_of_toks, command, step_line}
+use Rattle.hx_script.specs.Grammar.{command, step_line}
 use Rattle.hx_script.specs.Readers.{natural, number_in}
 use Rattle.hx_script.specs.Texts.{read_lines}
-use Rattle.hx_script.specs.Toks.{Tok, Word, Number, Sign}
-use Rattle.hx_law_texts.specs.Again.{on_lines_from}
-use Rattle.hx_law_texts.specs.Sayable.{IsActorOf, IsPostName, StepIsSayable}
 use Rattle.hx_law_texts.proofs.Drafts.{stepping}
 use Rattle.hx_law_texts.proofs.Numbers.{number_says, decimal_digits, decimal_value}
 use Rattle.hx_law_texts.proofs.Reading.{ReadsTo, line_reads}
@@ -144,7 +129,7 @@ step_again n s regions sessions calls front (Halt a) f g is room = rw (lt-ltb (l
 abbrev pub with_steps : Space → List (List Op) → List (ℕ × Step) → Script
 with_steps s sessions steps = record { space = s; sessions = sessions; steps = steps }
 
-line_parts : (o n r : List ℕ) → (o ++ n) ++ r ≡ (o ++ []) ++ (n ++ r)
+pub line_parts : (o n r : List ℕ) → (o ++ n) ++ r ≡ (o ++ []) ++ (n ++ r)
 line_parts o n r = simp (append_assoc, append-nil)
 
 step_reads : (n : ℕ) (s : Space) (regions : ℕ) (sessions : List (List Op)) (calls : ℕ) (front : List (ℕ × Step)) (x : ℕ × Step) (rest : List ℕ) (script : Script) → s.servers ≤ 16 → length sessions ≤ 16 → StepIsSayable s.servers (length sessions) x.1 → length front < 65536

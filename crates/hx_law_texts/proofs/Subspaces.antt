@@ -1,30 +1,18 @@
 -- The lines of subspaces are read again.
-use Rattle.std.proofs.Common.{◌≡◌, ℕ, pos, ◌+◌, ◌*◌, ◌<◌, ◌≤◌, false, List, [], ◌∷◌, ◌++◌, map, length, Result, Ok, refl, sym, ap, ◌∙◌, subst, arith, append_assoc, inl, inr}
-use Rattle.std.specs.Prelude.{codes, ◌⊎◌}
-use Rattle.std.specs.List.{All, flat_map}
-use Rattle.std.specs.Fmt.{decimal}
+use Rattle.hx_law_texts.proofs.Vocabulary.{[], All, All-head, All-tail, AllDiffer, ap, append-nil, append_assoc, ArePart, arith, AxesDraft, Axis, begins_with}
+use Rattle.hx_law_texts.proofs.Vocabulary.{codes, decimal, declared_number, false, flat_map, flat_map-cons, has_axis, inl, inr, is_digit, IsSpace, le-leb}
+use Rattle.hx_law_texts.proofs.Vocabulary.{length, length-append, line_of_toks, List, lt-ltb, map, name_of, no_axes_yet, Number, Ok, pos, Reason, refl, repeat}
+use Rattle.hx_law_texts.proofs.Vocabulary.{Result, Script, Section, Sign, size_of, sizes_sum, Space, subst, sym, Tok, Word, ℕ, ◌*◌, ◌++◌, ◌+◌, ◌<◌, ◌∙◌, ◌∷◌}
+use Rattle.hx_law_texts.proofs.Vocabulary.{◌≡◌, ◌≤◌, ◌⊎◌}
 use Rattle.std.proofs.Math.Nat.{mul_assoc, one-le-mul, le-mul_of_pos_right}
-use Rattle.std.proofs.lemmas.Bool.{le-leb, lt-ltb}
-use Rattle.std.proofs.lemmas.List.{append-nil, length-append}
-use Rattle.std.proofs.lemmas.List.Concat.{flat_map-cons}
-use Rattle.std.proofs.lemmas.List.Elements.{All-head, All-tail}
-use Rattle.hx_lex.specs.Letters.{is_digit, begins_with}
-use Rattle.hx_types.specs.declared.spaces.Axis.{Axis}
-use Rattle.hx_types.specs.declared.spaces.Space.{Space}
-use Rattle.hx_types.specs.declared.traces.Script.{Script}
-use Rattle.hx_types.specs.Spaces.{AllDiffer, ArePart, IsSubspaceOf, IsSpace}
-use Rattle.hx_types.specs.Subspaces.{size_of, sizes_sum}
-use Rattle.hx_print.specs.Printing.{name_of, axis_text, next_axis_text, axes_text, subspace_line as subspace_text}
-use Rattle.hx_script.specs.declared.axes.AxesDraft.{AxesDraft}
-use Rattle.hx_script.specs.declared.draft.Section.{Section}
+use Rattle.hx_types.specs.Spaces.{IsSubspaceOf}
+use Rattle.hx_print.specs.Printing.{axis_text, next_axis_text, axes_text, subspace_line as subspace_text}
 use Rattle.hx_script.specs.declared.draft.Section.TheVariants as sections
-use Rattle.hx_script.specs.declared.errors.Reason.{Reason}
 use Rattle.hx_script.specs.declared.line.Until.TheVariants as until
-use Rattle.hx_script.specs.Axes.{has_axis, free_axis, parts, axis, next_axis, no_axes_yet, subspace}
-use Rattle.hx_script.specs.Grammar.{line_of_toks, command, subspace_line}
-use Rattle.hx_script.specs.Readers.{number_in, repeat}
-use Rattle.hx_script.specs.Toks.{Tok, Word, Number, Sign}
-use Rattle.hx_script.specs.Words.{named, declared_number}
+use Rattle.hx_script.specs.Axes.{free_axis, parts, axis, next_axis, subspace}
+use Rattle.hx_script.specs.Grammar.{command, subspace_line}
+use Rattle.hx_script.specs.Readers.{number_in}
+use Rattle.hx_script.specs.Words.{named}
 use Rattle.hx_script.proofs.Lemmas.{axes_go_on, axes_end}
 use Rattle.hx_law_texts.proofs.Drafts.{cutting}
 use Rattle.hx_law_texts.proofs.Names.{IsNamed, all_here, none_before, IsDeclaredAs, declared}

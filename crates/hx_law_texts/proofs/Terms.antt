@@ -1,29 +1,17 @@
 -- The terms of a search are read again.
-use Rattle.std.proofs.Common.{◌≡◌, ℕ, ℤ, Bool, true, false, List, [], ◌∷◌, ◌++◌, map, Ok, refl, sym, ap, ◌∙◌, subst, append_assoc}
-use Rattle.std.specs.Prelude.{codes, FitsSigned}
-use Rattle.std.specs.List.{All}
-use Rattle.std.specs.Fmt.{signed_decimal}
-use Rattle.std.specs.Int.{w64}
-use Rattle.std.proofs.lemmas.List.{append-nil}
-use Rattle.std.proofs.lemmas.List.Concat.{flat_map-cons}
-use Rattle.std.proofs.lemmas.List.Elements.{All-head, All-tail}
-use Rattle.hx_lex.specs.Letters.{is_digit, begins_with, IsWord}
-use Rattle.hx_types.specs.declared.spaces.Kind.{Kind}
+use Rattle.hx_law_texts.proofs.Vocabulary.{[], All, All-head, All-tail, AllDiffer, ap, append-nil, append_assoc, begins_with, Bool, codes, Equal, false}
+use Rattle.hx_law_texts.proofs.Vocabulary.{FitsSigned, flat_map-cons, has_term, is_at, is_digit, is_dots, is_of, IsSpace, IsWord, Kind, kind_at, List, map}
+use Rattle.hx_law_texts.proofs.Vocabulary.{name_of, Number, Ok, Range, refl, repeat, Sign, signed_decimal, Space, subst, sym, Term, TermIsSayable, terms_text}
+use Rattle.hx_law_texts.proofs.Vocabulary.{TermsFit, Tok, true, w64, Word, ℕ, ℤ, ◌++◌, ◌∙◌, ◌∷◌, ◌≡◌}
 use Rattle.hx_types.specs.declared.spaces.Kind.TheVariants as kinds
-use Rattle.hx_types.specs.declared.spaces.Space.{Space}
-use Rattle.hx_types.specs.declared.values.Term.{Term}
-use Rattle.hx_types.specs.declared.values.Term.TheVariants.{Equal, Range}
 use Rattle.hx_types.specs.declared.values.Value.TheVariants as values
-use Rattle.hx_types.specs.Spaces.{IsIntKind, AllDiffer, attribute_of, TermFits, TermsFit, IsSpace}
-use Rattle.hx_types.specs.Subspaces.{kind_at}
-use Rattle.hx_print.specs.Printing.{name_of, range_text, term_text, terms_text, named_text}
+use Rattle.hx_types.specs.Spaces.{IsIntKind, attribute_of, TermFits}
+use Rattle.hx_print.specs.Printing.{range_text, term_text, named_text}
 use Rattle.hx_script.specs.declared.line.Until.TheVariants as until
-use Rattle.hx_script.specs.Readers.{number_from, is_at, repeat}
-use Rattle.hx_script.specs.Toks.{Tok, Word, Number, Sign}
-use Rattle.hx_script.specs.Values.{is_of, value, has_term, free_known, range, is_dots, term, one_more_term}
+use Rattle.hx_script.specs.Readers.{number_from}
+use Rattle.hx_script.specs.Values.{value, free_known, range, term, one_more_term}
 use Rattle.hx_script.specs.Words.{named}
 use Rattle.hx_script.proofs.Lemmas.{terms_go_on, terms_end}
-use Rattle.hx_law_texts.specs.Sayable.{TermIsSayable}
 use Rattle.hx_law_texts.proofs.Assignments.{named_toks, named_says, of_kind}
 use Rattle.hx_law_texts.proofs.Attributes.{in_order}
 use Rattle.hx_law_texts.proofs.Names.{none_before, IsKnownAs, known}

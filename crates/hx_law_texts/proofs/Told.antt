@@ -1,16 +1,9 @@
 -- What a reader gives where it succeeds, on tokens whose texts and numbers can be said.
-use Rattle.std.proofs.Common.{◌≡◌, ℕ, ℤ, pos, negsuc, zero, suc, ◌^◌, ◌<◌, ◌≤◌, Bool, true, false, cond, List, [], ◌∷◌, length, Result, Ok, Err, refl, subst}
-use Rattle.std.specs.Prelude.{nat_le, int_le, FitsSigned}
-use Rattle.std.specs.Int.{w64}
-use Rattle.std.proofs.lemmas.Bool.{leb-true}
-use Rattle.hx_lex.specs.Spelling.{IsText}
-use Rattle.hx_lex.proofs.Lemmas.{and_right}
-use Rattle.hx_script.specs.declared.errors.Reason.{Reason}
-use Rattle.hx_script.specs.declared.errors.Reason.TheVariants.{Order, Bounds}
-use Rattle.hx_script.specs.declared.line.Until.{Until}
-use Rattle.hx_script.specs.Readers.{◌>>=◌, Reader, give, refuse, judged, check, word, number, text, end, sign, fixed, is_between, nat_of, number_in, natural, number_from, is_at, steps, repeat}
-use Rattle.hx_script.specs.Toks.{Tok, Word, Number, Text, Sign}
-use Rattle.hx_script.proofs.Lemmas.{on_ok_ok, ok_is}
+use Rattle.hx_law_texts.proofs.Vocabulary.{[], and_right, Bool, Bounds, cond, Err, false, FitsSigned, int_le, is_at, IsText, leb-true, length, List, nat_le}
+use Rattle.hx_law_texts.proofs.Vocabulary.{negsuc, Number, Ok, ok_is, on_ok_ok, Order, pos, Reader, Reason, refl, repeat, Result, Sign, subst, suc, Text, Tok}
+use Rattle.hx_law_texts.proofs.Vocabulary.{true, Until, w64, Word, zero, ℕ, ℤ, ◌<◌, ◌^◌, ◌∷◌, ◌≡◌, ◌≤◌}
+use Rattle.hx_script.specs.Readers.{◌>>=◌, give, refuse, judged, check, word, number, text, end, sign, fixed, is_between, nat_of, number_in, natural}
+use Rattle.hx_script.specs.Readers.{number_from, steps}
 
 -- each text is one, and each number is of 64 bits
 abbrev pub AllTold : List Tok → Type 0

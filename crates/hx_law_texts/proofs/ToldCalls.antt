@@ -1,45 +1,27 @@
 -- Calls and steps that are read can be said.
-use Rattle.std.proofs.Common.{◌≡◌, ℕ, ℤ, ◌-◌, ◌^◌, ◌<◌, ◌≤◌, Bool, true, false, cond, List, [], ◌∷◌, ◌++◌, length, Result, Ok, Err, refl, subst, arith}
-use Rattle.std.specs.Prelude.{◌&&◌, ◌==◌, codes, nat_le, not, FitsSigned}
-use Rattle.std.specs.List.{All}
-use Rattle.std.specs.Int.{w64}
-use Rattle.std.proofs.lemmas.Bool.{leb-true}
-use Rattle.std.proofs.lemmas.List.Elements.{All-nil, All-push}
+use Rattle.hx_law_texts.proofs.Vocabulary.{[], Actor, Add, All, All-nil, All-push, and_left, and_right, arith, Assign, Atomic, Bool, Bounds, call}
+use Rattle.hx_law_texts.proofs.Vocabulary.{CallIsSayable, CallWord, codes, cond, Coordinator, Cput, declared_number, Del, Deliver, Edit, edit_kind, EditKind}
+use Rattle.hx_law_texts.proofs.Vocabulary.{EditsAreSayable, Equal, Err, false, FitsSigned, Get, Halt, has_assign, has_edit, has_term, is_decimal, is_dots}
+use Rattle.hx_law_texts.proofs.Vocabulary.{is_edit_of, is_of, is_short, IsActorOf, IsSayable, IsText, IsUpTo, Kind, kind_at, known_number, leb-true, length}
+use Rattle.hx_law_texts.proofs.Vocabulary.{Limit, List, may_name, nat_le, not, Number, Ok, ok_is, on_ok_ok, Order, Put, Range, Reason, refl, Result, Search}
+use Rattle.hx_law_texts.proofs.Vocabulary.{Server, Session, Sign, Space, step, StepIsSayable, StepWord, Stop, subst, Term, TermIsSayable, Text, Tick, Tok, true}
+use Rattle.hx_law_texts.proofs.Vocabulary.{Twice, Until, Value, ValuesAreSayable, w64, Word, ℕ, ℤ, ◌++◌, ◌-◌, ◌<◌, ◌==◌, ◌^◌, ◌∷◌, ◌≡◌, ◌≤◌}
+use Rattle.std.specs.Prelude.{◌&&◌}
 use Rattle.hx_lex.specs.Numbers.{value as value_of}
-use Rattle.hx_lex.specs.Spelling.{IsText}
-use Rattle.hx_lex.proofs.Lemmas.{and_left, and_right}
-use Rattle.hx_types.specs.declared.calls.Op.TheVariants.{Put, Get, Del, Cput, Search, Stop, Add, Atomic}
-use Rattle.hx_types.specs.declared.ids.Actor.{Actor}
-use Rattle.hx_types.specs.declared.ids.Actor.TheVariants.{Coordinator, Server, Session}
-use Rattle.hx_types.specs.declared.spaces.Kind.{Kind}
-use Rattle.hx_types.specs.declared.spaces.Space.{Space}
-use Rattle.hx_types.specs.declared.traces.Step.TheVariants.{Deliver, Tick, Halt}
-use Rattle.hx_types.specs.declared.values.Assign.{Assign}
-use Rattle.hx_types.specs.declared.values.Edit.{Edit}
-use Rattle.hx_types.specs.declared.values.EditKind.{EditKind}
-use Rattle.hx_types.specs.declared.values.Term.{Term}
-use Rattle.hx_types.specs.declared.values.Term.TheVariants.{Equal, Range}
-use Rattle.hx_types.specs.declared.values.Value.{Value}
 use Rattle.hx_types.specs.declared.values.Value.TheVariants as values
-use Rattle.hx_types.specs.Subspaces.{kind_at}
-use Rattle.hx_script.specs.declared.errors.Reason.{Reason}
-use Rattle.hx_script.specs.declared.errors.Reason.TheVariants.{Order, Twice, TypeOf, Bounds, Limit}
-use Rattle.hx_script.specs.declared.keyword.CallWord.{CallWord}
+use Rattle.hx_script.specs.declared.errors.Reason.TheVariants.{TypeOf}
 use Rattle.hx_script.specs.declared.keyword.CallWord.TheVariants as calls
-use Rattle.hx_script.specs.declared.keyword.StepWord.{StepWord}
 use Rattle.hx_script.specs.declared.keyword.StepWord.TheVariants as step_words
-use Rattle.hx_script.specs.declared.line.Until.{Until}
 use Rattle.hx_script.specs.declared.line.Until.TheVariants as until
-use Rattle.hx_script.specs.Actors.{is_decimal, number_word, actor_word, actor}
-use Rattle.hx_script.specs.Calls.{put, get, del, cput, search_call, stop, add, atomic, call, deliver, tick, halt, step}
-use Rattle.hx_script.specs.Edits.{edit_kind, edit_word, has_edit, unedited_attribute, is_edit_of, edit_value, edit, one_more_edit, some_edits}
+use Rattle.hx_script.specs.Actors.{number_word, actor_word, actor}
+use Rattle.hx_script.specs.Calls.{put, get, del, cput, search_call, stop, add, atomic, deliver, tick, halt}
+use Rattle.hx_script.specs.Edits.{edit_word, unedited_attribute, edit_value, edit, one_more_edit, some_edits}
 use Rattle.hx_script.specs.Readers.{on_ok}
-use Rattle.hx_script.specs.Toks.{Tok, Word, Number, Text, Sign}
-use Rattle.hx_script.specs.Values.{short_text, is_of, is_short, any_value, value, has_assign, free_attribute, assign, one_more, more_assigns, some_assigns, has_term, free_known, range, is_dots, range_or_equal, rest_of_term, term, one_more_term, all_terms}
-use Rattle.hx_script.specs.Words.{may_name, named, declared_number, known_number}
-use Rattle.hx_script.proofs.Lemmas.{on_ok_ok, ok_is}
-use Rattle.hx_law_texts.specs.Sayable.{IsSayable, ValuesAreSayable, EditsAreSayable, TermIsSayable, CallIsSayable, IsUpTo, IsActorOf, StepIsSayable}
-use Rattle.hx_law_texts.proofs.Told.{AllTold, Tells, Any, tells_then, tells_give, tells_check, tells_judged, tells_word, tells_text, tells_end, tells_sign, tells_fixed, tells_number_in, tells_natural, tells_number_from, tells_repeat}
+use Rattle.hx_script.specs.Values.{short_text, any_value, value, free_attribute, assign, one_more, more_assigns, some_assigns, free_known, range}
+use Rattle.hx_script.specs.Values.{range_or_equal, rest_of_term, term, one_more_term, all_terms}
+use Rattle.hx_script.specs.Words.{named}
+use Rattle.hx_law_texts.proofs.Told.{AllTold, Tells, Any, tells_then, tells_give, tells_check, tells_judged, tells_word, tells_text, tells_end, tells_sign}
+use Rattle.hx_law_texts.proofs.Told.{tells_fixed, tells_number_in, tells_natural, tells_number_from, tells_repeat}
 
 pub tells_named : Tells named Any
 unfolding named

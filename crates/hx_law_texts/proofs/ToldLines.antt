@@ -1,33 +1,19 @@
 -- Each line keeps that the draft can be said.
-use Rattle.std.proofs.Common.{◌≡◌, ℕ, ◌+◌, ◌-◌, ◌*◌, ◌≤◌, List, [], ◌∷◌, ◌++◌, length, Option, Some, Ok, refl}
-use Rattle.std.specs.Prelude.{codes, min, nat_le, nat_lt, not, FitsSigned}
-use Rattle.std.specs.List.{All}
-use Rattle.std.specs.Int.{w64}
-use Rattle.std.proofs.lemmas.List.Elements.{All-nil, All-cons, All-head, All-tail, All-push}
-use Rattle.hx_types.specs.declared.spaces.Attribute.{Attribute}
-use Rattle.hx_types.specs.declared.spaces.Axis.{Axis}
+use Rattle.hx_law_texts.proofs.Vocabulary.{[], All, All-cons, All-head, All-nil, All-push, All-tail, Attribute, AxesDraft, Axis, BoundsAreSayable}
+use Rattle.hx_law_texts.proofs.Vocabulary.{CallIsSayable, CallWord, codes, declared_number, Draft, FitsSigned, has_axis, Heading, heading_line, is_declared}
+use Rattle.hx_law_texts.proofs.Vocabulary.{Keyword, keyword_of, length, Limit, List, min, nat_le, nat_lt, no_axes_yet, not, Ok, Option, Order, push_to_last}
+use Rattle.hx_law_texts.proofs.Vocabulary.{Reader, refl, Section, Some, Space, Step, StepIsSayable, StepWord, Twice, w64, ℕ, ◌*◌, ◌++◌, ◌+◌, ◌-◌, ◌∷◌, ◌≡◌, ◌≤◌}
 use Rattle.hx_types.specs.declared.spaces.Kind.TheVariants as kinds
-use Rattle.hx_types.specs.declared.spaces.Space.{Space}
-use Rattle.hx_types.specs.declared.traces.Step.{Step}
-use Rattle.hx_script.specs.declared.axes.AxesDraft.{AxesDraft}
-use Rattle.hx_script.specs.declared.draft.Draft.{Draft}
-use Rattle.hx_script.specs.declared.draft.Section.{Section}
 use Rattle.hx_script.specs.declared.draft.Section.TheVariants as sections
-use Rattle.hx_script.specs.declared.errors.Reason.TheVariants.{Order, Twice, Limit}
-use Rattle.hx_script.specs.declared.keyword.CallWord.{CallWord}
-use Rattle.hx_script.specs.declared.keyword.Heading.{Heading}
 use Rattle.hx_script.specs.declared.keyword.Heading.TheVariants as headings
-use Rattle.hx_script.specs.declared.keyword.Keyword.{Keyword}
 use Rattle.hx_script.specs.declared.keyword.Keyword.TheVariants as keywords
-use Rattle.hx_script.specs.declared.keyword.StepWord.{StepWord}
 use Rattle.hx_script.specs.declared.line.Until.TheVariants as until
-use Rattle.hx_script.specs.Axes.{has_axis, free_axis, parts, axis, next_axis, no_axes_yet, subspace}
-use Rattle.hx_script.specs.Grammar.{hx_line, space_line, key_line, string_attribute, int_attribute, attribute_line, subspace_line, servers_line, tolerate_line, session_line, steps_line, push_to_last, call_line, step_line, heading_line, line_for, command}
-use Rattle.hx_script.specs.Keywords.{keyword_of}
-use Rattle.hx_script.specs.Readers.{Reader}
-use Rattle.hx_script.specs.Words.{name, new_name, is_declared, declared_number}
-use Rattle.hx_law_texts.specs.Sayable.{BoundsAreSayable, CallIsSayable, StepIsSayable}
-use Rattle.hx_law_texts.proofs.Told.{Tells, Any, tells_then, tells_give, tells_refuse, tells_check, tells_judged, tells_word, tells_number, tells_number_in, tells_number_from, tells_sign, tells_end, tells_repeat}
+use Rattle.hx_script.specs.Axes.{free_axis, parts, axis, next_axis, subspace}
+use Rattle.hx_script.specs.Grammar.{hx_line, space_line, key_line, string_attribute, int_attribute, attribute_line, subspace_line, servers_line, tolerate_line}
+use Rattle.hx_script.specs.Grammar.{session_line, steps_line, call_line, step_line, line_for, command}
+use Rattle.hx_script.specs.Words.{name, new_name}
+use Rattle.hx_law_texts.proofs.Told.{Tells, Any, tells_then, tells_give, tells_refuse, tells_check, tells_judged, tells_word, tells_number, tells_number_in}
+use Rattle.hx_law_texts.proofs.Told.{tells_number_from, tells_sign, tells_end, tells_repeat}
 use Rattle.hx_law_texts.proofs.ToldCalls.{tells_named, tells_call, tells_step}
 
 -- ---- what holds of a draft

@@ -1,30 +1,16 @@
 -- What is read can be said.
-use Rattle.std.proofs.Common.{◌≡◌, ℕ, ◌+◌, cond, List, [], ◌∷◌, map, Result, Ok, Err, refl, subst}
-use Rattle.std.specs.List.{All, AllByRecursion}
-use Rattle.std.specs.Prelude.{slice_range}
-use Rattle.std.proofs.lemmas.List.Elements.{All-nil}
-use Rattle.hx_lex.specs.declared.errors.LexError.{LexError}
-use Rattle.hx_lex.specs.declared.token.Token.{Token}
-use Rattle.hx_lex.specs.declared.token.TokenKind.{TokenKind}
+use Rattle.hx_law_texts.proofs.Vocabulary.{[], All, All-nil, Attribute, BoundsAreSayable, CallIsSayable, cond, Draft, empty_draft, Err, IsSayableScript}
+use Rattle.hx_law_texts.proofs.Vocabulary.{LexError, line_of, line_of_toks, lines_of, List, map, meaning, Ok, ok_is, on_ok_ok, Order, Reason, refl, Result}
+use Rattle.hx_law_texts.proofs.Vocabulary.{Script, script_of, ScriptError, Section, slice_range, Step, StepIsSayable, subst, Tok, tok_of, Token, TokenKind}
+use Rattle.hx_law_texts.proofs.Vocabulary.{tokens_of, toks_from, ℕ, ◌+◌, ◌∷◌, ◌≡◌}
+use Rattle.std.specs.List.{AllByRecursion}
 use Rattle.hx_lex.specs.declared.token.TokenKind.TheVariants as token_kinds
-use Rattle.hx_lex.specs.Lines.{tokens_of}
 use Rattle.hx_lex.specs.Spelling.{IsSpelled, IsTokenOf}
 use Rattle.hx_lex.proofs.Lemmas.{tokens_spelled}
-use Rattle.hx_types.specs.declared.spaces.Attribute.{Attribute}
-use Rattle.hx_types.specs.declared.traces.Script.{Script}
-use Rattle.hx_types.specs.declared.traces.Step.{Step}
-use Rattle.hx_script.specs.declared.draft.Draft.{Draft}
-use Rattle.hx_script.specs.declared.draft.Section.{Section}
 use Rattle.hx_script.specs.declared.draft.Section.TheVariants as sections
-use Rattle.hx_script.specs.declared.errors.Reason.{Reason}
-use Rattle.hx_script.specs.declared.errors.Reason.TheVariants.{Order}
-use Rattle.hx_script.specs.declared.errors.ScriptError.{ScriptError}
 use Rattle.hx_script.specs.declared.errors.ScriptError.TheVariants as errors
-use Rattle.hx_script.specs.Grammar.{command, toks_from, line_of_toks, line_of}
-use Rattle.hx_script.specs.Texts.{empty_draft, may_end, lines_of, at_line, read_lines, script_of}
-use Rattle.hx_script.specs.Toks.{Tok, tok_of, meaning}
-use Rattle.hx_script.proofs.Lemmas.{on_ok_ok, ok_is}
-use Rattle.hx_law_texts.specs.Sayable.{BoundsAreSayable, CallIsSayable, StepIsSayable, IsSayableScript}
+use Rattle.hx_script.specs.Grammar.{command}
+use Rattle.hx_script.specs.Texts.{may_end, at_line, read_lines}
 use Rattle.hx_law_texts.proofs.Told.{AllTold}
 use Rattle.hx_law_texts.proofs.ToldLines.{Said, tells_command}
 

@@ -1,20 +1,10 @@
 -- A whole script is read again.
-use Rattle.std.proofs.Common.{◌≡◌, ℕ, ◌+◌, ◌*◌, ◌≤◌, List, [], ◌∷◌, ◌++◌, length, Ok, refl, sym, ap, subst, arith, append_assoc, inl}
-use Rattle.std.specs.Prelude.{codes}
-use Rattle.std.specs.List.{All, flat_map}
-use Rattle.std.proofs.lemmas.List.Concat.{flat_map-cons}
-use Rattle.hx_types.specs.declared.spaces.Attribute.{Attribute}
-use Rattle.hx_types.specs.declared.spaces.Space.{Space}
-use Rattle.hx_types.specs.declared.traces.Script.{Script}
-use Rattle.hx_types.specs.declared.traces.Step.{Step}
-use Rattle.hx_types.specs.Fitting.{IsScript}
-use Rattle.hx_types.specs.Spaces.{IsSpace}
-use Rattle.hx_types.specs.Subspaces.{region_count, sizes_sum}
-use Rattle.hx_print.specs.Printing.{space_line, key_line, attribute_line, subspace_line, servers_line, tolerate_line, space_text, sessions_text, step_line, steps_text, script_text}
+use Rattle.hx_law_texts.proofs.Vocabulary.{[], All, ap, append_assoc, arith, Attribute, BoundsAreSayable, codes, empty_draft, first_step_line, flat_map}
+use Rattle.hx_law_texts.proofs.Vocabulary.{flat_map-cons, inl, IsSayableScript, IsScript, IsSpace, length, List, Ok, on_lines_from, on_printed_lines, refl}
+use Rattle.hx_law_texts.proofs.Vocabulary.{region_count, Script, script_of, sizes_sum, Space, Step, subst, sym, ℕ, ◌*◌, ◌++◌, ◌+◌, ◌∷◌, ◌≡◌, ◌≤◌}
+use Rattle.hx_print.specs.Printing.{space_line, key_line, attribute_line, subspace_line, servers_line, tolerate_line, space_text, sessions_text, step_line}
+use Rattle.hx_print.specs.Printing.{steps_text, script_text}
 use Rattle.hx_script.specs.declared.draft.Section.TheVariants as sections
-use Rattle.hx_script.specs.Texts.{empty_draft, script_of}
-use Rattle.hx_law_texts.specs.Again.{on_lines_from, first_step_line, on_printed_lines}
-use Rattle.hx_law_texts.specs.Sayable.{BoundsAreSayable, IsSayableScript}
 use Rattle.hx_law_texts.proofs.Attributes.{attributes_read}
 use Rattle.hx_law_texts.proofs.Drafts.{calling}
 use Rattle.hx_law_texts.proofs.Heads.{hx_reads, space_reads, key_reads, servers_read, tolerate_reads}

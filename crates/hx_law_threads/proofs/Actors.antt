@@ -1,8 +1,5 @@
 -- When two actors are the same.
-use Rattle.std.proofs.Common.{◌≡◌, true, refl}
-use Rattle.std.proofs.lemmas.Bool.{eqb-true, eq-eqb}
-use Rattle.hx_model.specs.Types.{Actor, Coordinator, Server, Session}
-use Rattle.hx_types.specs.Words.{same_actor}
+use Rattle.hx_law_lemmas.proofs.Lemmas.Vocabulary.{Actor, Coordinator, eq-eqb, eqb-true, refl, same_actor, Server, Session, true, ◌≡◌}
 
 pub same_actor_is : (a b : Actor) → same_actor a b ≡ true → a ≡ b
 same_actor_is Coordinator Coordinator e = refl

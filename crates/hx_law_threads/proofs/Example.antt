@@ -1,13 +1,9 @@
 -- A run with a retry, by computing: a session's call is lost, and once nothing else is left the session sends it again.
-use Rattle.std.proofs.Common.{◌≡◌, ◌≢◌, ℕ, ◌+◌, ◌≤◌, ⊎_elim, inl, inr, true, false, eqb, nat_lt, List, [], ◌∷◌, length, map, Some, refl, ap, sym, ◌∙◌, subst, arith}
-use Rattle.std.specs.Prelude.{◌&&◌, nat_le}
-use Rattle.std.proofs.lemmas.Bool.{and_parts, cond_both, eqb-true, false≢true, leb-true, ltb-true}
-use Rattle.std.proofs.lemmas.Bool.Decides.{eqb_tells}
-use Rattle.hx_model.specs.Types.{Actor, Coordinator, Entry, Get, PostId, Script, Server, Session, Space}
+use Rattle.hx_law_lemmas.proofs.Lemmas.Vocabulary.{[], Actor, and_parts, ap, arith, cond_both, Coordinator, entries_of, Entry, entry_at, eqb, eqb-true}
+use Rattle.hx_law_lemmas.proofs.Lemmas.Vocabulary.{eqb_tells, false, false≢true, Get, inl, inr, IsIn, IsRun, leb-true, length, List, ltb-true, map, nat_le}
+use Rattle.hx_law_lemmas.proofs.Lemmas.Vocabulary.{nat_lt, PostId, refl, same_actor, Script, Server, Session, Some, Space, stepped, subst, sym, true, ℕ, ⊎_elim}
+use Rattle.hx_law_lemmas.proofs.Lemmas.Vocabulary.{◌&&◌, ◌+◌, ◌∙◌, ◌∷◌, ◌≡◌, ◌≢◌, ◌≤◌}
 use Rattle.hx_types.specs.declared.traces.Step.TheVariants as a_step
-use Rattle.hx_types.specs.Words.{same_actor, IsIn}
-use Rattle.hx_model.specs.Runs.{entry_at, IsRun}
-use Rattle.hx_model.specs.Schedule.{entries_of, stepped}
 use Rattle.hx_clock.specs.Views.{one}
 use Rattle.hx_law_threads.specs.Own.{own_entries}
 use Rattle.hx_law_threads.specs.Cuts.{delivered_at, delivered_twice, is_retry, is_waiting, open_at, own_at, posted_at, whole_of, Cut, HasCallUnderWay}

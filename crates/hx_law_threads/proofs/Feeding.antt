@@ -1,15 +1,10 @@
 -- An actor by itself keeps what every run keeps of it.
-use Rattle.std.proofs.Common.{◌≡◌, ℕ, ◌+◌, ◌≤◌, ⊎_elim, true, List, [], ◌∷◌, length, refl, ap, sym, subst, ◌∙◌, arith, ltb, leb}
-use Rattle.std.proofs.lemmas.Bool.{and_parts, cond-true, eq-eqb, leb-true, ltb-true}
-use Rattle.hx_model.specs.Types.{Actor, Coordinator, Deliver, Input, Message, Post, PostId, Script, Server, ServerId, Session, SessionId}
-use Rattle.hx_types.specs.Fitting.{IsScript}
-use Rattle.hx_types.specs.Posts.{IsSessionOf, IsSoundPost}
-use Rattle.hx_types.specs.Spaces.{IsServerOf}
-use Rattle.hx_types.specs.Words.{post, same_server, same_session, IsIn}
-use Rattle.hx_model.specs.CoordinatorSteps.{CoordinatorState, coordinator_step}
-use Rattle.hx_model.specs.ServerSteps.{ServerState, server_step}
-use Rattle.hx_model.specs.SessionSteps.{SessionState, session_step}
-use Rattle.hx_model.specs.Runs.{Output, coordinator_after, coordinator_of, is_actor, server_after, server_of, session_after, session_of}
+use Rattle.hx_law_lemmas.proofs.Lemmas.Vocabulary.{[], Actor, and_parts, ap, arith, cond-true, Coordinator, coordinator_after, coordinator_of, coordinator_step}
+use Rattle.hx_law_lemmas.proofs.Lemmas.Vocabulary.{CoordinatorState, Deliver, eq-eqb, Input, is_actor, IsIn, IsScript, IsServerOf, IsSessionOf, IsSoundPost}
+use Rattle.hx_law_lemmas.proofs.Lemmas.Vocabulary.{leb, leb-true, length, List, ltb, ltb-true, Message, Output, Post, post, PostId, refl, same_server}
+use Rattle.hx_law_lemmas.proofs.Lemmas.Vocabulary.{same_session, Script, Server, server_after, server_of, server_step, ServerId, ServerState, Session}
+use Rattle.hx_law_lemmas.proofs.Lemmas.Vocabulary.{session_after, session_of, session_step, SessionId, SessionState, subst, sym, true, ℕ, ⊎_elim, ◌+◌, ◌∙◌, ◌∷◌}
+use Rattle.hx_law_lemmas.proofs.Lemmas.Vocabulary.{◌≡◌, ◌≤◌}
 use Rattle.hx_clock.specs.declared.parts.Stamped.{Stamped}
 use Rattle.hx_law_threads.specs.Own.{IsOwn}
 use Rattle.hx_law_posts.proofs.Lemmas.{kept-run, IsSoundServer, server-up, server-good, top-small}

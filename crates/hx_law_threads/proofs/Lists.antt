@@ -1,12 +1,7 @@
 -- Lists in reverse, filtered lists, and lists whose keys fall.
-use Rattle.std.proofs.Common.{◌≡◌, ℕ, zero, suc, ◌+◌, ◌<◌, ◌⊎◌, inl, inr, ⊎_elim, Bool, true, List, [], ◌∷◌, ◌++◌, map, length, refl, ap, sym, ◌∙◌, subst, arith}
-use Rattle.std.specs.Prelude.{reverse, IsPermutation, ⊤}
-use Rattle.std.specs.List.{filter, Contains, slice_index, slice_index_or}
-use Rattle.std.specs.List.Sorted.{IsStrictlyIncreasing}
-use Rattle.std.proofs.lemmas.Bool.{cond_both, true≢false}
-use Rattle.std.proofs.lemmas.List.{reverse-append}
-use Rattle.std.proofs.lemmas.List.Sorted.{Contains-permutation}
-use Rattle.hx_types.specs.Words.{IsIn, below}
+use Rattle.hx_law_lemmas.proofs.Lemmas.Vocabulary.{[], ap, arith, below, Bool, cond_both, Contains, Contains-permutation, filter, inl, inr, IsIn, IsPermutation}
+use Rattle.hx_law_lemmas.proofs.Lemmas.Vocabulary.{IsStrictlyIncreasing, length, List, map, refl, reverse, reverse-append, slice_index, slice_index_or, subst}
+use Rattle.hx_law_lemmas.proofs.Lemmas.Vocabulary.{suc, sym, true, true≢false, zero, ℕ, ⊎_elim, ⊤, ◌++◌, ◌+◌, ◌<◌, ◌∙◌, ◌∷◌, ◌≡◌, ◌⊎◌}
 use Rattle.hx_clock.proofs.Lemmas.{in_left, in_right}
 
 pub in_append : {A : Type 0} (xs ys : List A) (z : A) → IsIn z (xs ++ ys) → IsIn z xs ⊎ IsIn z ys

@@ -1,9 +1,6 @@
 -- What follows from how often each post was put.
-use Rattle.std.proofs.Common.{◌≡◌, ℕ, ◌+◌, ◌*◌, ◌≤◌, inl, inr, Bool, true, false, cond, eqb, List, [], ◌∷◌, length, refl, ap, sym, ◌∙◌, subst, arith}
-use Rattle.std.proofs.lemmas.Bool.{eq-eqb, eqb-true}
-use Rattle.hx_model.specs.Types.{Entry, PostId, Script}
-use Rattle.hx_types.specs.Words.{IsIn}
-use Rattle.hx_model.specs.Schedule.{same_name}
+use Rattle.hx_law_lemmas.proofs.Lemmas.Vocabulary.{[], ap, arith, Bool, cond, Entry, eq-eqb, eqb, eqb-true, false, inl, inr, IsIn, length, List, PostId, refl}
+use Rattle.hx_law_lemmas.proofs.Lemmas.Vocabulary.{same_name, Script, subst, sym, true, ℕ, ◌*◌, ◌+◌, ◌∙◌, ◌∷◌, ◌≡◌, ◌≤◌}
 use Rattle.hx_clock.specs.Views.{one, total}
 use Rattle.hx_clock.proofs.Lemmas.{each_in}
 use Rattle.hx_law_threads.specs.Cuts.{delivered_at, open_at, posted_at, times_named, whole_of, Cut}

@@ -1,14 +1,7 @@
 -- The pace of a trace is read in its parts.
-use Rattle.std.proofs.Math.Seq.{take-length}
-use Rattle.std.proofs.Common.{take, ◌≡◌, ◌≢◌, ℕ, ◌+◌, ◌≤◌, ◌⊎◌, inl, inr, ⊎_elim, Bool, true, false, cond, nat_lt, List, [], ◌∷◌, length, Some, refl, ap, sym, ◌∙◌, subst, arith}
-use Rattle.std.specs.Prelude.{reverse}
-use Rattle.std.specs.List.{AllByRecursion}
-use Rattle.std.proofs.lemmas.Bool.{cond_both, true≢false}
-use Rattle.std.proofs.lemmas.List.{length-reverse}
-use Rattle.hx_model.specs.Types.{Actor, Entry, Script, Session}
-use Rattle.hx_types.specs.Words.{same_actor, when_some, IsIn}
-use Rattle.hx_model.specs.Runs.{entry_at, session_of}
-use Rattle.hx_model.specs.Schedule.{entries_of}
+use Rattle.hx_law_lemmas.proofs.Lemmas.Vocabulary.{[], Actor, AllByRecursion, ap, arith, Bool, cond, cond_both, entries_of, Entry, entry_at, false, inl, inr}
+use Rattle.hx_law_lemmas.proofs.Lemmas.Vocabulary.{IsIn, length, length-reverse, List, nat_lt, refl, reverse, same_actor, Script, Session, session_of, Some}
+use Rattle.hx_law_lemmas.proofs.Lemmas.Vocabulary.{subst, sym, take, take-length, true, true≢false, when_some, ℕ, ⊎_elim, ◌+◌, ◌∙◌, ◌∷◌, ◌≡◌, ◌≢◌, ◌≤◌, ◌⊎◌}
 use Rattle.hx_clock.specs.declared.parts.Stamped.{Stamped}
 use Rattle.hx_clock.proofs.Lemmas.{each_in, each_map}
 use Rattle.hx_law_threads.specs.Own.{own_entries, past_of, IsOwn}

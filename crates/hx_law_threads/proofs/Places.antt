@@ -1,13 +1,9 @@
 -- Merged whole parts: each entry stands at the place of its stamp, and its posts are found by its number.
-use Rattle.std.proofs.Common.{◌≡◌, ℕ, zero, suc, ◌+◌, ◌<◌, inl, inr, eqb, List, [], ◌∷◌, map, length, Some, None, slice_get, refl, ap, sym, ◌∙◌, subst, arith, length-append}
-use Rattle.std.specs.Prelude.{reverse, IsPermutation, ⊤}
-use Rattle.std.proofs.lemmas.Bool.{cond_both, eqb-true, eq-eqb, true≢false}
-use Rattle.std.proofs.lemmas.List.{map-id, reverse-reverse}
-use Rattle.std.specs.List.Sorted.{IsStrictlyIncreasing}
-use Rattle.std.proofs.lemmas.List.Sorted.{IsPermutation-sym, IsPermutation-map}
-use Rattle.hx_model.specs.Types.{Entry, Post, PostId}
-use Rattle.hx_types.specs.Words.{below, when_some, IsIn}
-use Rattle.hx_model.specs.Runs.{entry_at, post_named}
+use Rattle.hx_law_lemmas.proofs.Lemmas.Vocabulary.{[], ap, arith, below, cond_both, Entry, entry_at, eq-eqb, eqb, eqb-true, inl, inr, IsIn, IsPermutation}
+use Rattle.hx_law_lemmas.proofs.Lemmas.Vocabulary.{IsPermutation-map, IsPermutation-sym, IsStrictlyIncreasing, length, length-append, List, map, map-id, None}
+use Rattle.hx_law_lemmas.proofs.Lemmas.Vocabulary.{Post, post_named, PostId, refl, reverse, reverse-reverse, Some, subst, suc, sym, true≢false, when_some, zero}
+use Rattle.hx_law_lemmas.proofs.Lemmas.Vocabulary.{ℕ, ⊤, ◌+◌, ◌<◌, ◌∙◌, ◌∷◌, ◌≡◌}
+use Rattle.std.proofs.Common.{slice_get}
 use Rattle.hx_clock.specs.declared.parts.Stamped.{Stamped}
 use Rattle.hx_clock.specs.Parts.{all_of, stamps_of, HasStampsBelow, Posted}
 use Rattle.hx_law_threads.specs.Merged.{AreWholeParts, HasStampsAsPlaces, IsMerged}

@@ -1,10 +1,7 @@
 -- The first entries of an actor, and its next one, are those of its part.
-use Rattle.std.proofs.Common.{◌≡◌, ℕ, zero, suc, ◌+◌, ◌≤◌, cond, eqb, nat_lt, List, [], ◌∷◌, ◌++◌, map, length, take, Some, None, refl, ap, sym, ◌∙◌, arith, length-append}
-use Rattle.std.specs.Prelude.{reverse}
-use Rattle.std.specs.List.{AllByRecursion}
-use Rattle.std.proofs.lemmas.Bool.{cond_both, eq-eqb, eqb-true, ltb-false, ltb-true, true≢false}
-use Rattle.hx_model.specs.Types.{Entry}
-use Rattle.hx_model.specs.Runs.{entry_at}
+use Rattle.hx_law_lemmas.proofs.Lemmas.Vocabulary.{[], AllByRecursion, ap, arith, cond, cond_both, Entry, entry_at, eq-eqb, eqb, eqb-true, length}
+use Rattle.hx_law_lemmas.proofs.Lemmas.Vocabulary.{length-append, List, ltb-false, ltb-true, map, nat_lt, None, refl, reverse, Some, suc, sym, take, true≢false}
+use Rattle.hx_law_lemmas.proofs.Lemmas.Vocabulary.{zero, ℕ, ◌++◌, ◌+◌, ◌∙◌, ◌∷◌, ◌≡◌, ◌≤◌}
 use Rattle.hx_clock.specs.declared.parts.Stamped.{Stamped}
 use Rattle.hx_clock.proofs.Lemmas.{each_all, each_in}
 use Rattle.hx_law_threads.specs.Own.{own_entries, past_of}

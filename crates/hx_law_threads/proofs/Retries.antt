@@ -1,14 +1,10 @@
 -- An actor retries only where it waits.
-use Rattle.std.proofs.Common.{◌≡◌, ℕ, zero, suc, ◌+◌, ◌<◌, ◌≤◌, Bool, true, false, eqb, nat_lt, List, [], ◌∷◌, length, Option, Some, None, slice_get, refl, ap, sym, ◌∙◌, subst, arith}
-use Rattle.std.specs.Prelude.{not, ◌&&◌}
-use Rattle.std.specs.List.{list_any}
-use Rattle.std.proofs.lemmas.Bool.{and_from, and_parts, cond_both, eqb-true, le-ltb, lt-ltb, ltb-true, not-true, true≢false}
-use Rattle.hx_model.specs.Types.{Actor, Coordinator, Deliver, Entry, Halt, Input, Script, Server, Session, Space, Tick}
-use Rattle.hx_types.specs.Fitting.{numbered}
-use Rattle.hx_types.specs.Words.{when_some}
-use Rattle.hx_model.specs.Runs.{entry_at, has_halted, made_of, does_something, session_of, IsRun, Output}
-use Rattle.hx_model.specs.Schedule.{is_idle}
-use Rattle.hx_model.specs.SessionSteps.{SessionState, begin, session_tick, staying}
+use Rattle.hx_law_lemmas.proofs.Lemmas.Vocabulary.{[], Actor, and_from, and_parts, ap, arith, begin, Bool, cond_both, Coordinator, Deliver, does_something}
+use Rattle.hx_law_lemmas.proofs.Lemmas.Vocabulary.{Entry, entry_at, eqb, eqb-true, false, Halt, has_halted, Input, is_idle, IsRun, le-ltb, length, List}
+use Rattle.hx_law_lemmas.proofs.Lemmas.Vocabulary.{list_any, lt-ltb, ltb-true, made_of, nat_lt, None, not, not-true, numbered, Option, Output, refl, Script}
+use Rattle.hx_law_lemmas.proofs.Lemmas.Vocabulary.{Server, Session, session_of, session_tick, SessionState, Some, Space, staying, subst, suc, sym, Tick, true}
+use Rattle.hx_law_lemmas.proofs.Lemmas.Vocabulary.{true≢false, when_some, zero, ℕ, ◌&&◌, ◌+◌, ◌<◌, ◌∙◌, ◌∷◌, ◌≡◌, ◌≤◌}
+use Rattle.std.proofs.Common.{slice_get}
 use Rattle.hx_law_threads.specs.Own.{own_entries, IsOwn, IsOwnStep}
 use Rattle.hx_law_threads.specs.Cuts.{first_entries, is_began, is_idle_actor, is_retry, is_tick, is_waiting, next_at, own_at, Cut}
 use Rattle.hx_law_threads.specs.Pacing.{retries_at}

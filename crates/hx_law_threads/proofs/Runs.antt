@@ -1,14 +1,9 @@
 -- The parts of all actors, merged, are a run.
-use Rattle.std.proofs.Common.{map, ◌≡◌, ℕ, ◌<◌, ◌≤◌, inl, inr, ⊎_elim, Bool, true, false, cond, List, [], ◌∷◌, Some, refl, ap, sym, ◌∙◌, subst, arith}
-use Rattle.std.specs.Prelude.{reverse}
-use Rattle.std.specs.List.{filter, AllByRecursion, IsDistinct}
-use Rattle.std.specs.List.Sorted.{IsStrictlyIncreasing}
-use Rattle.std.proofs.Math.Logic.{∥∥₁_elim, ∥∥₁_map}
-use Rattle.std.proofs.lemmas.Bool.{cond_both, true≢false}
-use Rattle.std.proofs.lemmas.List.Sorted.{IsPermutation-sym}
-use Rattle.hx_model.specs.Types.{Actor, Deliver, Entry, Halt, Input, Post, PostId, Script, Tick}
-use Rattle.hx_types.specs.Words.{same_actor, IsIn}
-use Rattle.hx_model.specs.Runs.{has_halted, is_actor, made_of, post_named, IsRun, IsStep, MayTake}
+use Rattle.std.specs.List.{IsDistinct}
+use Rattle.hx_law_lemmas.proofs.Lemmas.Vocabulary.{[], Actor, AllByRecursion, ap, arith, Bool, cond, cond_both, Deliver, Entry, false, filter, Halt, has_halted}
+use Rattle.hx_law_lemmas.proofs.Lemmas.Vocabulary.{inl, Input, inr, is_actor, IsIn, IsPermutation-sym, IsRun, IsStep, IsStrictlyIncreasing, List, made_of, map}
+use Rattle.hx_law_lemmas.proofs.Lemmas.Vocabulary.{MayTake, Post, post_named, PostId, refl, reverse, same_actor, Script, Some, subst, sym, Tick, true}
+use Rattle.hx_law_lemmas.proofs.Lemmas.Vocabulary.{true≢false, ℕ, ∥∥₁_elim, ∥∥₁_map, ⊎_elim, ◌<◌, ◌∙◌, ◌∷◌, ◌≡◌, ◌≤◌}
 use Rattle.hx_clock.specs.declared.parts.Stamped.{Stamped}
 use Rattle.hx_clock.specs.Parts.{all_of, stamps_of, DeliveryMeets, InputMeets, IsPostedBefore, Posted}
 use Rattle.hx_clock.proofs.Lemmas.{each_all, each_in, in_left, in_right, meets_more}
@@ -17,7 +12,8 @@ use Rattle.hx_law_threads.specs.Merged.{actors_in, parts_in, ActorPart, AreOwnPa
 use Rattle.hx_law_threads.specs.Laws.{IsRunOfParts}
 use Rattle.hx_law_threads.proofs.Actors.{same_actor_is, same_as_itself}
 use Rattle.hx_law_threads.proofs.States.{halted_own, made_own}
-use Rattle.hx_law_threads.proofs.Lists.{falls, filter_falls, in_append, in_filter, in_map, in_permuted, in_reverse, map_reverse, of_filter, of_map, of_reverse, same_falling}
+use Rattle.hx_law_threads.proofs.Lists.{falls, filter_falls, in_append, in_filter, in_map, in_permuted, in_reverse, map_reverse, of_filter, of_map, of_reverse}
+use Rattle.hx_law_threads.proofs.Lists.{same_falling}
 use Rattle.hx_law_threads.proofs.Sets.{posts_set}
 use Rattle.hx_law_threads.proofs.Places.{are_counted, counted_below, entries, post_found, AreCounted}
 

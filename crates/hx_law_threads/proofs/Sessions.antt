@@ -1,15 +1,12 @@
 -- A session's calls begin and end in its own entries, one after another.
-use Rattle.std.proofs.Common.{◌≡◌, ◌≢◌, ℕ, zero, suc, ◌+◌, ◌<◌, ◌≤◌, ◌⊎◌, inl, inr, ⊎_elim, Bool, true, false, cond, eqb, nat_lt, List, [], ◌∷◌, ◌++◌, length, Option, Some, None, slice_get, refl, ap, sym, ◌∙◌, subst, arith}
-use Rattle.std.specs.Prelude.{not, ◌&&◌, IsSome}
-use Rattle.std.proofs.lemmas.Bool.{and_from, cond_both, eq-eqb, eqb-true, ltb-false, or_left, true≢false}
-use Rattle.std.proofs.lemmas.Bool.Decides.{eqb_tells}
-use Rattle.hx_model.specs.Types.{Actor, Coordinator, Entry, Note, Script, Server, Session, SessionId}
+use Rattle.hx_law_lemmas.proofs.Lemmas.Vocabulary.{[], Actor, and_from, ap, arith, begin_of, begins_in, Bool, call_of, CallEnd, calls_of, cond, cond_both}
+use Rattle.hx_law_lemmas.proofs.Lemmas.Vocabulary.{Coordinator, ends_in, Entry, eq-eqb, eqb, eqb-true, eqb_tells, false, first_some, inl, inr, is_session}
+use Rattle.hx_law_lemmas.proofs.Lemmas.Vocabulary.{IsRun, IsSome, length, List, ltb-false, made_of, nat_lt, None, not, Note, note_of_end, numbered, Option}
+use Rattle.hx_law_lemmas.proofs.Lemmas.Vocabulary.{or_left, Output, refl, same_actor, Script, Server, Session, session_after, session_of, session_step}
+use Rattle.hx_law_lemmas.proofs.Lemmas.Vocabulary.{SessionId, SessionState, Some, subst, suc, sym, true, true≢false, zero, ℕ, ⊎_elim, ◌&&◌, ◌++◌, ◌+◌, ◌<◌, ◌∙◌}
+use Rattle.hx_law_lemmas.proofs.Lemmas.Vocabulary.{◌∷◌, ◌≡◌, ◌≢◌, ◌≤◌, ◌⊎◌}
+use Rattle.std.proofs.Common.{slice_get}
 use Rattle.hx_types.specs.declared.traces.Note.TheVariants as a_note
-use Rattle.hx_types.specs.Fitting.{call_of, calls_of, numbered}
-use Rattle.hx_types.specs.Words.{first_some, same_actor}
-use Rattle.hx_model.specs.Histories.{CallEnd, begin_of, begins_in, ends_in, is_session, note_of_end}
-use Rattle.hx_model.specs.Runs.{made_of, session_after, session_of, IsRun, Output}
-use Rattle.hx_model.specs.SessionSteps.{SessionState, session_step}
 use Rattle.hx_law_lemmas.proofs.Lemmas.{CallStop, began_notes, end_notes, goes_on, started, started_same, session_turn, all_notes}
 use Rattle.hx_law_threads.specs.Own.{IsOwn}
 use Rattle.hx_law_threads.specs.Calls.{caller_of, last_call, IsDone}

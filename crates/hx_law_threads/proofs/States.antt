@@ -1,12 +1,9 @@
 -- An actor's state after a trace, and what it makes there, is that after its own entries.
-use Rattle.std.proofs.Common.{◌≡◌, false, cond, List, [], ◌∷◌, refl, ap, sym, ◌∙◌, subst}
-use Rattle.std.proofs.lemmas.Bool.{cond_both}
-use Rattle.hx_model.specs.Types.{Actor, Coordinator, Deliver, Entry, Halt, Input, Note, Post, Script, Server, ServerId, Session, SessionId, Space, Tick}
-use Rattle.hx_types.specs.Words.{same_actor}
-use Rattle.hx_model.specs.CoordinatorSteps.{CoordinatorState, coordinator_step}
-use Rattle.hx_model.specs.ServerSteps.{ServerState, server_step}
-use Rattle.hx_model.specs.SessionSteps.{SessionState, session_step}
-use Rattle.hx_model.specs.Runs.{coordinator_after, coordinator_of, has_halted, made_of, server_after, server_of, session_after, session_of, IsRun, IsStep, Output, MayTake}
+use Rattle.hx_law_lemmas.proofs.Lemmas.Vocabulary.{[], Actor, ap, cond, cond_both, Coordinator, coordinator_after, coordinator_of, coordinator_step}
+use Rattle.hx_law_lemmas.proofs.Lemmas.Vocabulary.{CoordinatorState, Deliver, Entry, false, Halt, has_halted, Input, IsRun, IsStep, List, made_of, MayTake}
+use Rattle.hx_law_lemmas.proofs.Lemmas.Vocabulary.{Note, Output, Post, refl, same_actor, Script, Server, server_after, server_of, server_step, ServerId}
+use Rattle.hx_law_lemmas.proofs.Lemmas.Vocabulary.{ServerState, Session, session_after, session_of, session_step, SessionId, SessionState, Space, subst, sym}
+use Rattle.hx_law_lemmas.proofs.Lemmas.Vocabulary.{Tick, ◌∙◌, ◌∷◌, ◌≡◌}
 use Rattle.hx_law_threads.specs.Own.{own_entries, IsOwn, IsOwnStep, MayHalt}
 use Rattle.hx_law_threads.specs.Laws.{IsByOwnEntries}
 use Rattle.hx_law_threads.proofs.Actors.{same_actor_is}

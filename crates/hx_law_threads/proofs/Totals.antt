@@ -1,11 +1,8 @@
 -- The entries of a cut, counted part by part.
-use Rattle.std.proofs.Common.{◌≡◌, ℕ, zero, suc, ◌+◌, inl, inr, Bool, true, false, cond, nat_lt, List, [], ◌∷◌, ◌++◌, length, take, refl, ap, sym, ◌∙◌, subst, arith, length-append}
-use Rattle.std.specs.Prelude.{reverse}
 use Rattle.std.specs.List.{IsDistinct}
-use Rattle.std.proofs.lemmas.Bool.{cond_both, le-ltb, lt-ltb, ltb-false, ltb-true, true≢false}
-use Rattle.hx_model.specs.Types.{Actor, Entry, Script}
-use Rattle.hx_types.specs.Words.{same_actor, IsIn}
-use Rattle.hx_model.specs.Schedule.{entries_of}
+use Rattle.hx_law_lemmas.proofs.Lemmas.Vocabulary.{[], Actor, ap, arith, Bool, cond, cond_both, entries_of, Entry, false, inl, inr, IsIn, le-ltb, length}
+use Rattle.hx_law_lemmas.proofs.Lemmas.Vocabulary.{length-append, List, lt-ltb, ltb-false, ltb-true, nat_lt, refl, reverse, same_actor, Script, subst, suc, sym}
+use Rattle.hx_law_lemmas.proofs.Lemmas.Vocabulary.{take, true, true≢false, zero, ℕ, ◌++◌, ◌+◌, ◌∙◌, ◌∷◌, ◌≡◌}
 use Rattle.hx_clock.specs.declared.parts.Stamped.{Stamped}
 use Rattle.hx_clock.specs.Views.{total}
 use Rattle.hx_clock.proofs.Lemmas.{each_in}

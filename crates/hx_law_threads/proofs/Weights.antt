@@ -1,12 +1,7 @@
 -- What the posts of a cut weigh, how many are open, and that no name is of two.
-use Rattle.std.proofs.Common.{◌≡◌, ◌≢◌, ℕ, ◌+◌, ◌<◌, ◌≤◌, ⊎_elim, Bool, true, false, cond, eqb, List, [], ◌∷◌, ◌++◌, length, refl, ap, sym, ◌∙◌, arith}
-use Rattle.std.specs.Prelude.{not, ◌&&◌}
-use Rattle.std.specs.List.{filter}
-use Rattle.std.proofs.lemmas.Bool.{and_from, and_parts, cond_both, eq-eqb, eqb-true, true≢false}
-use Rattle.std.proofs.lemmas.Bool.Decides.{eqb_tells}
-use Rattle.hx_model.specs.Types.{Entry, Post, PostId, Script}
-use Rattle.hx_types.specs.Words.{provided, IsIn}
-use Rattle.hx_model.specs.Schedule.{names_from, same_name}
+use Rattle.hx_law_lemmas.proofs.Lemmas.Vocabulary.{[], and_from, and_parts, ap, arith, Bool, cond, cond_both, Entry, eq-eqb, eqb, eqb-true, eqb_tells, false}
+use Rattle.hx_law_lemmas.proofs.Lemmas.Vocabulary.{filter, IsIn, length, List, names_from, not, Post, PostId, provided, refl, same_name, Script, sym, true}
+use Rattle.hx_law_lemmas.proofs.Lemmas.Vocabulary.{true≢false, ℕ, ⊎_elim, ◌&&◌, ◌++◌, ◌+◌, ◌<◌, ◌∙◌, ◌∷◌, ◌≡◌, ◌≢◌, ◌≤◌}
 use Rattle.hx_clock.specs.Views.{one, total}
 use Rattle.hx_clock.proofs.Lemmas.{total-append}
 use Rattle.hx_law_threads.specs.Cuts.{delivered_at, delivered_by, is_in_cut, is_to_halted, open_at, posted_at, times_named, Cut}

@@ -1,10 +1,9 @@
 -- A slot shows, answers and decides the same without its past.
-use Rattle.hx_model.specs.Types.{RegionId}
-use Rattle.hx_model.specs.Slots.{KeyState}
-use Rattle.hx_law_folds.specs.Folding.{IsSlotOf, folded}
+use Rattle.hx_law_folds.proofs.Vocabulary.{folded, IsSlotOf, KeyState, RegionId}
 use Rattle.hx_law_folds.specs.Laws.{AnswerSame}
 use Rattle.hx_law_folds.proofs.Deciding.{decide-same}
-use Rattle.hx_law_folds.proofs.Shown.{ack-same, acknowledged-same, alike-folded, alike-show, is_pending-same, offer-same, offered-same, settled-same, stuck-same}
+use Rattle.hx_law_folds.proofs.Shown.{ack-same, acknowledged-same, alike-folded, alike-show, is_pending-same, offer-same, offered-same, settled-same}
+use Rattle.hx_law_folds.proofs.Shown.{stuck-same}
 use Rattle.hx_law_folds.proofs.Slots.{slot-folded}
 use Rattle.hx_law_folds.proofs.folds_show_same.Goals as goal
 

@@ -1,8 +1,5 @@
 -- What a slot without a past shows, answers and does is that of each slot for which it stands.
-use Rattle.std.proofs.Common.{◌∙◌}
-use Rattle.hx_model.specs.Types.{RegionId}
-use Rattle.hx_model.specs.Slots.{KeyState}
-use Rattle.hx_law_folds.specs.Folding.{StandsFor}
+use Rattle.hx_law_folds.proofs.Vocabulary.{KeyState, RegionId, StandsFor, ◌∙◌}
 use Rattle.hx_law_folds.specs.Laws.{Stand}
 use Rattle.hx_law_folds.proofs.Deciding.{decide-same}
 use Rattle.hx_law_folds.proofs.Shown.{ack-same, acknowledged-same, alike-show, is_pending-same, offer-same, offered-same, settled-same, stuck-same}

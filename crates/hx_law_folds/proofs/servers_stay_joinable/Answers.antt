@@ -1,5 +1,5 @@
 -- The slots of a server can be sent to a joiner.
-use Rattle.hx_types.specs.Subspaces.{is_key_region}
+use Rattle.hx_law_folds.proofs.Vocabulary.{is_key_region}
 use Rattle.hx_law_folds.proofs.Joinable.{can-join, joinable-stays, keys-differ, sent-ascends, sent-floors, start-joinable}
 use Rattle.hx_law_folds.proofs.Sound.{sound-joins}
 use Rattle.hx_law_folds.proofs.servers_stay_joinable.Goals as goal

@@ -1,4 +1,4 @@
-use Rattle.hx_script.proofs.Lemmas.{bundle_sound}
+use Rattle.hx_law_texts.proofs.Vocabulary.{bundle_sound}
 use Rattle.hx_law_texts.proofs.BundleOnly.{only_those_bundles}
 use Rattle.hx_law_texts.proofs.BundleTold.{bundle_told}
 use Rattle.hx_law_texts.proofs.BundleWhole.{bundle_reads_back}

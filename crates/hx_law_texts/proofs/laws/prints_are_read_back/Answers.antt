@@ -1,4 +1,4 @@
-use Rattle.hx_script.proofs.Lemmas.{text_sound}
+use Rattle.hx_law_texts.proofs.Vocabulary.{text_sound}
 use Rattle.hx_law_texts.proofs.Only.{only_those}
 use Rattle.hx_law_texts.proofs.ToldTexts.{text_told}
 use Rattle.hx_law_texts.proofs.Whole.{reads_back}
