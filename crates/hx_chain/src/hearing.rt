@@ -6,6 +6,7 @@ use hx_types::{Actor, Config, Hop, Places, RegionId, ServerId, Update};
 
 /// Whether a server's replica hears an update of a sender: the sender stands right before it in the
 /// update's chain.
+#[inline]
 pub fn hears_update(
     config: &Config,
     update: &Update,
@@ -20,6 +21,7 @@ pub fn hears_update(
 
 /// Whether a server's replica hears an acknowledgement of an update, of a sender for its replica of
 /// a region: that replica stands right after it in the update's chain.
+#[inline]
 pub fn hears_ack(
     config: &Config,
     update: &Update,
@@ -48,6 +50,7 @@ pub fn hears_snap(config: &Config, region: RegionId, server: ServerId, from: Act
 }
 
 /// Whether a hop goes to this actor.
+#[inline]
 fn goes_to(from: Actor, hop: Hop) -> bool
     ensures { result ≡ goes_to from hop }
 {
@@ -58,6 +61,7 @@ fn goes_to(from: Actor, hop: Hop) -> bool
 }
 
 /// Whether a hop goes to this actor, at a place of this region.
+#[inline]
 fn goes_to_at(places: &Places, region: RegionId, from: Actor, hop: Hop) -> bool
     ensures { result ≡ goes_to_at places.now region from hop }
 {

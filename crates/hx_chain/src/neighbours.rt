@@ -11,6 +11,7 @@ use hx_types::{Config, Hop, Member, Place, Places, RegionId, ServerId, Update};
 /// After the last member it is `End` where no place follows, and `Blocked` exactly where the next
 /// place's region is lost. A server that isn't a member of the place's region is told what follows
 /// the last member.
+#[inline]
 pub fn next(config: &Config, update: &Update, place: u32, server: ServerId) -> Hop
     requires { place < u32.MAX }
     ensures { result ≡ next_of config.now update.now.places place server }
@@ -32,6 +33,7 @@ pub fn next(config: &Config, update: &Update, place: u32, server: ServerId) -> H
 /// Before the first member it is `End` where no place stands before, and `Blocked` exactly where
 /// the region of the place before is lost. A server that isn't a member of the place's region is
 /// told what stands before the first member.
+#[inline]
 pub fn prev(config: &Config, update: &Update, place: u32, server: ServerId) -> Hop
     ensures { result ≡ prev_of config.now update.now.places place server }
 {
@@ -46,6 +48,7 @@ pub fn prev(config: &Config, update: &Update, place: u32, server: ServerId) -> H
 }
 
 /// The number of an update's place in a region, from 0, or `None` where it has no place there.
+#[inline]
 pub fn place_number(update: &Update, region: RegionId) -> Option<u32>
     requires { length update.now.places < 2 ^ 32 }
     ensures found { is_some result ≡ has_place region update.now }
@@ -74,6 +77,7 @@ pub fn region_at(places: &Places, place: u32) -> RegionId
 }
 
 /// The members of the region of a place.
+#[inline]
 fn members_at<'a>(config: &'a Config, places: &Places, place: u32) -> &'a [Member]
     ensures { result.now ≡ members_at config.now places.now place }
 {
@@ -83,6 +87,7 @@ fn members_at<'a>(config: &'a Config, places: &Places, place: u32) -> &'a [Membe
     }
 }
 
+#[inline]
 fn member_after(members: &[Member], server: ServerId) -> Option<ServerId>
     ensures { result ≡ member_after server members.now }
 {
@@ -99,6 +104,7 @@ fn member_after(members: &[Member], server: ServerId) -> Option<ServerId>
 
 /// The member right before a server in a list. Before the first there is none, and none before a
 /// server that isn't a member.
+#[inline]
 pub fn member_before(members: &[Member], server: ServerId) -> Option<ServerId>
     ensures { result ≡ member_before None server members.now }
 {
@@ -112,6 +118,7 @@ pub fn member_before(members: &[Member], server: ServerId) -> Option<ServerId>
     None
 }
 
+#[inline]
 fn last_member(members: &[Member]) -> Option<ServerId>
     ensures { result ≡ last_member None members.now }
 {
@@ -121,6 +128,7 @@ fn last_member(members: &[Member]) -> Option<ServerId>
     }
 }
 
+#[inline]
 fn hop_at(place: u32, server: Option<ServerId>) -> Hop
     ensures { result ≡ hop_at place server }
 {
@@ -131,6 +139,7 @@ fn hop_at(place: u32, server: Option<ServerId>) -> Hop
 }
 
 /// The first position of a place that follows.
+#[inline]
 fn enters(config: &Config, place: u32, after: Option<&Place>) -> Hop
     ensures { result ≡ enters config.now place (option_copied after.entry) }
 {
@@ -142,6 +151,7 @@ fn enters(config: &Config, place: u32, after: Option<&Place>) -> Hop
 }
 
 /// The last position of a place that stands before.
+#[inline]
 fn enters_last(config: &Config, place: u32, before: Option<&Place>) -> Hop
     ensures { result ≡ enters_last config.now place (option_copied before.entry) }
 {
@@ -152,6 +162,7 @@ fn enters_last(config: &Config, place: u32, before: Option<&Place>) -> Hop
     }
 }
 
+#[inline]
 fn preceding_place(places: &Places, place: u32) -> Option<&Place>
     ensures { option_copied result ≡ preceding_place places.now place }
 {

@@ -1,7 +1,8 @@
 -- Rows of a server's table, as what is made of a slot.
-use Rattle.std.proofs.Common.{◌≡◌, ℕ, ◌+◌, ◌≤◌, true, false, not, cond, ◌==◌, Bool, List, [], ◌∷◌, ◌++◌, drop, length, take, None, Some, refl, ap, sym, ◌∙◌, arith}
-use Rattle.std.specs.List.{find, flat_map, list_any, slice_get}
-use Rattle.std.proofs.lemmas.Bool.{cond-false, cond-true}
+use Rattle.std.proofs.Common.{◌≡◌, ℕ, ◌+◌, ◌≤◌, true, false, not, ◌&&◌, ◌||◌, cond, nat_lt, ◌==◌, Bool, List, [], ◌∷◌, ◌++◌, append-nil, drop, length, take, None, Some, refl, ap, sym, ◌∙◌, arith}
+use Rattle.std.specs.List.{filter, find, flat_map, list_any, slice_get}
+use Rattle.std.proofs.lemmas.Bool.{cond-false, cond-true, eq-eqb, eqb-true, false≢true, le-ltb}
+use Rattle.std.proofs.lemmas.Option.{same_Some}
 use Rattle.std.proofs.lemmas.List.{drop_all}
 use Rattle.hx_model.specs.Types.{Post, Update, Version}
 use Rattle.hx_types.specs.declared.outcomes.Acked.TheVariants as an_ack
@@ -72,3 +73,36 @@ found_later v us i u at out before = sym (cond-false (has_number v u) (Some u) (
 -- there is none
 pub found_none : (v : ℕ) (us : List Update) (i : ℕ) → length us ≤ i → find (has_number v) (drop i us) ≡ find (has_number v) us → None ≡ find (has_number v) us
 found_none v us i l before = ap (find (has_number v)) (sym (drop_all i us l)) ∙ before
+
+-- an update that is found is the one that is looked at, of that number
+found_one : (v : ℕ) (u x : Update) (b : Bool) → cond b (Some x) None ≡ Some u → (b ≡ true) × (x ≡ u)
+found_one v u x true e = (refl, same_Some x u e)
+found_one v u x false e = absurd cc
+
+-- the only pending update is committed where it is acknowledged
+pub ack_alone : (context : ModelContext) (s : KeyState) (v : ℕ) (u : Update) → length (pending_of s) ≡ 1 → find (has_number v) (pending_of s) ≡ Some u
+    → told_of context u ≡ (ack_step context s v).posts
+ack_alone context s v u one found = by (pending_of s) one found
+  where
+    acks : List ℕ
+    acks = (moved (Acknowledge v) s).acked
+
+    told : (x : Update) (p w q : Bool) → p ≡ true → w ≡ false → q ≡ true
+        → told_of context x ≡ flat_map (move_posts context) (provided p (Acknowledge v ∷ provided (not w) (provided q (Commit x ∷ []))))
+    told x true false true a b c = sym (append-nil (told_of context x))
+    told x false w q a b c = absurd (false≢true a)
+    told x true true q a b c = absurd (false≢true (sym b))
+    told x true false false a b c = absurd (false≢true c)
+
+    by : (us : List Update) → length us ≡ 1 → find (has_number v) us ≡ Some u
+        → told_of context u ≡ flat_map (move_posts context) (provided (list_any (has_number v) us) (Acknowledge v ∷ provided (not (waits_below s.acked v us)) (commits acks us)))
+    by [] n e = absurd cc
+    by (x ∷ []) n e =
+        let is = found_one v u x (has_number v x) e in
+        let same : x.version.0 ≡ v = eqb-true x.version.0 v is.0 in
+        ap (told_of context) (sym is.1)
+        ∙ told x (has_number v x || false) (nat_lt x.version.0 v && not (list_any (λ w. w == x.version.0) s.acked) || false) (list_any (λ w. w == x.version.0) acks)
+        (ap (λ b. b || false) is.0)
+        (ap (λ b. b && not (list_any (λ w. w == x.version.0) s.acked) || false) (le-ltb x.version.0 v (omega (arith, same))))
+        (ap (λ b. b || list_any (λ w. w == x.version.0) (filter (λ w. not (w == v)) s.acked)) (eq-eqb v x.version.0 (sym same)))
+    by (x ∷ y ∷ rest) n e = absurd (omega (arith, n))

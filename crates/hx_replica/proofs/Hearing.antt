@@ -184,6 +184,13 @@ heard_there config g s from u a b place found answer first second at is so =
     ap (λ (n : ℕ). hears_update config u n s from) (sym (at ∙ ap (λ (x : Update). place_number g x.places) first))
     ∙ ap (λ (x : Update). hears_update config x place s from) (sym second) ∙ sym is ∙ so
 
+-- and an acknowledgement
+pub ack_heard_there : (config : Config) (g : RegionId) (s : ServerId) (from : Actor) (by : RegionId) (u a b : Update) (place : ℕ) (found answer : Bool) → a ≡ u → b ≡ u
+    → place ≡ place_number g a.places → found ≡ hears_ack config b place s from by → found ≡ answer → hears_ack config u (place_number g u.places) s from by ≡ answer
+ack_heard_there config g s from by u a b place found answer first second at is so =
+    ap (λ (n : ℕ). hears_ack config u n s from by) (sym (at ∙ ap (λ (x : Update). place_number g x.places) first))
+    ∙ ap (λ (x : Update). hears_ack config x place s from by) (sym second) ∙ sym is ∙ so
+
 -- neither is noted
 quiet_if : (b : Bool) (step : SlotStep) → step.notes ≡ [] → notes_of (some_if b step) ≡ []
 quiet_if true step e = e

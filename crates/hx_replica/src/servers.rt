@@ -343,6 +343,7 @@ impl Server {
     }
 
     /// The server adopts a configuration, in which these are new replicas of its regions.
+    #[inline(never)]
     fn adopt(&mut self, config: Shared<Config>, replicas: Vec<Replica>)
         requires new { replicas.items ≡ map (new_replica self.old.space) (listed_regions config self.old.state.id) }
         requires bare { (s : ServerState) × (folded_server s ≡ lean_with_config self.old.space self.old.state config) }

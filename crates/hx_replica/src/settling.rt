@@ -11,6 +11,7 @@ use hx_slot::Slot;
 use hx_types::{Memory, Posts, Shared, Update, Version};
 use std::alloc::Global;
 
+#[inline]
 fn is_among(versions: &[Version], version: Version) -> bool
     ensures { result ≡ list_any (λ (v : Numbered). v.0 == version.0) versions.now }
 {
@@ -18,6 +19,7 @@ fn is_among(versions: &[Version], version: Version) -> bool
 }
 
 /// Whether a version is acknowledged, or one of those that are being acknowledged.
+#[inline(always)]
 pub fn is_settled(slot: &Slot, tail_versions: &[Version], version: Version) -> bool
     ensures { result ≡ settles slot.now.state.acked tail_versions.now version }
 {

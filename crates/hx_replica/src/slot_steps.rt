@@ -1,4 +1,4 @@
-ghost use Rattle.std.specs.Prelude.{◌≡◌, ◌≤◌, ◌<◌, ◌^◌, ◌++◌, ◌∷◌, [], IfOk, IfSome, OnOk, true, length};
+ghost use Rattle.std.specs.Prelude.{◌≡◌, ◌≤◌, ◌<◌, ◌^◌, ◌++◌, ◌∷◌, [], IfOk, IfSome, OnOk, Some, true, length};
 ghost use Rattle.std.specs.List.{All};
 ghost use Rattle.std.specs.Option.{option_copied};
 ghost use Rattle.hx_types.specs.Spaces.{IsSpace};
@@ -11,10 +11,10 @@ ghost use Rattle.hx_model.specs.ServerSteps.{ack_step, call_step, decided, get_s
 ghost use Rattle.hx_model.specs.Slots.{top_of};
 ghost use Rattle.hx_slot.specs.States.{HasFewPlaces, IsPlacedIn};
 ghost use Rattle.hx_replica.specs.declared.outputs.SlotChange.TheVariants.{Open};
-ghost use Rattle.hx_replica.specs.Outputs.{IsChangeOf, IsComing, IsLeading, IsMaybeChangeOf, IsSlotInput, accept_step, ack_heard, context_seen, hears_version, key_in, notes_of, posts_of, room_by, room_of, room_wanted, session_in, slot_step_of, update_heard};
+ghost use Rattle.hx_replica.specs.Outputs.{IsChangeOf, IsComing, IsLeading, IsMaybeChangeOf, IsSlotInput, accept_step, ack_heard, context_seen, key_in, notes_of, posts_of, room_by, room_of, room_wanted, session_in, slot_step_of, update_heard};
 
 use crate::accepting::accepted;
-use crate::contexts::{SlotContext, doubt, place_at, post_ack, reply};
+use crate::contexts::{SlotContext, doubt, place_at, post_ack, post_commit_at, reply};
 use crate::outputs::{SlotChange, slot_replies};
 use crate::settling::post_lowest_commits;
 use hx_chain::{decide, hears_ack, hears_update, stuck};
@@ -316,45 +316,42 @@ fn settle(
     ensures change { IfOk result (IsMaybeChangeOf context.now.region slot.now.state slot.now.state.base.key (ack_heard (context_seen context.now) slot.now.state from version.0 by)) }
     ensures room { IfOk result (λ change. room_wanted change ≡ 0) }
 {
-    if !is_heard(context, slot, from, version, by) {
+    let Some(update) = pending_with(slot, version) else {
+        return Ok(None);
+    };
+    let place = place_at(context, update);
+    if !hears_ack(context.config, update, place, context.server, from, by) {
         return Ok(None);
     }
-    let change = acknowledge(alloc, context, slot, version, posts)?;
+    let change = acknowledge(alloc, context, slot, version, update, place, posts)?;
     Ok(Some(change))
 }
 
-/// A version is acknowledged, and what can be committed is told of.
+/// A version is acknowledged, of which this is the pending update, with this place in the region of
+/// the context; and what can be committed is told of.
 #[inline(always)]
 fn acknowledge(
     alloc: Global,
     context: &SlotContext,
     slot: &Slot,
     version: Version,
+    update: &Update,
+    place: u32,
     posts: &mut Posts,
 ) -> Result<SlotChange, Memory>
-    requires { slot.now.region ≡ context.now.region }
+    requires region { slot.now.region ≡ context.now.region }
+    requires pending { pending_with version.0 slot.now.state ≡ Some update.now }
+    requires place { place ≡ place_number context.now.region update.now.places }
     ensures posts { OnOk result (posts.new ≡ posts.old ++ (ack_step (context_seen context.now) slot.now.state version.0).posts) }
     ensures change { IfOk result (IsChangeOf context.now.region slot.now.state slot.now.state.base.key (ack_step (context_seen context.now) slot.now.state version.0)) }
     ensures room { IfOk result (λ change. room_of change ≡ 0) }
 {
+    if slot.pending_count() == 1 {
+        post_commit_at(alloc, context, update, place, posts)?;
+        return Ok(SlotChange::Acknowledge { version });
+    }
     post_lowest_commits(alloc, context, slot, slot.would_commit(version), posts)?;
     Ok(SlotChange::Acknowledge { version })
-}
-
-/// Whether a slot hears the acknowledgement of a version: the version is pending, and the sender's
-/// replica of the region stands right after this one in the chain of the version's update.
-#[inline(always)]
-fn is_heard(context: &SlotContext, slot: &Slot, from: Actor, version: Version, by: RegionId) -> bool
-    requires { slot.now.region ≡ context.now.region }
-    ensures { result ≡ hears_version (context_seen context.now) from by (pending_with version.0 slot.now.state) }
-{
-    match pending_with(slot, version) {
-        Some(update) => {
-            let place = place_at(context, update);
-            hears_ack(context.config, update, place, context.server, from, by)
-        }
-        None => false,
-    }
 }
 
 /// The pending update of a version.

@@ -1,6 +1,6 @@
 -- The slot as contracts see it, without its past: what is known of it with its past holds of it too.
 use Rattle.hx_model.specs.Lines.{upto}
-use Rattle.std.proofs.Common.{◌≡◌, ℕ, ◌-◌, ◌+◌, ◌<◌, ◌≤◌, true, false, List, [], ◌∷◌, ◌++◌, Vec, map, length, take, get_or, set, None, ap, sym, ◌∙◌, subst, arith, not, eqb, leb, ltb}
+use Rattle.std.proofs.Common.{◌≡◌, ℕ, ◌-◌, ◌+◌, ◌<◌, ◌≤◌, true, false, List, [], ◌∷◌, ◌++◌, Vec, map, length, take, get_or, set, None, refl, ap, sym, ◌∙◌, subst, arith, not, eqb, leb, ltb}
 use Rattle.std.specs.List.{All, AllByRecursion, filter, list_any, remove}
 use Rattle.std.specs.Option.{IfSome}
 use Rattle.std.specs.declared.alloc.Global.{Global}
@@ -238,3 +238,11 @@ ack-settling g h s m new v e w q r n =
 -- what contracts see has no past
 pub seen-bare : (a : Inside) → folded a.region (seen a).state ≡ (seen a).state
 seen-bare a = folded-twice a.region (whole a).state
+
+-- where nothing can be committed, nothing changes
+no-moves : (ms : List Move) → length ms ≡ 0 → ms ≡ []
+no-moves [] e = refl
+no-moves (m ∷ ms) e = absurd (omega (arith, e))
+
+pub nothing-settled : (g : RegionId) (s : KeyState) → folded g s ≡ s → length (settled s) ≡ 0 → s ≡ folded g (moved_all (settled s) s)
+nothing-settled g s bare none = sym bare ∙ ap (λ (ms : List Move). folded g (moved_all ms s)) (sym (no-moves (settled s) none))

@@ -2,7 +2,7 @@
 use Rattle.std.proofs.Common.{◌≡◌, ℕ, zero, suc, ◌+◌, ◌<◌, ◌≤◌, true, false, not, ◌&&◌, ◌||◌, List, map, [], ◌∷◌, Vec, length, take, drop, set, get_or, Some, vec_capacity, vec_len, refl, ap, sym, ◌∙◌, subst, arith, eqb, ltb}
 use Rattle.std.specs.List.{AllByRecursion, AllWithin, filter, list_any, position}
 use Rattle.std.specs.declared.alloc.Global.{Global}
-use Rattle.std.proofs.lemmas.Bool.{cond-false, cond-true, eqb-true}
+use Rattle.std.proofs.lemmas.Bool.{cond_both, cond-false, cond-true, eqb-true}
 use Rattle.std.proofs.lemmas.List.Quantifiers.{position-Some}
 use Rattle.std.proofs.Math.Seq.{take-add}
 use Rattle.std.proofs.lemmas.List.{drop-drop, drop-set-add, get_or-drop, length-drop}
@@ -183,3 +183,10 @@ ack-kept s v e w = sym (cond-false (not (is_pending v s)) _ _ (ap not e) ∙ con
 
 pub ack-commits : (s : KeyState) (v n : ℕ) → is_pending v s ≡ true → waits_below s.acked v (pending_of s) ≡ false → n ≡ length (settled (moved (Acknowledge v) s)) → an_ack.Committed n ≡ ack_answer s v
 ack-commits s v n e w r = ap an_ack.Committed r ∙ sym (cond-false (not (is_pending v s)) _ _ (ap not e) ∙ cond-false (waits_below s.acked v (pending_of s)) _ _ w)
+
+-- the acknowledged updates at the front are some of them
+pub front-within : (ts : List AcceptedUpdate) → front_acked ts ≤ length ts
+front-within [] = omega arith
+front-within (t ∷ rest) =
+    let l = front-within rest in
+    cond_both t.acknowledged (suc (front_acked rest)) zero (λ n. n ≤ length (t ∷ rest)) (λ e. omega (arith, l)) (λ e. omega arith)

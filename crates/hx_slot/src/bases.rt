@@ -29,6 +29,7 @@ impl Base {
     /// Makes room for the marks and the touches of the updates of a line and of so many more, where
     /// they are kept: each brings a mark, and a touch for each of its places, of which it has at
     /// most 17. Most bring fewer, so the list of touches grows by doubling and not by just that room.
+    #[inline(always)]
     pub fn reserve(
         &mut self,
         kept: bool,

@@ -15,6 +15,7 @@ pub fn early_after(early: &[PlacedUpdate], top: Version) -> Option<usize>
 }
 
 /// Takes the updates of a version out.
+#[inline(always)]
 pub fn drop_version(early: &mut Vec<PlacedUpdate>, version: Version)
     ensures items { early.new.items ≡ filter (λ (p : PlacedUpdate). not (p.update.version.0 == version.0)) early.old.items }
     ensures len { vec_len early.new ≤ vec_len early.old }

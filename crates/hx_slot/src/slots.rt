@@ -526,6 +526,7 @@ impl Slot {
 
     /// Commits the lowest pending updates, as far as they are acknowledged, and gives how many. It
     /// takes no memory.
+    #[inline]
     pub fn settle(&mut self) -> u32
         ensures count { result ≡ length (settled self.old.state) }
         ensures state { self.new.state ≡ folded self.old.region (moved_all (settled self.old.state) self.old.state) }
@@ -536,11 +537,28 @@ impl Slot {
     {
         let pending = rest_of(self.accepted.as_slice(), self.committed);
         let count = acknowledged_front(pending);
+        if self.committed + count == 0 {
+            return 0;
+        }
+        self.commit(count);
+        count as u32
+    }
+
+    /// Commits so many of the lowest pending updates: all those up to the first that isn't
+    /// acknowledged. It takes no memory.
+    #[inline(never)]
+    fn commit(&mut self, count: usize)
+        requires { count ≡ length (settled self.old.state) }
+        ensures state { self.new.state ≡ folded self.old.region (moved_all (settled self.old.state) self.old.state) }
+        ensures region { self.new.region ≡ self.old.region }
+        ensures spare { self.old.spare ≤ self.new.spare }
+        ensures held { self.new.held ≤ self.old.held + count }
+    {
+        let pending = rest_of(self.accepted.as_slice(), self.committed);
         self.floor = last_version(self.floor, &pending[..count]);
         self.committed += count;
         self.acked = self.acked.above(&self.floor);
         self.fold();
-        count as u32
     }
 
     /// Forgets the acknowledgements of pending updates and all early updates, in place. It takes no

@@ -3,8 +3,17 @@ use Rattle.std.specs.List.{flat_map}
 use Rattle.hx_model.specs.Types.{Post}
 use Rattle.hx_model.specs.Slots.{pending_of}
 use Rattle.hx_replica.specs.Outputs.{context_seen, told_of}
-use Rattle.hx_replica.proofs.Acked.{ack_told, ack_within}
+use Rattle.hx_replica.proofs.Acked.{ack_alone, ack_told, ack_within}
 use Rattle.hx_replica.proofs.slot_steps.acknowledge.Goals as goal
+
+pub returns-then-pending_count-eq1-clause-posts : goal.returns-then-pending_count-eq1-clause-posts
+returns-then-pending_count-eq1-clause-posts c =
+    c.in_ok-post_commit_at.ensures
+    ∙ ap (λ (ps : List Post). c.args.posts.now ++ ps)
+    (
+    ack_alone (context_seen c.args.context.now) c.args.slot.now.state c.args.version.0 c.args.update.now (sym c.pending_count.ensures ∙ c.if-pending_count-eq1.true)
+    c.requires.pending
+    )
 
 pub post_lowest_commits-requires-clause-count : goal.post_lowest_commits-requires-clause-count
 post_lowest_commits-requires-clause-count c =
