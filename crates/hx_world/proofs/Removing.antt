@@ -1,5 +1,5 @@
 -- A name is taken out of ascending names where halving finds it.
-use Rattle.std.proofs.Common.{◌≡◌, ℕ, zero, suc, ◌<◌, ◌≤◌, inl, inr, true, false, not, List, [], ◌∷◌, length, drop, remove, Option, None, Some, IsSome, OnSome, refl, sym, ap, ◌∙◌, subst, arith, get_or}
+use Rattle.std.proofs.Common.{◌≡◌, ℕ, zero, suc, zero-add, suc-add, ◌+◌, ◌<◌, ◌≤◌, inl, inr, true, false, not, List, [], ◌∷◌, length, drop, remove, Some, refl, sym, ap, ◌∙◌, subst, arith, get_or}
 use Rattle.std.specs.Prelude.{slice_get}
 use Rattle.std.specs.List.Sorted.{IsPartitionedBy}
 use Rattle.std.proofs.lemmas.Bool.{cond-true, cond-false, cases_Bool, eqb-true, eq-eqb, ne_eqb, and_parts, and_left, and_right, false≢true}
@@ -69,6 +69,16 @@ removed (x ∷ rest) id (suc i) h e =
     ap (λ (l : List PostId). x ∷ l) (removed rest id i h.1 e)
     ∙ sym (cond-true (not (same_name x id)) (x ∷ names_but id rest) (names_but id rest) (ap not other))
 
+-- what is removed behind so many items is removed from those behind them
+pub drop_removed : (names : List PostId) (n i : ℕ) → drop n (remove names (n + i)) ≡ remove (drop n names) i
+drop_removed names zero i = rw zero-add refl
+drop_removed [] (suc n) i = rw suc-add (sym (none i))
+  where
+    none : (k : ℕ) → remove {X = PostId} [] k ≡ []
+    none zero = refl
+    none (suc k) = refl
+drop_removed (x ∷ rest) (suc n) i = rw suc-add (drop_removed rest n i)
+
 -- a name that stands where it would is the one that is looked for
 pub stands_there : (names : List PostId) (id : PostId) (i : ℕ) → when_some (slice_get names i) false (λ (x : PostId). same_name x id) ≡ true → slice_get names i ≡ Some id
 stands_there [] id i e = absurd (false≢true e)
@@ -103,8 +113,3 @@ differs (x ∷ rest) id (suc i) h low high e y (inr j) =
 pub absent : (names : List PostId) (id : PostId) (i : ℕ) → AreAscending names → LowerBefore id names i → HigherFrom id names i
     → when_some (slice_get names i) false (λ (x : PostId). same_name x id) ≡ false → names ≡ names_but id names
 absent names id i h low high e = sym (others_stay id names (differs names id i h low high e))
-
--- what holds of some holds where there is one
-pub for_some : {A : Type 0} (o : Option A) (P : Type 0) → OnSome o P → IsSome o → P
-for_some None P h k = absurd (false≢true k)
-for_some (Some x) P h k = h

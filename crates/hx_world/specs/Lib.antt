@@ -8,6 +8,7 @@ pub mod Invariant
 pub mod Lending
 pub mod Names
 pub mod Nexts
+pub mod Queues
 pub mod Servers
 pub mod Sessions
 pub mod Starting

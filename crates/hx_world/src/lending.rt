@@ -37,6 +37,17 @@ impl Lent {
     }
 }
 
+/// Lets go what a step would change and what it put into the lists that it was lent.
+#[cold]
+#[inline(never)]
+pub fn forget_change<T: Drop>(change: T, posts: &mut Posts, notes: &mut Notes)
+    ensures posts { posts.new ≡ [] }
+    ensures notes { notes.new ≡ [] }
+{
+    drop(change);
+    forget(posts, notes);
+}
+
 /// Lets go what a step put into the lists that it was lent.
 #[cold]
 #[inline(never)]

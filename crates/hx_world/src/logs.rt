@@ -1,6 +1,5 @@
 ghost use Rattle.std.specs.Prelude.{◌≡◌, [], ◌++◌, ◌∷◌, ◌<◌, ◌≤◌, ◌+◌, ◌^◌, IfOk, OnOk, length, reverse};
 ghost use Rattle.std.specs.Option.{option_copied};
-ghost use Rattle.std.specs.VecDeque.{deque_len, deque_capacity};
 ghost use Rattle.hx_model.specs.Runs.{MayTake, post_named};
 ghost use Rattle.hx_model.specs.Schedule.{without_delivered};
 ghost use Rattle.hx_trace.specs.Rooms.{IsRoomFor, LiesAt};
@@ -8,18 +7,17 @@ ghost use Rattle.hx_world.specs.Filing.{heard_entry, names_after, ticked_entry};
 ghost use Rattle.hx_world.specs.Names.{AreAscending};
 
 use crate::lending::Lent;
-use crate::waiting::{push_names, take_out};
+use crate::waiting::Queue;
 use hx_trace::{GrowingTrace, Trace};
 use hx_types::{Actor, Entry, Input, Memory, Notes, Post, PostId, Posts};
 use std::alloc::Global;
-use std::collections::VecDeque;
 
 /// The entries so far, and in ascending order the names of the posts that were never delivered;
 /// names of posts to halted servers may be left out.
 #[derive(Drop)]
 pub struct Log {
     pub trace: Trace,
-    pub waiting: VecDeque<PostId>,
+    pub waiting: Queue,
     pub lent: Lent,
 }
 
@@ -30,7 +28,7 @@ pub fn empty(alloc: Global) -> Log
 {
     Log {
         trace: Trace::new(alloc),
-        waiting: VecDeque::new(alloc),
+        waiting: Queue::new(alloc),
         lent: Lent::new(alloc),
     }
 }
@@ -56,13 +54,13 @@ fn number_of(posts: &Posts) -> Result<u32, Memory>
 /// Takes all memory for an entry: room at the end of the trace, and for the names of its posts.
 pub fn reserve_entry(
     trace: &mut GrowingTrace,
-    waiting: &mut VecDeque<PostId>,
+    waiting: &mut Queue,
     entry: &Entry,
 ) -> Result<(), Memory>
     ensures entries { trace.new.entries ≡ trace.old.entries }
     ensures room { OnOk result (IsRoomFor trace.new.room (length entry.now.outputs) (length entry.now.notes)) }
     ensures waiting { waiting.new.items ≡ waiting.old.items }
-    ensures names { OnOk result (deque_len waiting.new + length entry.now.outputs ≤ deque_capacity waiting.new) }
+    ensures names { OnOk result (length entry.now.outputs ≤ waiting.new.room) }
     ensures few { OnOk result (length entry.now.outputs < 2 ^ 32) }
 {
     reserve_lists(trace, waiting, &entry.outputs, &entry.notes)
@@ -73,7 +71,7 @@ pub fn reserve_entry(
 #[inline(always)]
 pub fn reserve_lists(
     trace: &mut GrowingTrace,
-    waiting: &mut VecDeque<PostId>,
+    waiting: &mut Queue,
     posts: &Posts,
     notes: &Notes,
 ) -> Result<(), Memory>
@@ -81,11 +79,11 @@ pub fn reserve_lists(
     ensures filed { trace.new.filed ≡ trace.old.filed }
     ensures room { OnOk result (IsRoomFor trace.new.room (length posts.now) (length notes.now)) }
     ensures waiting { waiting.new.items ≡ waiting.old.items }
-    ensures names { OnOk result (deque_len waiting.new + length posts.now ≤ deque_capacity waiting.new) }
+    ensures names { OnOk result (length posts.now ≤ waiting.new.room) }
     ensures few { OnOk result (length posts.now < 2 ^ 32) }
 {
     let number = number_of(posts)?;
-    waiting.reserve(number as usize)?;
+    waiting.reserve(number)?;
     trace.reserve(posts.len(), notes.len())
 }
 
@@ -95,7 +93,7 @@ pub fn reserve_lists(
 #[inline(always)]
 pub fn append_delivery(
     trace: &mut GrowingTrace,
-    waiting: &mut VecDeque<PostId>,
+    waiting: &mut Queue,
     actor: Actor,
     id: PostId,
     at: usize,
@@ -104,7 +102,7 @@ pub fn append_delivery(
 )
     requires room { IsRoomFor trace.old.room (length posts.old) (length notes.old) }
     requires lies { LiesAt trace.old id at }
-    requires name_room { deque_len waiting.old + length posts.old ≤ deque_capacity waiting.old }
+    requires name_room { length posts.old ≤ waiting.old.room }
     requires few_posts { length posts.old < 2 ^ 32 }
     requires ascending { AreAscending waiting.old.items }
     ensures trace { trace.new.entries ≡ trace.old.entries ++ heard_entry actor id trace.old.entries posts.old notes.old ∷ [] }
@@ -113,9 +111,9 @@ pub fn append_delivery(
     ensures notes { notes.new ≡ [] }
 {
     let number = posts.len() as u32;
-    take_out(waiting, id);
+    waiting.take_out(id);
     trace.append_delivery(actor, id, at, posts, notes);
-    push_names(waiting, trace.len() as u64, number);
+    waiting.push(trace.len() as u64, number);
 }
 
 /// Puts an entry of an actor's own turn at the end of the trace, with posts and notes that move
@@ -123,13 +121,13 @@ pub fn append_delivery(
 #[inline(always)]
 pub fn append_tick(
     trace: &mut GrowingTrace,
-    waiting: &mut VecDeque<PostId>,
+    waiting: &mut Queue,
     actor: Actor,
     posts: &mut Posts,
     notes: &mut Notes,
 )
     requires room { IsRoomFor trace.old.room (length posts.old) (length notes.old) }
-    requires name_room { deque_len waiting.old + length posts.old ≤ deque_capacity waiting.old }
+    requires name_room { length posts.old ≤ waiting.old.room }
     requires few_posts { length posts.old < 2 ^ 32 }
     ensures trace { trace.new.entries ≡ trace.old.entries ++ ticked_entry actor posts.old notes.old ∷ [] }
     ensures waiting { waiting.new.items ≡ names_after (length trace.old.entries) (ticked_entry actor posts.old notes.old) waiting.old.items }
@@ -138,15 +136,15 @@ pub fn append_tick(
 {
     let number = posts.len() as u32;
     trace.append_tick(actor, posts, notes);
-    push_names(waiting, trace.len() as u64, number);
+    waiting.push(trace.len() as u64, number);
 }
 
 /// Puts an entry at the end of the trace. A delivery takes the name of its post out, and the names of the
 /// entry's own posts wait after the others.
-pub fn append_entry(trace: &mut GrowingTrace, waiting: &mut VecDeque<PostId>, entry: Entry)
+pub fn append_entry(trace: &mut GrowingTrace, waiting: &mut Queue, entry: Entry)
     requires room { IsRoomFor trace.old.room (length entry.outputs) (length entry.notes) }
     requires may { MayTake (reverse trace.old.entries) entry.actor entry.input }
-    requires name_room { deque_len waiting.old + length entry.outputs ≤ deque_capacity waiting.old }
+    requires name_room { length entry.outputs ≤ waiting.old.room }
     requires few_posts { length entry.outputs < 2 ^ 32 }
     requires ascending { AreAscending waiting.old.items }
     ensures trace { trace.new.entries ≡ trace.old.entries ++ entry ∷ [] }
@@ -155,17 +153,16 @@ pub fn append_entry(trace: &mut GrowingTrace, waiting: &mut VecDeque<PostId>, en
     let posts = entry.outputs.len() as u32;
     drop_delivered(waiting, &entry.input);
     trace.append(entry);
-    push_names(waiting, trace.len() as u64, posts);
+    waiting.push(trace.len() as u64, posts);
 }
 
 /// The post of a delivery waits no longer.
-fn drop_delivered(waiting: &mut VecDeque<PostId>, input: &Input)
+fn drop_delivered(waiting: &mut Queue, input: &Input)
     requires { AreAscending waiting.old.items }
     ensures items { waiting.new.items ≡ without_delivered input.now waiting.old.items }
-    ensures len { deque_len waiting.new ≤ deque_len waiting.old }
-    ensures capacity { deque_capacity waiting.new ≡ deque_capacity waiting.old }
+    ensures room { waiting.old.room ≤ waiting.new.room }
 {
     if let Input::Deliver { id, .. } = input {
-        take_out(waiting, *id);
+        waiting.take_out(*id);
     }
 }

@@ -15,11 +15,11 @@ use crate::inside::Inside;
 use crate::logs::sent_post;
 use crate::sessions::CountedSession;
 use crate::steps::tick;
-use crate::waiting::lowest;
 use hx_types::{Actor, Post, PostId, SessionId, Step};
 use std::alloc::Global;
 
 /// Makes the next entry, if there is one.
+#[inline(always)]
 pub fn advance(alloc: Global, inside: &mut Inside) -> Result<bool, DrainError>
     requires world { IsWorld inside.old }
     ensures world { IsWorld inside.new }
@@ -77,6 +77,7 @@ pub fn begin(alloc: Global, inside: &mut Inside, session: SessionId) -> Result<(
 
 /// Makes the next entry, if there is one: the delivery of the lowest post that waits for an actor that
 /// hasn't halted, else a tick of the lowest idle session.
+#[inline(always)]
 fn make_next(alloc: Global, inside: &mut Inside) -> Result<bool, StepError>
     requires world { IsWorld inside.old }
     ensures world { IsWorld inside.new }
@@ -97,6 +98,7 @@ fn make_next(alloc: Global, inside: &mut Inside) -> Result<bool, StepError>
 
 /// Delivers the lowest post that waits for an actor that hasn't halted, if there is one. The names before it
 /// go: who has halted takes no post any more.
+#[inline(always)]
 fn deliver_next(alloc: Global, inside: &mut Inside) -> Result<bool, StepError>
     requires world { IsWorld inside.old }
     ensures world { IsWorld inside.new }
@@ -106,13 +108,13 @@ fn deliver_next(alloc: Global, inside: &mut Inside) -> Result<bool, StepError>
     ensures refused { IfErr result (RefusesDelivery inside.old.script (reverse inside.old.log.trace)) }
     ensures err { OnErr result (inside.new.log.trace ≡ inside.old.log.trace) }
 {
-    while let Some(id) = lowest(&inside.log.waiting) {
+    while let Some(id) = inside.log.waiting.lowest() {
         if let Some(post) = running_post(inside, id) {
             let to = post.to;
             running_hears(alloc, inside, to, id)?;
             return Ok(true);
         }
-        let _ = inside.log.waiting.pop_front();
+        inside.log.waiting.pop();
     }
     Ok(false)
 }
@@ -177,11 +179,11 @@ pub fn first_waiting(inside: &mut Inside) -> Option<PostId>
     ensures trace { inside.new.log.trace ≡ inside.old.log.trace }
     ensures first { MatchOption result (first_delivery inside.old.script (reverse inside.old.log.trace) (undelivered (reverse inside.old.log.trace)) ≡ None) (IsPostedFirst inside.old.script (reverse inside.old.log.trace)) }
 {
-    while let Some(id) = lowest(&inside.log.waiting) {
+    while let Some(id) = inside.log.waiting.lowest() {
         if running_post(inside, id).is_some() {
             return Some(id);
         }
-        let _ = inside.log.waiting.pop_front();
+        inside.log.waiting.pop();
     }
     None
 }

@@ -9,14 +9,14 @@ ghost use Rattle.hx_world.specs.Servers.{HasTaken, IsSameServer};
 ghost use Rattle.hx_world.specs.Turns.{IsAdmitted, IsBarred};
 
 use crate::ends::StepError;
-use crate::lending::{Lent, forget};
+use crate::lending::{Lent, forget, forget_change};
 use crate::logs::{Log, append_delivery, append_entry, reserve_entry, reserve_lists};
 use crate::turns::admit;
+use crate::waiting::Queue;
 use hx_replica::Server;
 use hx_trace::GrowingTrace;
 use hx_types::{Input, MOST_ENTRIES, PostId};
 use std::alloc::Global;
-use std::collections::VecDeque;
 
 /// A server, and how many entries it has made.
 pub struct CountedServer {
@@ -73,7 +73,7 @@ pub fn server_hears(
     alloc: Global,
     counted: &mut CountedServer,
     trace: &mut GrowingTrace,
-    waiting: &mut VecDeque<PostId>,
+    waiting: &mut Queue,
     lent: &mut Lent,
     id: PostId,
     at: usize,
@@ -107,7 +107,7 @@ pub fn server_hears(
         return Err(StepError::Memory);
     };
     if reserve_lists(trace, waiting, &lent.posts, &lent.notes).is_err() {
-        forget(&mut lent.posts, &mut lent.notes);
+        forget_change(change, &mut lent.posts, &mut lent.notes);
         return Err(StepError::Memory);
     }
     counted.server.make(change);

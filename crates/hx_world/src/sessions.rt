@@ -10,14 +10,14 @@ ghost use Rattle.hx_world.specs.Sessions.{HasTaken, IsSameSession};
 ghost use Rattle.hx_world.specs.Turns.{IsAdmitted, IsBarred};
 
 use crate::ends::StepError;
-use crate::lending::{Lent, forget};
+use crate::lending::{Lent, forget, forget_change};
 use crate::logs::{Log, append_delivery, append_entry, append_tick, reserve_entry, reserve_lists};
 use crate::turns::admit;
+use crate::waiting::Queue;
 use hx_session::Session;
 use hx_trace::GrowingTrace;
 use hx_types::{Actor, Input, MOST_ENTRIES, PostId, SessionId};
 use std::alloc::Global;
-use std::collections::VecDeque;
 
 /// A session, and how many entries it has made.
 pub struct CountedSession {
@@ -74,7 +74,7 @@ pub fn session_hears(
     alloc: Global,
     counted: &mut CountedSession,
     trace: &mut GrowingTrace,
-    waiting: &mut VecDeque<PostId>,
+    waiting: &mut Queue,
     lent: &mut Lent,
     id: PostId,
     at: usize,
@@ -108,7 +108,7 @@ pub fn session_hears(
         return Err(StepError::Memory);
     };
     if reserve_lists(trace, waiting, &lent.posts, &lent.notes).is_err() {
-        forget(&mut lent.posts, &mut lent.notes);
+        forget_change(change, &mut lent.posts, &mut lent.notes);
         return Err(StepError::Memory);
     }
     counted.session.make(change);
@@ -159,7 +159,7 @@ pub fn session_ticks(
     }
     let trace = log.trace.growing();
     if reserve_lists(trace, &mut log.waiting, &lent.posts, &lent.notes).is_err() {
-        forget(&mut lent.posts, &mut lent.notes);
+        forget_change(change, &mut lent.posts, &mut lent.notes);
         return Err(StepError::Memory);
     }
     counted.session.make(change);

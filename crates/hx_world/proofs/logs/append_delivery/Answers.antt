@@ -9,7 +9,7 @@ use Rattle.hx_world.proofs.logs.append_delivery.Goals as goal
 pub returns-clause-waiting : goal.returns-clause-waiting
 returns-clause-waiting c =
     rw (
-      c.push_names.ensures,
+      c.push.ensures,
       c.take_out.ensures.items,
       c.len.ensures,
       c.append_delivery.ensures.entries,

@@ -6,5 +6,5 @@ use Rattle.hx_world.proofs.logs.append_entry.Goals as goal
 
 pub returns-clause-waiting : goal.returns-clause-waiting
 returns-clause-waiting c =
-    rw (c.push_names.ensures, c.drop_delivered.ensures.items, c.len.ensures, c.append.ensures.entries, c.len-posts.ensures)
+    rw (c.push.ensures, c.drop_delivered.ensures.items, c.len.ensures, c.append.ensures.entries, c.len-posts.ensures)
     (ap (λ (names : List PostId). without_delivered c.args.entry.input c.args.waiting.now.items ++ names) (names_at_last c.args.trace.now.entries c.args.entry))

@@ -1,4 +1,4 @@
-use Rattle.std.proofs.Common.{◌≡◌}
+use Rattle.std.proofs.Common.{◌≡◌, length}
 use Rattle.hx_world.specs.Invariant.{IsWorld}
 use Rattle.hx_world.proofs.schedule.deliver_next.Given as goal
 
@@ -10,4 +10,4 @@ invariant-loop-id l = record {
 }
 
 abbrev pub decreases-loop-id : goal.decreases-loop-id
-decreases-loop-id l = l.inside.log.waiting.len
+decreases-loop-id l = length l.inside.log.waiting.items

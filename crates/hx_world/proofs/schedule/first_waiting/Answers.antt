@@ -19,8 +19,8 @@ pub loop-id-preserved : goal.loop-id-preserved
 loop-id-preserved c = record {
   world =
       popped c.loop-id.inside.script (reverse c.loop-id.inside.log.trace) c.loop-id.inside.actors.servers.items c.loop-id.inside.actors.sessions.items c.loop-id.inside.actors.coordinator
-      c.loop-id.inside.log.waiting.items c.pop_front.new.self.items c.in-Some.id c.loop-id.invariant.world (sym c.lowest.ensures ∙ c.in-Some.is)
-      (missed c.loop-id.inside.script (reverse c.loop-id.inside.log.trace) c.in-Some.id c.running_post.result c.running_post.ensures.none (sym c.is_some.ensures ∙ c.if-is_some.false)) c.pop_front.ensures.rest;
+      c.loop-id.inside.log.waiting.items c.pop.new.self.items c.in-Some.id c.loop-id.invariant.world (sym c.lowest.ensures ∙ c.in-Some.is)
+      (missed c.loop-id.inside.script (reverse c.loop-id.inside.log.trace) c.in-Some.id c.running_post.result c.running_post.ensures.none (sym c.is_some.ensures ∙ c.if-is_some.false)) c.pop.ensures.rest;
   script = c.loop-id.invariant.script;
   trace = c.loop-id.invariant.trace;
 }
