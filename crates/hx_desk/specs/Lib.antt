@@ -3,3 +3,4 @@ pub mod Told
 pub mod Desks
 pub mod Turns
 pub mod Givings
+pub mod Floors

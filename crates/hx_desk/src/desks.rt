@@ -34,8 +34,9 @@ impl Drop for Desk {
 }
 
 impl Desk {
-    /// What is left of an actor that takes no more turns: the actor, its entries, its seat and the first port of its box.
-    /// The memory of its state is left to the system: to give it back piece by piece takes longer than to end.
+    /// What is left of an actor that takes no more turns: the actor, its entries, its seat and the
+    /// first port of its box. The memory of its state is left to the system: to give it back piece
+    /// by piece takes longer than to end.
     pub fn leave(self) -> (Actor, Vec<Stamped>, Seat, Port)
         ensures { (result.0 ≡ self.actor) × (result.1 ≡ self.part) × (result.2 ≡ self.seat) × (result.3 ≡ self.inbox) }
     {

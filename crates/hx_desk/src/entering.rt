@@ -2,7 +2,6 @@
 ghost use Rattle.std.specs.Prelude.{ℕ, ◌≡◌, ◌<◌, ◌^◌, true, false, List, [], ◌∷◌, MatchResult, length, ⊤};
 ghost use Rattle.hx_types.specs.declared.limits.TheConstants.{MOST_ENTRIES};
 ghost use Rattle.hx_types.specs.declared.traces.Input.TheVariants.{Tick};
-ghost use Rattle.hx_types.specs.Fitting.{IsScript};
 ghost use Rattle.hx_model.specs.Runs.{entry_of, has_halted, made_of, does_something};
 ghost use Rattle.hx_clock.specs.declared.parts.Stamped.{Stamped};
 ghost use Rattle.hx_law_threads.specs.Cuts.{is_retry};
@@ -10,9 +9,9 @@ ghost use Rattle.hx_mail.specs.declared.views.Mailed.{Mailed};
 ghost use Rattle.hx_machine.specs.Machines.{entry_in};
 ghost use Rattle.hx_outbox.specs.Offers.{firsts_of};
 ghost use Rattle.hx_outbox.specs.Outboxes.{IsOutbox};
-ghost use Rattle.hx_outbox.specs.Places.{AreBoxes};
 ghost use Rattle.hx_desk.specs.declared.faults.Fault.TheVariants as a_fault;
-ghost use Rattle.hx_desk.specs.Desks.{IsDesk, entries_before};
+ghost use Rattle.hx_desk.specs.Desks.{entries_before};
+ghost use Rattle.hx_desk.specs.Floors.{IsDeskOn};
 ghost use Rattle.hx_desk.specs.Told.{told_by};
 ghost use Rattle.hx_desk.specs.Givings.{CanBeGiven, HasPlaces, IsMadeOf, IsReady, MakesEnough};
 ghost use Rattle.hx_desk.specs.Turns.{HasRoom, IsFaultOf, IsTurn};
@@ -20,23 +19,18 @@ ghost use Rattle.hx_desk.specs.Turns.{HasRoom, IsFaultOf, IsTurn};
 use crate::desks::Desk;
 use crate::faults::Fault;
 use crate::gates::Gate;
-use crate::preparing::{foresee, is_worn, make_room};
-use hx_clock::{Clock, Stamped};
+use crate::preparing::{is_worn, make_room, prepare_step};
+use hx_clock::Stamped;
 use hx_fate::Fate;
 use hx_machine::Plan;
-use hx_mail::Mailbox;
-use hx_outbox::{Copies, Outbox, offer_all};
-use hx_types::{Input, Script, Totals};
-use std::alloc::Global;
+use hx_outbox::{Copies, Floor, Outbox, offer_all};
+use hx_types::{Input, Totals};
 use std::sync::Wait;
 
-/// Makes a step, for which there is room: its entry is stamped and pushed, and its posts are offered.
-fn make<R: Wait, G: Gate>(
-    rt: &R,
-    script: &Script,
-    clock: &Clock,
-    boxes: &[Mailbox<'_>],
-    gate: &G,
+/// Makes a step, for which there is room: its entry is stamped and pushed, and its posts are
+/// offered.
+fn make_entry<R: Wait, G: Gate>(
+    floor: &Floor<'_, R, G>,
     desk: &mut Desk,
     out: &mut Outbox,
     fate: &mut Box<dyn Fate + Send>,
@@ -44,25 +38,20 @@ fn make<R: Wait, G: Gate>(
     plan: Plan,
     copies: Vec<Copies>,
 )
-    requires script { IsScript script.now }
-    requires boxes { AreBoxes script.now clock.now boxes.now }
-    requires desk { (w : ℕ) × IsDesk script.now clock.now boxes.now w (told_by desk.old.actor (entry_in plan).input) desk.old }
-    requires step { IsReady script.now desk.old (entry_in plan).input plan × MakesEnough (entry_in plan).input plan }
+    requires desk { (w : ℕ) × IsDeskOn floor.now w (told_by desk.old.actor (entry_in plan).input) desk.old }
+    requires step { IsReady floor.now.script.now desk.old (entry_in plan).input plan × MakesEnough (entry_in plan).input plan }
     requires copies { (firsts_of copies.items ≡ (entry_in plan).outputs) × (length copies.items < 2 ^ 32) }
     requires places { HasPlaces desk.old (length copies.items) × (length desk.old.part.items < MOST_ENTRIES) }
-    requires out { IsOutbox boxes.now out.old }
+    requires out { IsOutbox floor.now.boxes.now out.old }
     requires room { HasRoom out.old desk.old totals.old }
-    ensures desk { (w : ℕ) → IsDesk script.now clock.now boxes.now w (told_by desk.old.actor (entry_in plan).input) desk.old → IsDesk script.now clock.now boxes.now w [] desk.new }
-    ensures turn { (x : Stamped) × (x.entry ≡ entry_in plan) × IsTurn boxes.now desk.old desk.new out.old out.new totals.old totals.new (state fate.old) (state fate.new) (x ∷ []) }
+    ensures desk { (w : ℕ) → IsDeskOn floor.now w (told_by desk.old.actor (entry_in plan).input) desk.old → IsDeskOn floor.now w [] desk.new }
+    ensures turn { (x : Stamped) × (x.entry ≡ entry_in plan) × IsTurn floor.now.boxes.now desk.old desk.new out.old out.new totals.old totals.new (state fate.old) (state fate.new) (x ∷ []) }
 {
-    gate.before(desk.actor);
+    floor.gate.before(desk.actor);
     let entry = desk.machine.apply(plan);
-    let stamp = clock.act(&mut desk.seat, &entry);
+    let stamp = floor.clock.act(&mut desk.seat, &entry);
     offer_all(
-        rt,
-        script,
-        clock,
-        boxes,
+        floor,
         out,
         &mut desk.kept,
         &mut desk.seat,
@@ -75,35 +64,26 @@ fn make<R: Wait, G: Gate>(
 }
 
 /// Takes the memory that a step still needs, and makes it. The actor isn't worn.
-pub(crate) fn settle<R: Wait, G: Gate>(
-    rt: &R,
-    alloc: Global,
-    script: &Script,
-    clock: &Clock,
-    boxes: &[Mailbox<'_>],
-    gate: &G,
+pub(crate) fn reserve_and_make<R: Wait, G: Gate>(
+    floor: &Floor<'_, R, G>,
     desk: &mut Desk,
     out: &mut Outbox,
     fate: &mut Box<dyn Fate + Send>,
     totals: &mut Totals,
     plan: Plan,
 ) -> Result<(), Fault>
-    requires script { IsScript script.now }
-    requires boxes { AreBoxes script.now clock.now boxes.now }
-    requires desk { (w : ℕ) × IsDesk script.now clock.now boxes.now w (told_by desk.old.actor (entry_in plan).input) desk.old }
-    requires step { IsReady script.now desk.old (entry_in plan).input plan × MakesEnough (entry_in plan).input plan }
+    requires desk { (w : ℕ) × IsDeskOn floor.now w (told_by desk.old.actor (entry_in plan).input) desk.old }
+    requires step { IsReady floor.now.script.now desk.old (entry_in plan).input plan × MakesEnough (entry_in plan).input plan }
     requires fresh { length desk.old.part.items < MOST_ENTRIES }
-    requires out { IsOutbox boxes.now out.old }
+    requires out { IsOutbox floor.now.boxes.now out.old }
     requires room { HasRoom out.old desk.old totals.old }
-    ensures desk { MatchResult result (λ _. (w : ℕ) → IsDesk script.now clock.now boxes.now w (told_by desk.old.actor (entry_in plan).input) desk.old → IsDesk script.now clock.now boxes.now w [] desk.new) (λ _. (w : ℕ) (rest : List Mailed) → IsDesk script.now clock.now boxes.now w rest desk.old → IsDesk script.now clock.now boxes.now w rest desk.new) }
-    ensures turn { MatchResult result (λ _. (x : Stamped) × (x.entry ≡ entry_in plan) × IsTurn boxes.now desk.old desk.new out.old out.new totals.old totals.new (state fate.old) (state fate.new) (x ∷ [])) (λ _. IsTurn boxes.now desk.old desk.new out.old out.new totals.old totals.new (state fate.old) (state fate.new) []) }
+    ensures desk { MatchResult result (λ _. (w : ℕ) → IsDeskOn floor.now w (told_by desk.old.actor (entry_in plan).input) desk.old → IsDeskOn floor.now w [] desk.new) (λ _. (w : ℕ) (rest : List Mailed) → IsDeskOn floor.now w rest desk.old → IsDeskOn floor.now w rest desk.new) }
+    ensures turn { MatchResult result (λ _. (x : Stamped) × (x.entry ≡ entry_in plan) × IsTurn floor.now.boxes.now desk.old desk.new out.old out.new totals.old totals.new (state fate.old) (state fate.new) (x ∷ [])) (λ _. IsTurn floor.now.boxes.now desk.old desk.new out.old out.new totals.old totals.new (state fate.old) (state fate.new) []) }
     ensures fault { MatchResult result (λ _. ⊤) (λ fault. fault ≡ a_fault.Memory) }
 {
-    match make_room(alloc, desk, &plan) {
+    match make_room(floor.alloc, desk, &plan) {
         Ok(copies) => {
-            make(
-                rt, script, clock, boxes, gate, desk, out, fate, totals, plan, copies,
-            );
+            make_entry(floor, desk, out, fate, totals, plan, copies);
             Ok(())
         }
         Err(_) => {
@@ -115,12 +95,7 @@ pub(crate) fn settle<R: Wait, G: Gate>(
 
 /// The step of an input, and its entry. The actor isn't worn.
 fn step_on<R: Wait, G: Gate>(
-    rt: &R,
-    alloc: Global,
-    script: &Script,
-    clock: &Clock,
-    boxes: &[Mailbox<'_>],
-    gate: &G,
+    floor: &Floor<'_, R, G>,
     desk: &mut Desk,
     out: &mut Outbox,
     fate: &mut Box<dyn Fate + Send>,
@@ -128,59 +103,47 @@ fn step_on<R: Wait, G: Gate>(
     input: Input,
 ) -> Result<(), Fault>
     requires fresh { length desk.old.part.items < MOST_ENTRIES }
-    requires script { IsScript script.now }
-    requires boxes { AreBoxes script.now clock.now boxes.now }
-    requires desk { (w : ℕ) × IsDesk script.now clock.now boxes.now w (told_by desk.old.actor input) desk.old }
-    requires running { has_halted script.now (entries_before desk.old.part.items) desk.old.actor ≡ false }
-    requires given { CanBeGiven script.now desk.old input }
-    requires enough { does_something input (made_of script.now (entries_before desk.old.part.items) desk.old.actor input) ≡ true }
-    requires out { IsOutbox boxes.now out.old }
+    requires desk { (w : ℕ) × IsDeskOn floor.now w (told_by desk.old.actor input) desk.old }
+    requires running { has_halted floor.now.script.now (entries_before desk.old.part.items) desk.old.actor ≡ false }
+    requires given { CanBeGiven floor.now.script.now desk.old input }
+    requires enough { does_something input (made_of floor.now.script.now (entries_before desk.old.part.items) desk.old.actor input) ≡ true }
+    requires out { IsOutbox floor.now.boxes.now out.old }
     requires room { HasRoom out.old desk.old totals.old }
-    ensures desk { MatchResult result (λ _. (w : ℕ) → IsDesk script.now clock.now boxes.now w (told_by desk.old.actor input) desk.old → IsDesk script.now clock.now boxes.now w [] desk.new) (λ _. (w : ℕ) (rest : List Mailed) → IsDesk script.now clock.now boxes.now w rest desk.old → IsDesk script.now clock.now boxes.now w rest desk.new) }
-    ensures turn { MatchResult result (λ _. (x : Stamped) × IsMadeOf script.now desk.old input x × IsTurn boxes.now desk.old desk.new out.old out.new totals.old totals.new (state fate.old) (state fate.new) (x ∷ [])) (λ _. IsTurn boxes.now desk.old desk.new out.old out.new totals.old totals.new (state fate.old) (state fate.new) []) }
+    ensures desk { MatchResult result (λ _. (w : ℕ) → IsDeskOn floor.now w (told_by desk.old.actor input) desk.old → IsDeskOn floor.now w [] desk.new) (λ _. (w : ℕ) (rest : List Mailed) → IsDeskOn floor.now w rest desk.old → IsDeskOn floor.now w rest desk.new) }
+    ensures turn { MatchResult result (λ _. (x : Stamped) × IsMadeOf floor.now.script.now desk.old input x × IsTurn floor.now.boxes.now desk.old desk.new out.old out.new totals.old totals.new (state fate.old) (state fate.new) (x ∷ [])) (λ _. IsTurn floor.now.boxes.now desk.old desk.new out.old out.new totals.old totals.new (state fate.old) (state fate.new) []) }
     ensures fault { MatchResult result (λ _. ⊤) (λ fault. fault ≡ a_fault.Memory) }
 {
-    match foresee(alloc, script, clock, desk, input) {
-        Ok(plan) => settle(
-            rt, alloc, script, clock, boxes, gate, desk, out, fate, totals, plan,
-        ),
+    match prepare_step(floor, desk, input) {
+        Ok(plan) => reserve_and_make(floor, desk, out, fate, totals, plan),
         Err(_) => Err(Fault::Memory),
     }
 }
 
 /// Makes an entry, which is no retry, of an input that the actor can be given, and that makes
 /// something, unless the actor is worn or memory is wanting. After a fault the actor is as it was.
-pub(crate) fn enter<R: Wait, G: Gate>(
-    rt: &R,
-    alloc: Global,
-    script: &Script,
-    clock: &Clock,
-    boxes: &[Mailbox<'_>],
-    gate: &G,
+#[inline]
+pub(crate) fn make_unless_worn<R: Wait, G: Gate>(
+    floor: &Floor<'_, R, G>,
     desk: &mut Desk,
     out: &mut Outbox,
     fate: &mut Box<dyn Fate + Send>,
     totals: &mut Totals,
     input: Input,
 ) -> Result<(), Fault>
-    requires script { IsScript script.now }
-    requires boxes { AreBoxes script.now clock.now boxes.now }
-    requires desk { (w : ℕ) × IsDesk script.now clock.now boxes.now w (told_by desk.old.actor input) desk.old }
-    requires running { has_halted script.now (entries_before desk.old.part.items) desk.old.actor ≡ false }
-    requires given { CanBeGiven script.now desk.old input }
-    requires enough { does_something input (made_of script.now (entries_before desk.old.part.items) desk.old.actor input) ≡ true }
-    requires turns { is_retry (entry_of desk.old.actor input (made_of script.now (entries_before desk.old.part.items) desk.old.actor input)) ≡ false }
-    requires out { IsOutbox boxes.now out.old }
+    requires desk { (w : ℕ) × IsDeskOn floor.now w (told_by desk.old.actor input) desk.old }
+    requires running { has_halted floor.now.script.now (entries_before desk.old.part.items) desk.old.actor ≡ false }
+    requires given { CanBeGiven floor.now.script.now desk.old input }
+    requires enough { does_something input (made_of floor.now.script.now (entries_before desk.old.part.items) desk.old.actor input) ≡ true }
+    requires turns { is_retry (entry_of desk.old.actor input (made_of floor.now.script.now (entries_before desk.old.part.items) desk.old.actor input)) ≡ false }
+    requires out { IsOutbox floor.now.boxes.now out.old }
     requires room { HasRoom out.old desk.old totals.old }
-    ensures desk { MatchResult result (λ _. (w : ℕ) → IsDesk script.now clock.now boxes.now w (told_by desk.old.actor input) desk.old → IsDesk script.now clock.now boxes.now w [] desk.new) (λ _. (w : ℕ) (rest : List Mailed) → IsDesk script.now clock.now boxes.now w rest desk.old → IsDesk script.now clock.now boxes.now w rest desk.new) }
-    ensures turn { MatchResult result (λ _. (x : Stamped) × IsMadeOf script.now desk.old input x × IsTurn boxes.now desk.old desk.new out.old out.new totals.old totals.new (state fate.old) (state fate.new) (x ∷ [])) (λ _. IsTurn boxes.now desk.old desk.new out.old out.new totals.old totals.new (state fate.old) (state fate.new) []) }
-    ensures fault { MatchResult result (λ _. ⊤) (λ fault. IsFaultOf script.now false desk.new fault) }
+    ensures desk { MatchResult result (λ _. (w : ℕ) → IsDeskOn floor.now w (told_by desk.old.actor input) desk.old → IsDeskOn floor.now w [] desk.new) (λ _. (w : ℕ) (rest : List Mailed) → IsDeskOn floor.now w rest desk.old → IsDeskOn floor.now w rest desk.new) }
+    ensures turn { MatchResult result (λ _. (x : Stamped) × IsMadeOf floor.now.script.now desk.old input x × IsTurn floor.now.boxes.now desk.old desk.new out.old out.new totals.old totals.new (state fate.old) (state fate.new) (x ∷ [])) (λ _. IsTurn floor.now.boxes.now desk.old desk.new out.old out.new totals.old totals.new (state fate.old) (state fate.new) []) }
+    ensures fault { MatchResult result (λ _. ⊤) (λ fault. IsFaultOf floor.now.script.now false desk.new fault) }
 {
     if is_worn(desk) {
         Err(Fault::Worn(desk.actor))
     } else {
-        step_on(
-            rt, alloc, script, clock, boxes, gate, desk, out, fate, totals, input,
-        )
+        step_on(floor, desk, out, fate, totals, input)
     }
 }

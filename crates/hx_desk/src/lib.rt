@@ -2,12 +2,12 @@
 //! that are kept for it; and its turns, in which it takes one envelope and makes one entry of it.
 //!
 //! All memory of a turn is taken before its entry has a stamp, so a stamped entry is always carried
-//! out. What a desk knows is its own: the entries that its actor made, what was taken for it, and what
-//! was put or is kept for them. That turns are given to actors by drivers, and the order in a turn, are
-//! this project's choice.
+//! out. What a desk knows is its own: the entries that its actor made, what was taken for it, and
+//! what was put or is kept for them. That turns are given to actors by drivers, and the order in a
+//! turn, are this project's choice.
 //!
-//! No contract says that there is memory for a turn. The tests of whole runs give turns to actors of
-//! each role.
+//! No contract says that there is memory for a turn. The tests of whole runs give turns to actors
+//! of each role.
 #![tactic(auto)]
 
 mod desks;

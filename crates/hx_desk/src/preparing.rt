@@ -1,20 +1,18 @@
 //! All that an entry needs before it has a stamp.
 ghost use Rattle.std.specs.Prelude.{ℕ, ◌≡◌, ◌<◌, ◌≤◌, ◌^◌, ◌∷◌, ◌++◌, [], true, false, List, IfOk, OnOk, length};
 ghost use Rattle.hx_types.specs.declared.limits.TheConstants.{MOST_ENTRIES};
-ghost use Rattle.hx_types.specs.Fitting.{IsScript};
 ghost use Rattle.hx_model.specs.Runs.{has_halted};
 ghost use Rattle.hx_mail.specs.declared.views.Mailed.{Mailed};
-ghost use Rattle.hx_mail.specs.Boxes.{Boxed};
 ghost use Rattle.hx_machine.specs.Machines.{IsMachine, entry_in};
 ghost use Rattle.hx_outbox.specs.Offers.{firsts_of};
-ghost use Rattle.hx_desk.specs.Desks.{IsDesk, IsSame, entries_before};
+ghost use Rattle.hx_desk.specs.Desks.{IsSame, entries_before};
+ghost use Rattle.hx_desk.specs.Floors.{IsDeskOn};
 ghost use Rattle.hx_desk.specs.Givings.{CanBeGiven, HasPlaces, IsReady};
 
 use crate::desks::Desk;
-use hx_clock::Clock;
 use hx_machine::Plan;
-use hx_outbox::Copies;
-use hx_types::{Exact, Input, MOST_ENTRIES, Memory, Post, Script};
+use hx_outbox::{Copies, Floor};
+use hx_types::{Exact, Input, MOST_ENTRIES, Memory, Post};
 use std::alloc::Global;
 
 /// Whether the actor has made the most entries that it may make.
@@ -27,28 +25,24 @@ pub(crate) fn is_worn(desk: &Desk) -> bool
 }
 
 /// The step that the actor makes of an input that it can be given.
-pub(crate) fn foresee(
-    alloc: Global,
-    script: &Script,
-    clock: &Clock,
+pub(crate) fn prepare_step<R, G>(
+    floor: &Floor<'_, R, G>,
     desk: &mut Desk,
     input: Input,
 ) -> Result<Plan, Memory>
-    requires script { IsScript script.now }
-    requires desk { (boxes : List Boxed) × (w : ℕ) × (rest : List Mailed) × IsDesk script.now clock.now boxes w rest desk.old }
-    requires running { has_halted script.now (entries_before desk.old.part.items) desk.old.actor ≡ false }
-    requires given { CanBeGiven script.now desk.old input }
+    requires desk { (w : ℕ) × (rest : List Mailed) × IsDeskOn floor.now w rest desk.old }
+    requires running { has_halted floor.now.script.now (entries_before desk.old.part.items) desk.old.actor ≡ false }
+    requires given { CanBeGiven floor.now.script.now desk.old input }
     ensures same { IsSame desk.old desk.new }
-    ensures desk { (boxes : List Boxed) (w : ℕ) (rest : List Mailed) → IsDesk script.now clock.now boxes w rest desk.old → IsDesk script.now clock.now boxes w rest desk.new }
-    ensures ready { IfOk result (IsReady script.now desk.new input) }
+    ensures desk { (w : ℕ) (rest : List Mailed) → IsDeskOn floor.now w rest desk.old → IsDeskOn floor.now w rest desk.new }
+    ensures ready { IfOk result (IsReady floor.now.script.now desk.new input) }
 {
-    let _ = script;
-    let _drawn = clock.now(&mut desk.seat);
-    desk.machine.prepare(alloc, input)
+    let _drawn = floor.clock.now(&mut desk.seat);
+    desk.machine.prepare(floor.alloc, input)
 }
 
 /// A post twice.
-fn twice(alloc: Global, post: &Post) -> Result<Copies, Memory>
+fn copy_twice(alloc: Global, post: &Post) -> Result<Copies, Memory>
     ensures { IfOk result (λ copies. copies.first ≡ post.now) }
 {
     let Ok(first) = post.copy(alloc) else {
@@ -65,12 +59,12 @@ fn twice(alloc: Global, post: &Post) -> Result<Copies, Memory>
 fn add_twice(alloc: Global, copies: &mut Vec<Copies>, post: &Post) -> Result<(), Memory>
     ensures { OnOk result (firsts_of copies.new.items ≡ firsts_of copies.old.items ++ post.now ∷ []) }
 {
-    copies.push(twice(alloc, post)?)?;
+    copies.push(copy_twice(alloc, post)?)?;
     Ok(())
 }
 
 /// Each post twice.
-fn double(alloc: Global, posts: &[Post]) -> Result<Vec<Copies>, Memory>
+fn copies_of(alloc: Global, posts: &[Post]) -> Result<Vec<Copies>, Memory>
     ensures { IfOk result (λ copies. firsts_of copies.items ≡ posts.now) }
 {
     let mut copies = Vec::with_capacity(alloc, posts.len())?;
@@ -94,5 +88,5 @@ pub(crate) fn make_room(alloc: Global, desk: &mut Desk, plan: &Plan) -> Result<V
     }
     desk.part.reserve(1)?;
     desk.kept.reserve(2 * count)?;
-    double(alloc, posts)
+    copies_of(alloc, posts)
 }

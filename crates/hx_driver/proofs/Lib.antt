@@ -1,3 +1,4 @@
 mod Booking
 mod Moving
 mod Places
+pub mod Going

@@ -1,2 +1,4 @@
 pub mod Crews
 pub mod Slices
+pub mod Floors
+pub mod Moves

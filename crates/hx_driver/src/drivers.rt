@@ -12,6 +12,7 @@ use hx_clock::Clock;
 use hx_desk::{Fault, Gate};
 use hx_fate::Fate;
 use hx_mail::Mailbox;
+use hx_outbox::Floor;
 use hx_types::Script;
 use std::alloc::Global;
 use std::sync::Wait;
@@ -31,8 +32,8 @@ impl Driver {
         self.crew.fault
     }
 
-    /// The actors have turns, in rounds, in each of which every actor has a few in order, until no driver
-    /// that shares `at_work` finds anything to do. After a fault nothing more is done.
+    /// The actors have turns, in rounds, in each of which every actor has a few in order, until no
+    /// driver that shares `at_work` finds anything to do. After a fault nothing more is done.
     pub fn slice<R: Wait, G: Gate>(
         &mut self,
         rt: &R,
@@ -51,17 +52,15 @@ impl Driver {
         ensures posted { IsPosted self.old.crew self.new.crew (state self.old.fate) (state self.new.fate) }
         ensures retries { HaveNoRetry script.now self.old.crew self.new.crew }
     {
-        rounds(
+        let floor = Floor {
             rt,
             alloc,
             script,
             clock,
             boxes,
             gate,
-            &mut self.crew,
-            &mut self.fate,
-            at_work,
-        );
+        };
+        rounds(&floor, &mut self.crew, &mut self.fate, at_work);
     }
 
     /// Ticks once, in their order, each of its actors that waits: one that hasn't halted, is no
@@ -83,15 +82,14 @@ impl Driver {
         ensures posted { IsPosted self.old.crew self.new.crew (state self.old.fate) (state self.new.fate) }
         ensures retried { HaveRetried script.now self.old.crew self.new.crew }
     {
-        retry_each(
+        let floor = Floor {
             rt,
             alloc,
             script,
             clock,
             boxes,
             gate,
-            &mut self.crew,
-            &mut self.fate,
-        );
+        };
+        retry_each(&floor, &mut self.crew, &mut self.fate);
     }
 }

@@ -3,15 +3,16 @@
 use std::sync::atomic::{AtomicUsize, Ordering};
 use std::thread;
 
-/// In how many rounds one after another a driver finds nothing before it tells that it isn't at work. So
-/// a driver that waits for the answer of another doesn't write what all share at each step.
+/// In how many rounds one after another a driver finds nothing before it tells that it isn't at
+/// work. So a driver that waits for the answer of another doesn't write what all share at each
+/// step.
 const ROUNDS_BEFORE_LULL: u32 = 16;
 
 /// In how many rounds one after another no driver is at work before a slice ends.
 const PATIENCE: u32 = 16;
 
-/// In how many rounds one after another a driver finds nothing before its slice ends whatever the others
-/// do: one of them may not run at all.
+/// In how many rounds one after another a driver finds nothing before its slice ends whatever the
+/// others do: one of them may not run at all.
 const LONGEST_LULL: u32 = 65_536;
 
 /// How many drivers of a slice are at work, as they tell it themselves.
@@ -47,8 +48,8 @@ impl AtWork {
     }
 }
 
-/// In how many rounds one after another a driver found nothing to do by now, and in how many of the last
-/// of them no driver was at work.
+/// In how many rounds one after another a driver found nothing to do by now, and in how many of the
+/// last of them no driver was at work.
 #[derive(Drop)]
 pub struct Lull {
     rounds: u32,
@@ -61,8 +62,8 @@ impl Lull {
         Lull { rounds: 0, calm: 0 }
     }
 
-    /// Whether the slice ends after a round that did something or found nothing. Where it found nothing
-    /// and the slice goes on, the processor was offered to other threads.
+    /// Whether the slice ends after a round that did something or found nothing. Where it found
+    /// nothing and the slice goes on, the processor was offered to other threads.
     pub fn is_over(&mut self, at_work: &AtWork, worked: bool) -> bool {
         if worked {
             self.end(at_work);

@@ -1,4 +1,6 @@
 pub mod Zipped
 pub mod Places
+pub mod Valid
 pub mod Outboxes
 pub mod Offers
+pub mod Floors

@@ -1,14 +1,14 @@
 ghost use Rattle.std.specs.Prelude.{ℕ, ◌≡◌, ◌+◌, ◌^◌, ◌<◌, ◌≤◌, length};
 ghost use Rattle.std.specs.VecDeque.{deque_len, deque_capacity};
-ghost use Rattle.hx_types.specs.declared.traces.Script.{Script};
 ghost use Rattle.hx_mail.specs.declared.views.Mailed.{Mailed};
 ghost use Rattle.hx_mail.specs.Ports.{mailed_of};
-ghost use Rattle.hx_outbox.specs.Outboxes.{AreFew, AreGood, IsGood, IsOutbox, MorePut, kept_weight, out_weight};
-ghost use Rattle.hx_outbox.specs.Places.{AreBoxes, place_of};
+ghost use Rattle.hx_outbox.specs.Floors.{AreGoodOn, IsGoodOn};
+ghost use Rattle.hx_outbox.specs.Outboxes.{AreFew, IsOutbox, MorePut, kept_weight, out_weight};
+ghost use Rattle.hx_outbox.specs.Places.{place_of};
 
-use hx_clock::Clock;
-use hx_mail::{Envelope, Mailbox, Port};
-use hx_types::{Actor, Script, Space};
+use crate::floors::Floor;
+use hx_mail::{Envelope, Port};
+use hx_types::{Actor, Space};
 use std::collections::VecDeque;
 use std::sync::Wait;
 
@@ -30,8 +30,8 @@ impl Drop for Outbox {
     }
 }
 
-/// The place of an actor's box among those of all actors, from 0: the coordinator's is the first, and
-/// those of the servers and of the sessions follow.
+/// The place of an actor's box among those of all actors, from 0: the coordinator's is the first,
+/// and those of the servers and of the sessions follow.
 pub fn place_of(space: &Space, actor: Actor) -> usize
     ensures { result ≡ place_of space.now actor }
 {
@@ -43,76 +43,61 @@ pub fn place_of(space: &Space, actor: Actor) -> usize
 }
 
 /// Puts an envelope into its receiver's box, or keeps it where the box is full.
-pub fn put_or_keep<R: Wait>(
-    rt: &R,
-    script: &Script,
-    clock: &Clock,
-    boxes: &[Mailbox<'_>],
+pub fn put_or_keep<R: Wait, G>(
+    floor: &Floor<'_, R, G>,
     out: &mut Outbox,
     kept: &mut VecDeque<Envelope>,
     envelope: Envelope,
 )
-    requires boxes { AreBoxes script.now clock.now boxes.now }
-    requires out { IsOutbox boxes.now out.old }
-    requires good { IsGood script.now clock.now envelope }
+    requires out { IsOutbox floor.now.boxes.now out.old }
+    requires good { IsGoodOn floor.now envelope }
     requires room { deque_len kept.old < deque_capacity kept.old }
     requires few { AreFew out.old.ports.items }
-    ensures out { IsOutbox boxes.now out.new × (out.new.index ≡ out.old.index) }
+    ensures out { IsOutbox floor.now.boxes.now out.new × (out.new.index ≡ out.old.index) }
     ensures more { MorePut out.old.ports.items out.new.ports.items }
     ensures weight { (h : Mailed → ℕ) → out_weight h out.new.ports.items + kept_weight h kept.new.items ≡ out_weight h out.old.ports.items + kept_weight h kept.old.items + h (mailed_of envelope) }
-    ensures good { AreGood script.now clock.now kept.old.items → AreGood script.now clock.now kept.new.items }
+    ensures good { AreGoodOn floor.now kept.old.items → AreGoodOn floor.now kept.new.items }
     ensures capacity { (deque_capacity kept.new ≡ deque_capacity kept.old) × (deque_len kept.new ≤ deque_len kept.old + 1) }
 {
-    let to = place_of(&script.space, envelope.post.to);
-    match boxes[to].put(rt, envelope, &mut out.ports[to]) {
+    let to = place_of(&floor.script.space, envelope.post.to);
+    let boxes = floor.boxes;
+    match boxes[to].put(floor.rt, envelope, &mut out.ports[to]) {
         Ok(()) => out.sent[to] += 1,
         Err(full) => kept.push_back_reserved(full.0),
     }
 }
 
 /// Puts the first kept envelope again.
-fn put_next<R: Wait>(
-    rt: &R,
-    script: &Script,
-    clock: &Clock,
-    boxes: &[Mailbox<'_>],
-    out: &mut Outbox,
-    kept: &mut VecDeque<Envelope>,
-)
-    requires boxes { AreBoxes script.now clock.now boxes.now }
-    requires out { IsOutbox boxes.now out.old }
-    requires good { AreGood script.now clock.now kept.old.items }
+fn put_next<R: Wait, G>(floor: &Floor<'_, R, G>, out: &mut Outbox, kept: &mut VecDeque<Envelope>)
+    requires out { IsOutbox floor.now.boxes.now out.old }
+    requires good { AreGoodOn floor.now kept.old.items }
     requires few { out_weight (λ m. 1) out.old.ports.items + kept_weight (λ m. 1) kept.old.items < 2 ^ 63 }
-    ensures out { IsOutbox boxes.now out.new × (out.new.index ≡ out.old.index) }
+    ensures out { IsOutbox floor.now.boxes.now out.new × (out.new.index ≡ out.old.index) }
     ensures more { MorePut out.old.ports.items out.new.ports.items }
     ensures weight { (h : Mailed → ℕ) → out_weight h out.new.ports.items + kept_weight h kept.new.items ≡ out_weight h out.old.ports.items + kept_weight h kept.old.items }
-    ensures good { AreGood script.now clock.now kept.new.items }
+    ensures good { AreGoodOn floor.now kept.new.items }
 {
     match kept.pop_front() {
-        Some(envelope) => put_or_keep(rt, script, clock, boxes, out, kept, envelope),
+        Some(envelope) => put_or_keep(floor, out, kept, envelope),
         None => {}
     }
 }
 
 /// Puts the kept envelopes again, each once.
-pub fn put_kept<R: Wait>(
-    rt: &R,
-    script: &Script,
-    clock: &Clock,
-    boxes: &[Mailbox<'_>],
+pub fn put_kept<R: Wait, G>(
+    floor: &Floor<'_, R, G>,
     out: &mut Outbox,
     kept: &mut VecDeque<Envelope>,
 )
-    requires boxes { AreBoxes script.now clock.now boxes.now }
-    requires out { IsOutbox boxes.now out.old }
-    requires good { AreGood script.now clock.now kept.old.items }
+    requires out { IsOutbox floor.now.boxes.now out.old }
+    requires good { AreGoodOn floor.now kept.old.items }
     requires few { out_weight (λ m. 1) out.old.ports.items + kept_weight (λ m. 1) kept.old.items < 2 ^ 63 }
-    ensures out { IsOutbox boxes.now out.new × (out.new.index ≡ out.old.index) }
+    ensures out { IsOutbox floor.now.boxes.now out.new × (out.new.index ≡ out.old.index) }
     ensures more { MorePut out.old.ports.items out.new.ports.items }
     ensures weight { (h : Mailed → ℕ) → out_weight h out.new.ports.items + kept_weight h kept.new.items ≡ out_weight h out.old.ports.items + kept_weight h kept.old.items }
-    ensures good { AreGood script.now clock.now kept.new.items }
+    ensures good { AreGoodOn floor.now kept.new.items }
 {
     for _round in 0..kept.len() {
-        put_next(rt, script, clock, boxes, out, kept);
+        put_next(floor, out, kept);
     }
 }

@@ -1,3 +1,4 @@
 pub mod Boxing
 pub mod Mailed
 pub mod Gathered
+pub mod Valid

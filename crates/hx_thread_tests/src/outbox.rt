@@ -10,7 +10,7 @@ use crate::clocks::begun;
 use crate::mail::{SERVER, ask, space};
 use hx_clock::{Clock, Seat};
 use hx_mail::{Envelope, Mailbox, Port};
-use hx_outbox::{Outbox, put_kept, put_or_keep};
+use hx_outbox::{Floor, Outbox, put_kept, put_or_keep};
 use hx_types::{Actor, Memory, Script, Sessions, Space, Steps};
 use std::alloc::Global;
 use std::collections::VecDeque;
@@ -84,12 +84,20 @@ fn put_two_and_kept<R: Wait + Abort>(
     let Ok(second) = ask(alloc, clock, seat) else {
         panic!(rt; "no memory");
     };
-    put_or_keep(rt, script, clock, boxes, out, &mut kept, first);
-    put_or_keep(rt, script, clock, boxes, out, &mut kept, second);
+    let floor = Floor {
+        rt,
+        alloc,
+        script,
+        clock,
+        boxes,
+        gate: &(),
+    };
+    put_or_keep(&floor, out, &mut kept, first);
+    put_or_keep(&floor, out, &mut kept, second);
     let before = counts(out, &kept);
     let (mailbox, port) = inbox;
     drop(mailbox.take(rt, port));
-    put_kept(rt, script, clock, boxes, out, &mut kept);
+    put_kept(&floor, out, &mut kept);
     (before, counts(out, &kept))
 }
 

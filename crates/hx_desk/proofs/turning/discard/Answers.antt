@@ -10,7 +10,7 @@ receive-requires-clause-room g c =
     counted c.args.desk.now.heard.items (ap (list_all (λ n. nat_lt n 18446744073709551615)) (sym c.as_slice.ensures.value) ∙ sym c.can_count.ensures ∙ c.if-can_count.true)
 
 pub returns-then-can_count-clause-desk : goal.returns-then-can_count-clause-desk
-returns-then-can_count-clause-desk g c w rest h = taken-broken c.args.script.now c.args.clock.now c.args.boxes.now w rest c.args.desk.now c.receive.new.desk c.receive.result h c.receive.ensures.desk
+returns-then-can_count-clause-desk g c w rest h = taken-broken _ _ _ w rest c.args.desk.now c.receive.new.desk c.receive.result h c.receive.ensures.desk
 
 pub returns-else-can_count-clause-desk : goal.returns-else-can_count-clause-desk
-returns-else-can_count-clause-desk g c w rest h = broken-of c.args.script.now c.args.clock.now c.args.boxes.now w rest c.args.desk.now h
+returns-else-can_count-clause-desk g c w rest h = broken-of _ _ _ w rest c.args.desk.now h

@@ -1,13 +1,9 @@
-use Rattle.std.proofs.Common.{ℕ}
-use Rattle.hx_driver.specs.Crews.{IsCrew, IsPosted}
-use Rattle.hx_driver.specs.Slices.{HaveNoRetry, IsLaterCrew}
+use Rattle.hx_driver.specs.Moves.{GoesOnAt}
+use Rattle.hx_driver.specs.Slices.{HaveNoRetry}
 use Rattle.hx_driver.proofs.turning.rounds.Given as goal
 
 abbrev pub invariant-loop-round : goal.invariant-loop-round
 invariant-loop-round g l =
-    ((w : ℕ) → IsCrew l.script l.clock l.boxes w l.initial.crew → IsCrew l.script l.clock l.boxes w l.crew)
-    × IsLaterCrew l.initial.crew l.crew
-    × IsPosted l.initial.crew l.crew
-    ((g.dyn-1.0.entry l.initial.fate.vtable).1.state l.initial.fate.value)
+    GoesOnAt l.floor l.initial.crew l.crew ((g.dyn-1.0.entry l.initial.fate.vtable).1.state l.initial.fate.value)
     ((g.dyn-1.0.entry l.fate.vtable).1.state l.fate.value)
-    × HaveNoRetry l.script l.initial.crew l.crew
+    × HaveNoRetry l.floor.script.now l.initial.crew l.crew

@@ -1,16 +1,17 @@
 use Rattle.std.proofs.Common.{◌≡◌, ◌+◌, ◌*◌, ◌≤◌, ◌++◌, length}
 use Rattle.std.specs.VecDeque.{deque_len, deque_capacity}
-use Rattle.hx_outbox.specs.Outboxes.{kept_weight, out_weight, AreGood, IsOutbox, MorePut}
+use Rattle.hx_outbox.specs.Floors.{AreGoodOn}
+use Rattle.hx_outbox.specs.Outboxes.{kept_weight, out_weight, IsOutbox, MorePut}
 use Rattle.hx_outbox.specs.Offers.{firsts_of, named, IsOffered, IsTotal}
 use Rattle.hx_outbox.proofs.offers.offer_all.Given as goal
 
 abbrev pub invariant-loop-copies : goal.invariant-loop-copies
 invariant-loop-copies g l =
     (l.seat ≡ l.initial.seat)
-    × IsOutbox l.boxes l.out
+    × IsOutbox l.floor.boxes.now l.out
     × (l.out.index ≡ l.initial.out.index)
     × MorePut l.initial.out.ports.items l.out.ports.items
-    × (AreGood l.script l.clock l.initial.kept.items → AreGood l.script l.clock l.kept.items)
+    × (AreGoodOn l.floor l.initial.kept.items → AreGoodOn l.floor l.kept.items)
     × (deque_capacity l.kept ≡ deque_capacity l.initial.kept)
     × (deque_len l.kept ≤ deque_len l.initial.kept + 2 * l.place)
     × (out_weight (λ m. 1) l.out.ports.items + kept_weight (λ m. 1) l.kept.items ≤ out_weight (λ m. 1) l.initial.out.ports.items + kept_weight (λ m. 1) l.initial.kept.items + 2 * l.place)

@@ -1,7 +1,7 @@
 use Rattle.std.proofs.Common.{arith, ◌+◌, ◌^◌, ◌<◌, length}
 use Rattle.std.proofs.Math.Facts.{Fits-of_lt}
 use Rattle.hx_desk.proofs.Heard.{count-at, heard-other, heard-set}
-use Rattle.hx_desk.proofs.receiving.hear.Goals as goal
+use Rattle.hx_desk.proofs.receiving.count_taken.Goals as goal
 
 pub overflow_add-index_mut : goal.overflow_add-index_mut
 overflow_add-index_mut c =
