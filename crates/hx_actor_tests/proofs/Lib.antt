@@ -2,3 +2,5 @@ pub mod SmallSpace
 pub mod Books
 pub mod OneServer
 pub mod Replies
+pub mod Chained
+pub mod Posted

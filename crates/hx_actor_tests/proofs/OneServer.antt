@@ -33,7 +33,7 @@ small_is_space =
 abbrev empty_replica : RegionId → Replica
 empty_replica g = record { region = g; installed = true; states = [] }
 
-no_state : (gs : List RegionId) (r : Replica) → IsIn r (map empty_replica gs) → (t : KeyState) → IsIn t r.states → ⊥
+pub no_state : (gs : List RegionId) (r : Replica) → IsIn r (map empty_replica gs) → (t : KeyState) → IsIn t r.states → ⊥
 no_state [] r i t j = i
 no_state (g ∷ gs) r i t j = ⊎_elim (λ e. subst (λ (x : Replica). IsIn t x.states) e j) (λ k. no_state gs r k t j) i
 

@@ -1,2 +1,3 @@
 pub mod SmallSpace
 pub mod Books
+pub mod Chained

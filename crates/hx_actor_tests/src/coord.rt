@@ -105,8 +105,8 @@ fn a_stop_takes_a_server_out(rt: HostRuntime) {
 }
 
 /// The configuration with a joiner is issued at once to four servers and the session, and the add
-/// answered. On its turn the coordinator sends it again to the last ready member and the joiner. Once
-/// that is ready the next configuration is issued; that it is ready is told once.
+/// answered. On its turn the coordinator sends it again to the last ready member and the joiner.
+/// Once that is ready the next configuration is issued; that it is ready is told once.
 #[test]
 fn an_add_takes_a_joiner_in(rt: HostRuntime) {
     let story = [

@@ -1,11 +1,13 @@
-//! Tests of slots, of the places and neighbours of their updates, of indexes and stores, of servers, of
-//! the coordinator and of sessions: a module for each crate that they are of.
+//! Tests of slots, of the places and neighbours of their updates, of indexes and stores, of
+//! servers, of the coordinator and of sessions: a module for each crate that they are of.
 #![tactic(auto)]
 
 #[cfg(test)]
 mod chain;
 #[cfg(test)]
 mod coord;
+#[cfg(test)]
+mod hearing;
 #[cfg(test)]
 mod index;
 #[cfg(test)]

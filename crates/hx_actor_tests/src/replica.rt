@@ -95,8 +95,8 @@ fn made_of(rt: &impl Abort, alloc: Global, input: Input) -> (usize, usize, bool)
     step(rt, alloc, &mut server, input)
 }
 
-/// A put is assigned a version, and answered at once, since its chain is one replica long. So is one
-/// of a higher epoch; the coordinator is asked for that first. A ready member answers a search.
+/// A put is assigned a version, and answered at once, since its chain is one replica long. So is
+/// one of a higher epoch; the coordinator is asked for that first. A ready member answers a search.
 /// Nothing is pending, so nothing is sent again. That it halts is told.
 #[test]
 fn a_server_takes_each_input(rt: HostRuntime) {

@@ -31,8 +31,8 @@ pub fn give(rt: &impl Abort, alloc: Global, slot: &mut Slot, update: Update, pla
     slot.offer(update, place)
 }
 
-/// Offers the update with this version, after that of another, to a slot of region 7. It is of a call
-/// of session 2 with the same number, and makes the object the version.
+/// Offers the update with this version, after that of another, to a slot of region 7. It is of a
+/// call of session 2 with the same number, and makes the object the version.
 fn offer(rt: &impl Abort, alloc: Global, slot: &mut Slot, version: u32, after: u64) -> Offer
     requires region { slot.old.region ≡ record { 0 = 7 } }
     requires after { after < version }

@@ -2,7 +2,9 @@
 ghost use Rattle.std.specs.Prelude.{◌≡◌, [], ◌∷◌};
 ghost use Rattle.hx_actor_tests.specs.Books.{books};
 
-use hx_types::{Attribute, Attributes, Axis, Kind, Sequence, SharedList, Space, Subspaces, Text};
+use hx_types::{
+    Attribute, Attributes, Axis, Kind, Sequence, Shared, SharedList, Space, Subspaces, Text,
+};
 use std::alloc::Global;
 use std::process::Abort;
 
@@ -20,6 +22,16 @@ pub fn list<R: Abort, T: Drop, const N: usize>(rt: &R, alloc: Global, items: [T;
         panic!(rt; "no memory");
     };
     Sequence::from_vec(items)
+}
+
+/// The value, with several owners.
+pub fn shared<T: Drop>(rt: &impl Abort, alloc: Global, value: T) -> Shared<T>
+    ensures { result ≡ value }
+{
+    let Ok(value) = Shared::new(alloc, value) else {
+        panic!(rt; "no memory");
+    };
+    value
 }
 
 /// The list of these items, with several owners.
