@@ -80,12 +80,12 @@ compile() {
   exec 9>&-
 }
 
-# prove: proves all crates and builds both programs, where that isn't done
+# prove: proves all crates but those of tests and builds both programs, where that isn't done
 prove() {
   are_proved hx_tool hx_picture && return
   locked prove
   are_proved hx_tool hx_picture && return
-  say 'proving every crate; from nothing this takes half an hour to an hour'
+  say 'proving the crates; from nothing this takes half an hour to an hour'
   "$top/tools/prove.sh" "$kept/prove.log" || failed 'not proved' "$kept/prove.log"
 }
 

@@ -1,15 +1,26 @@
 #!/usr/bin/env bash
-# tools/prove.sh LOG: proves all crates, lowest first, as many side by side as there are processors with 4 GB of free
-# memory each, and builds both programs. A line on standard error tells of each crate; the log has all that was said.
+# tools/prove.sh LOG: proves all crates but those of tests, lowest first, as many side by side as there are processors
+# with 4 GB of free memory each, and builds both programs. A line on standard error tells of each crate; the log has all
+# that was said.
+#
+# It works in a copy beside the log, which stays: `rt all` first looks through each crate on which no other one stands,
+# one after the other, and without those of tests that takes two minutes and not fifteen.
 set -euo pipefail
 log=$1
 cd "$(dirname "${BASH_SOURCE[0]}")/.."
+top=$PWD copy=${log%.log}
 started=$(mktemp)
 trap 'rm -f "$started"' EXIT
-count=$(grep -c '^[a-z]' crates.txt)
+mkdir -p "$copy"
+find "$copy" -name out -prune -o -type f -exec rm {} +
+tar -c --exclude=out --exclude=must-fail --exclude='hx_*tests' crates HANDLES | tar -x -C "$copy"
+grep -v '^hx_.*tests' crates.txt >"$copy/crates.txt"
+
+count=$(grep -c '^[a-z]' "$copy/crates.txt")
 lanes=$(awk -v most="$(nproc)" '/^MemAvailable:/ { n = int($2 / 4194304); print n < 1 ? 1 : n < most ? n : most }' /proc/meminfo)
 : >"$log"
 done=0
+cd "$copy"
 rt all check --jobs "$lanes" 2>&1 | tee -a "$log" | while IFS= read -r line; do
   case $line in
     '== hx_'*) printf 'hx: %d of %d crates: %s (%d min)\n' $((++done)) "$count" "${line#== }" $((SECONDS / 60)) >&2 ;;
@@ -18,8 +29,11 @@ done
 
 # A program is as old as the begin of its proof: what changes meanwhile is newer.
 for crate in hx_tool hx_picture; do
-  built=crates/$crate/out/$crate
-  rm -f "$built"
-  (cd "crates/$crate" && rt run -- --version </dev/null) >>"$log" 2>&1 || [ -x "$built" ]
-  touch -r "$started" "$built"
+  made=crates/$crate/out/$crate
+  rm -f "$made"
+  (cd "crates/$crate" && rt run -- --version </dev/null) >>"$log" 2>&1 || [ -x "$made" ]
+  mkdir -p "$top/crates/$crate/out"
+  cp "$made" "$top/$made.new"
+  touch -r "$started" "$top/$made.new"
+  mv "$top/$made.new" "$top/$made"
 done
