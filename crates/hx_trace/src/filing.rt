@@ -1,4 +1,4 @@
-ghost use Rattle.std.specs.Prelude.{◌≡◌, ◌+◌, ◌<◌, ◌≤◌, ◌^◌, ◌++◌, [], ◌∷◌, length, None, nat_lt, vec_capacity, vec_len, OnOk};
+ghost use Rattle.std.specs.Prelude.{◌≡◌, ◌+◌, ◌<◌, ◌≤◌, ◌^◌, ◌++◌, [], ◌∷◌, length, None, nat_lt, true, vec_capacity, vec_len, OnOk};
 ghost use Rattle.hx_types.specs.declared.ids.Actor.TheVariants as an_actor;
 ghost use Rattle.hx_trace.specs.Lists.{AreWhole, HasRoom, HasWholeRoom, IsSame, IsTakenIn, entries_in, input_by, whole_by};
 
@@ -31,6 +31,30 @@ pub fn make_room<T: Drop>(list: &mut Vec<T>, more: usize) -> Result<(), Memory>
     Ok(())
 }
 
+/// Whether a list has room for so many items more, and then at most 4,294,967,295.
+#[inline(always)]
+fn fits<T>(list: &Vec<T>, more: usize) -> bool
+    ensures room { result ≡ true → length list.now.items + more ≤ vec_capacity list.now }
+    ensures few { result ≡ true → length list.now.items + more < 2 ^ 32 }
+{
+    let count = list.len();
+    let most = list.capacity().min(u32::MAX as usize);
+    count <= most && more <= most - count
+}
+
+/// Whether there is room already for an entry more with so many posts and notes, in lists without an entry that is
+/// kept whole or was adopted. Most entries find it: the lists grow by doubling.
+#[inline(always)]
+pub fn has_room(lists: &Lists, posts: usize, notes: usize) -> bool
+    ensures { result ≡ true → HasRoom lists.now posts notes }
+{
+    fits(&lists.heads, 1)
+        && fits(&lists.posts, posts)
+        && fits(&lists.notes, notes)
+        && lists.turns.is_empty()
+        && lists.wholes.is_empty()
+}
+
 /// Makes room for the head of one entry more. Lists of 4,294,967,295 entries have none.
 #[inline]
 fn reserve_head(lists: &mut Lists) -> Result<(), Memory>
@@ -47,7 +71,8 @@ fn reserve_head(lists: &mut Lists) -> Result<(), Memory>
 
 /// Makes room for an entry more with so many posts and notes, and for it as a whole where some entry is kept whole
 /// or was adopted: else each post has its place among the others, and no delivery is kept whole.
-#[inline]
+#[cold]
+#[inline(never)]
 pub fn reserve(lists: &mut Lists, posts: usize, notes: usize) -> Result<(), Memory>
     ensures same { IsSame lists.old lists.new }
     ensures room { OnOk result (HasRoom lists.new posts notes) }

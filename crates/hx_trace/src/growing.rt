@@ -7,7 +7,7 @@ ghost use Rattle.hx_trace.specs.Lists.{AreAllFiled, AreWhole, IsFiledAs, deliver
 ghost use Rattle.hx_trace.specs.Rooms.{IsRoomFor, LiesAt};
 ghost use Rattle.hx_trace.specs.Turns.{IsTurnOf, turned};
 
-use crate::filing::{file, file_from, keep, reserve, reserve_whole};
+use crate::filing::{file, file_from, has_room, keep, reserve, reserve_whole};
 use crate::heads::{Room, Span, Taken};
 use crate::lists::{Lists, adopted, count, empty, head_at};
 use crate::turns::Turn;
@@ -159,13 +159,16 @@ impl GrowingTrace {
 
     /// Makes room for one entry with so many posts and notes. It takes all memory that the entry needs. Where
     /// there is none, the entries stay all the same. A trace of 4,294,967,295 entries, posts or notes has no room for more.
+    #[inline(always)]
     pub fn reserve(&mut self, posts: usize, notes: usize) -> Result<(), Memory>
         ensures entries { self.new.entries ≡ self.old.entries }
         ensures filed { self.new.filed ≡ self.old.filed }
         ensures room { OnOk result (self.new.room ≡ Some (record { posts = posts; notes = notes })) }
     {
         self.room = None;
-        reserve(&mut self.lists, posts, notes)?;
+        if !has_room(&self.lists, posts, notes) {
+            reserve(&mut self.lists, posts, notes)?;
+        }
         self.room = Some(Room { posts, notes });
         Ok(())
     }
