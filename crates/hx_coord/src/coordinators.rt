@@ -123,6 +123,7 @@ impl Coordinator {
             Input::Deliver { from, message, .. } => {
                 hear(alloc, &self.config, agenda, *from, message)
             }
+            // Servers alone halt.
             Input::Halt => unreachable!(),
         }
     }

@@ -35,6 +35,7 @@ pub fn insert_number(order: &mut Vec<u32>, rows: &[Option<Shared<Row>>], attribu
     ensures capacity { vec_capacity order.old ≤ vec_capacity order.new }
 {
     let Some(row) = row_at(rows, id) else {
+        // The number is that of a row.
         unreachable!()
     };
     let place = place_of(order.as_slice(), rows, attribute, id, row);

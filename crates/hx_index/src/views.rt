@@ -63,6 +63,7 @@ impl<'a> Look for View<'a> {
         self.count();
         match row_at(self.rows, id) {
             Some(row) => side_of(term, row.object.get(term.attribute() as usize - 1)),
+            // Each number of an order is that of a row.
             None => unreachable!(),
         }
     }
@@ -71,6 +72,7 @@ impl<'a> Look for View<'a> {
         self.count();
         match row_at(self.rows, id) {
             Some(row) => matches(terms, &row.key, &row.object),
+            // Each number of an order is that of a row.
             None => unreachable!(),
         }
     }

@@ -102,6 +102,7 @@ impl Machine {
             ),
             (Machine::Server(server), Plan::Server(plan)) => server.apply(plan),
             (Machine::Session(session), Plan::Session(plan)) => session.apply(plan),
+            // A plan is one of its actor's role.
             _ => unreachable!(),
         }
     }

@@ -58,6 +58,7 @@ fn finish(
             let traces = leave(alloc, bundle, cluster)?;
             Ok(Ended::Whole(answered(alloc, bundle, with_trace, traces)?))
         }
+        // No world makes so many entries.
         Ok(Drained::Spent) => unreachable!(),
         Err(error) => {
             let traces = leave(alloc, bundle, cluster)?;

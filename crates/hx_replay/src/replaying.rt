@@ -67,6 +67,7 @@ fn finish(alloc: Global, script: &Script, with_trace: bool, world: World) -> Res
     let mut world = world;
     match world.drain(alloc, u64::MAX) {
         Ok(Drained::Quiet) => Ok(Ended::Whole(answered(alloc, script, with_trace, world.leave())?)),
+        // No world makes so many entries.
         Ok(Drained::Spent) => unreachable!(),
         Err(error) => ended_alone(alloc, error.into(), world.leave()),
     }

@@ -71,6 +71,7 @@ fn refusal(alloc: Global, text: &[u8]) -> ScriptError
     ensures { TextAnswers (Err result) (scripted_of text.now) }
 {
     match read_bundle(alloc, text) {
+        // Of a text of another version than 2 there is no bundle but that of its script.
         Ok(_) => unreachable!(),
         Err(error) => error,
     }

@@ -22,6 +22,7 @@ fn has_next(alloc: Global, world: &mut World) -> bool
     match world.drain(alloc, 0) {
         Ok(Drained::Quiet) => false,
         Ok(Drained::Spent) => true,
+        // To make no entry takes no memory, and wears no actor.
         Err(_) => unreachable!(),
     }
 }
@@ -52,6 +53,7 @@ fn book_last(world: &World, progress: &mut Vec<Progress>, booked: &mut Vec<Booke
     let trace = world.trace();
     let count = trace.len();
     let Some(entry) = trace.get(count - 1) else {
+        // An entry was just made.
         unreachable!()
     };
     if let Actor::Session(session) = entry.actor {
@@ -113,5 +115,6 @@ pub fn settle(
             return Ok(());
         }
     }
+    // No world makes so many entries.
     unreachable!()
 }

@@ -31,6 +31,7 @@ pub fn is_free(world: &World, progress: &[Progress], session: SessionId) -> bool
     let _trace = world.trace();
     let calls = world.script().calls(session);
     let Some(own) = progress.get(session.0 as usize - 1) else {
+        // The session is one of the script.
         unreachable!()
     };
     is_resting(own, calls.len())

@@ -94,9 +94,11 @@ pub fn receipt_in<'a>(trace: &'a Trace, booked: &Booked) -> ReceiptRef<'a>
     ensures entry { result.end ≡ booked.now.end }
 {
     let Some(entry) = trace.get(booked.end as usize - 1) else {
+        // The call has ended in that entry.
         unreachable!()
     };
     let Some((version, answer)) = ended_in(entry.notes, booked.caller.number) else {
+        // The call has ended in that entry.
         unreachable!()
     };
     ReceiptRef {

@@ -277,6 +277,7 @@ impl Session {
         match input {
             Input::Tick => self.tick(alloc, posts, notes),
             Input::Deliver { from, message, .. } => self.hear(alloc, *from, message, posts, notes),
+            // Servers alone halt.
             Input::Halt => unreachable!(),
         }
     }

@@ -31,6 +31,7 @@ fn make_one<C: Charter>(
             Err(ServiceError::Unanswered { .. }) => return Ok(true),
             Err(ServiceError::Worn(actor)) => return Err(DrainError::Worn(actor)),
             Err(ServiceError::Memory) => return Err(DrainError::Memory),
+            // The plan's calls are those of a script, within its limits.
             Err(ServiceError::Full) => unreachable!(),
         }
     }

@@ -69,6 +69,7 @@ fn sent_at(lists: &Lists, to: Actor, id: PostId, from: Actor, message: &Message)
 {
     let place = (id.entry as usize - 1).checked_sub(lists.turns.len())?;
     let Some(head) = head_at(lists, place) else {
+        // The post was sent, so its entry has a head.
         unreachable!()
     };
     match head.taken {

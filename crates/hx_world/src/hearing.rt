@@ -130,6 +130,7 @@ fn takes_copy(alloc: Global, inside: &mut Inside, actor: Actor, id: PostId) -> R
     ensures same { OnErr result (inside.new.log.trace ≡ inside.old.log.trace) }
 {
     let Some(post) = sent_post(&inside.log, id) else {
+        // The post is one of the trace.
         unreachable!()
     };
     let Ok(input) = delivery(alloc, id, post) else {

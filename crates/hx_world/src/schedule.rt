@@ -32,6 +32,7 @@ pub fn advance(alloc: Global, inside: &mut Inside) -> Result<bool, DrainError>
         Ok(made) => Ok(made),
         Err(error) => match drain_error(error) {
             Some(error) => Err(error),
+            // A step of the schedule fails for want of memory or a worn actor alone.
             None => unreachable!(),
         },
     }
@@ -50,6 +51,7 @@ pub fn deliver_first(alloc: Global, inside: &mut Inside) -> Result<bool, DrainEr
         Ok(made) => Ok(made),
         Err(error) => match drain_error(error) {
             Some(error) => Err(error),
+            // A step of the schedule fails for want of memory or a worn actor alone.
             None => unreachable!(),
         },
     }
@@ -70,6 +72,7 @@ pub fn begin(alloc: Global, inside: &mut Inside, session: SessionId) -> Result<(
         Ok(()) => Ok(()),
         Err(error) => match drain_error(error) {
             Some(error) => Err(error),
+            // A step of the schedule fails for want of memory or a worn actor alone.
             None => unreachable!(),
         },
     }
