@@ -8,6 +8,9 @@
 //! the change of each key that it has to show by halving, among those that began before all later
 //! changes of the key.
 //!
+//! To judge a history by its calls and their intervals alone is Herlihy's and Wing's; the clauses, their
+//! order and the ways to look things up are this project's choice.
+//!
 //! No contract says that there is memory, so an audit that always answered `Memory` would be proved.
 #![tactic(auto)]
 

@@ -8,6 +8,9 @@
 //!
 //! `specs/Bundles.antt` says when a bundle is within the limits ([`MOST_SPACES`], and those of a
 //! script for all spaces together).
+//!
+//! That a store has several spaces is HyperDex's; that each has servers' nodes and epochs of its own is this
+//! project's choice.
 #![tactic(auto)]
 
 mod bundles;

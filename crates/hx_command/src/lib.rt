@@ -3,6 +3,8 @@
 //!
 //! The contract of [`hyperstore`] is the theorem. No contract says that there is memory, so a program that always ended
 //! for want of it would be proved: the gate runs it on scripts whose reports are known.
+//!
+//! The words and how a call ends are this project's choice.
 #![tactic(auto)]
 
 mod finished;

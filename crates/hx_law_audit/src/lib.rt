@@ -1,4 +1,6 @@
 //! What a verdict on a report means, and that the reports of runs break nothing.
+//!
+//! That a verdict is worth something only where it is an equivalence is this project's choice.
 #![tactic(auto)]
 
 ghost use Rattle.hx_law_audit.specs.Meaning.{AccountsAgree, VerdictsAreUnique, YesMeansLinear, YesMeansOneOrder};

@@ -1,4 +1,6 @@
 //! The law on causes over all runs: why each call was answered as it was.
+//!
+//! That each answer has its cause in what was known is this project's choice of what to promise.
 #![tactic(auto)]
 
 ghost use Rattle.hx_law_causes.specs.Causes.{RunsAnswerAll, RunsHaveCauses};

@@ -1,5 +1,8 @@
 //! The laws on chains over all runs: what replicas and snapshots under way hold of each line,
 //! whatever is delivered, lost, repeated, halted, stopped or added.
+//!
+//! That what a replica accepted all before it accepted, and what it committed all after it committed, is chain
+//! replication's; that it holds of chains that depend on values, and while configurations overlap, is this project's.
 #![tactic(auto)]
 
 ghost use Rattle.hx_law_chains.specs.Chains.{RunsAnswerCommitted, RunsAssignUpdates, RunsHearNeighbours, RunsHoldParts, RunsKeepOrder, RunsPostsStand, RunsSendParts};

@@ -1,5 +1,7 @@
 //! The laws on a run of drivers, whatever their threads did: what their actors made is paced, so that
 //! an actor retries only where nothing else can go on but for what was lost.
+//!
+//! That a lost message is sent again where nothing else is left to do is this project's choice.
 #![tactic(auto)]
 
 ghost use Rattle.hx_law_drivers.specs.Laws.{EndedRunsEndCalls, PartsAreOwn, PutsArePosts, RestedRunsArePacedToEnd, RunsArePaced, TracesGoOn, TracesShowDesks, WornActorsAreDue};

@@ -1,5 +1,7 @@
 //! Slots without their past: folding the committed updates of a slot into its base changes nothing
 //! of what the slot shows, answers, decides and posts; and a snapshot is such a fold.
+//!
+//! To keep a base in place of the past is this project's choice.
 #![tactic(auto)]
 
 ghost use Rattle.hx_law_folds.specs.Laws.{AcksFold, AdoptingFolds, CallsFold, CommitsFold, FoldedIsSlot, FoldingTwice, FoldsAnswerSame, FoldsJoin, FoldsShowSame, InstallsFold, JoinersFold, LeanSlotsStand, MovesFold, OffersStayBare, PrefixesFold, PrefixesShowLine, ReplicasSend, ServersFold, ServersStay, SnapshotsFold, SoundMessagesFit, SoundMessagesJoin, StartsJoinable, StaysJoinable, TracesFold, UpdatesFold};

@@ -1,5 +1,7 @@
 //! The law on scripts that grow: a run of a script is a run of it with calls appended. A tick without a call makes no entry, so
 //! none of a run's entries tells that there was no further call.
+//!
+//! Scripts that grow are this project's choice.
 #![tactic(auto)]
 
 ghost use Rattle.hx_law_growing.specs.Alone.{LoneCallersReplay, ReplaysAreOne};

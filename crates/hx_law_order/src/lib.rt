@@ -1,5 +1,7 @@
 //! One order over the calls of all keys: where the history of every key is linear, so are all of
 //! them together.
+//!
+//! That what is linear key by key is linear as a whole is Herlihy's and Wing's locality.
 #![tactic(auto)]
 
 ghost use Rattle.hx_law_order.specs.Headline.{HistoriesHaveOneOrder, RunsHaveOneOrder, RunsKeepTurns};

@@ -1,4 +1,6 @@
 //! Laws of all runs: what is posted is sound, and versions and epochs stay small.
+//!
+//! What counts as sound is this project's choice.
 #![tactic(auto)]
 
 ghost use Rattle.hx_model.specs.Types.{Script};

@@ -1,4 +1,6 @@
 //! The headline for every run: whatever is delivered, lost, repeated, halted, stopped or added, histories are linear, and searches true and whole.
+//!
+//! Linear histories are Herlihy's and Wing's; searches over committed versions, with what is under way, are HyperDex's.
 #![tactic(auto)]
 
 ghost use Rattle.hx_law_searches.specs.Headline.{RunsAreLinear, RunsFit, RunsKeepRows, RunsSearchWell, RunsServeCalls};

@@ -1,5 +1,7 @@
 //! The law on soaks: what the summary of a generated script's run is, whatever is delivered, lost or
 //! repeated, and so however many drivers take part.
+//!
+//! Summaries that no schedule changes are this project's choice.
 #![tactic(auto)]
 
 ghost use Rattle.hx_law_soak.specs.Soaks.{SoaksSumUpInOrder};

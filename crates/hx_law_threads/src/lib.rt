@@ -5,6 +5,8 @@
 //! it is given is. So a driver that knows no more of a run than its own actors' entries and the posts
 //! that they took knows that each post which it puts is sound, and that its actors can take their next
 //! input. The laws over whole runs say the same of the merged trace, which no thread has yet.
+//!
+//! Stamps of one clock are a ticket counter's, and what a seat knows is Lamport's order of events.
 #![tactic(auto)]
 
 ghost use Rattle.hx_law_threads.specs.Calls.{CallsOfDoneSessionsEnd, CallsUnderWayAreOpen};

@@ -4,6 +4,8 @@
 //!
 //! `hyperstore_alone` is the top call without threads. No contract says that there is memory, so a call that always
 //! ended for want of it would be proved: the gate runs the program on scripts whose reports are known.
+//!
+//! The schedule and the texts are this project's choice.
 #![tactic(auto)]
 
 mod alone;

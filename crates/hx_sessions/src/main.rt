@@ -2,6 +2,8 @@
 //!
 //! Each thread logs customers in, notes that one of them was there again, looks for sessions that nobody has used for
 //! long, and drops them. What it prints is the same however the threads take turns.
+//!
+//! The shop is an example of this project's own.
 #![tactic(auto)]
 
 ghost use Rattle.std.specs.Prelude.{IfOk};

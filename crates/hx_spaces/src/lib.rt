@@ -7,6 +7,8 @@
 //!
 //! `specs/Courses.antt` has the schedule, `specs/Stepping.antt` the steps, and `specs/Begins.antt`
 //! what is meant by one call after another.
+//!
+//! That a store has several spaces is HyperDex's; the order over all of them is this project's choice.
 #![tactic(auto)]
 
 mod beginning;

@@ -7,6 +7,9 @@
 //!
 //! The limits of spaces, scripts and runs are constants, which clauses cite.
 //!
+//! Objects with attributes, subspaces and the operations on them are HyperDex's; chains and their
+//! configurations are those of chain replication. The forms of all these types are this project's choice.
+//!
 //! No contract says that there is memory, so a function that always answered [`Memory`] would be
 //! proved. The tests in `hx_value_tests` and of the actors make texts, lists, effects, configurations and
 //! copies, and show that each can succeed.

@@ -1,5 +1,7 @@
 //! All actors of a script on one thread: each entry of the trace is the next step of one actor,
 //! and the whole trace is a run of the script. Calls can be appended to the script while it runs.
+//!
+//! One process that runs all actors by a fixed schedule is this project's choice.
 #![tactic(auto)]
 
 mod actors;
