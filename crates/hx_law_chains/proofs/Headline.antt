@@ -1,30 +1,36 @@
 -- The laws on chains from what every run keeps.
-use Rattle.std.proofs.Common.{◌≡◌, ℕ, ◌≤◌, inl, inr, true, List, [], ◌∷◌, is_some, Option, None, Some, refl, sym, ap, ◌∙◌, arith}
-use Rattle.std.proofs.lemmas.Bool.{cond-true, cond_both, false≢true}
-use Rattle.hx_model.specs.Types.{Actor, At, Config, Coordinator, Entry, Epoch, Kept, Message, RegionId, Script, Server, ServerId, Session, Update, Version}
+use Rattle.std.proofs.Common.{◌≡◌, ℕ, ◌≤◌, inl, inr, true, List, [], ◌∷◌, Option, None, Some, refl, sym, ap, ◌∙◌, subst, arith}
+use Rattle.std.proofs.lemmas.Bool.{cond-false, cond-true, cond_both, false≢true}
+use Rattle.hx_model.specs.Types.{Actor, At, Blocked, Config, Coordinator, End, Entry, Epoch, Hop, Kept, Message, RegionId, Script, Server, ServerId, Session}
+use Rattle.hx_model.specs.Types.{Update, Version}
 use Rattle.hx_types.specs.declared.messages.Message.TheVariants as a_message
 use Rattle.hx_types.specs.Words.{IsIn, post}
-use Rattle.hx_types.specs.Configs.{lists}
+use Rattle.hx_types.specs.Configs.{members_of}
 use Rattle.hx_types.specs.Fitting.{IsScript}
-use Rattle.hx_model.specs.Hearing.{hears_ack, hears_update}
 use Rattle.hx_model.specs.Holders.{IsPrefix, snap_state}
 use Rattle.hx_model.specs.Histories.{line_of}
-use Rattle.hx_model.specs.Neighbours.{next_of, place_number, prev_of}
+use Rattle.hx_model.specs.Neighbours.{next_of, place_number, prev_of, region_at}
+use Rattle.hx_model.specs.Causes.{config_of}
 use Rattle.hx_model.specs.Runs.{IsRun, coordinator_of, server_of}
-use Rattle.hx_model.specs.ServerSteps.{Replica, if_installed, replica_of, state_in}
+use Rattle.hx_model.specs.ServerSteps.{Replica, if_installed, next_at, replica_of, state_in}
 use Rattle.hx_model.specs.Slots.{Forget, KeyState, has_place, moved, top_of}
 use Rattle.hx_law_lemmas.specs.Words.{posts_of, view}
-use Rattle.hx_law_lemmas.proofs.Lemmas.{listed-in}
+use Rattle.hx_law_lemmas.proofs.Lemmas.{in-listed, listed-in}
 use Rattle.hx_law_epochs.specs.Epochs.{order}
-use Rattle.hx_law_epochs.proofs.Lemmas.{Installed, IsKnown, PrecedesInChain, Real, Says, epochs-run, installed-is, placed-number}
-use Rattle.hx_law_chains.specs.Chains.{AckStands, AreAssigned, InOrder, IsComing, IsHeld, IsSentFrom, IsStanding, MayHave, PostStands, RunsAnswerCommitted}
-use Rattle.hx_law_chains.specs.Chains.{RunsAssignUpdates, RunsHoldParts, RunsKeepOrder, RunsPostsStand, RunsSendParts, StandsEarlier, UpdateStands}
+use Rattle.hx_law_epochs.proofs.Lemmas.{Installed, IsKnown, NoLater, PrecedesInChain, Real, Says, SendsSnapshot, epochs-run, found-installed, installed-is}
+use Rattle.hx_law_epochs.proofs.Lemmas.{placed-number}
+use Rattle.hx_law_chains.specs.Chains.{AcceptedAt, AcceptedBefore, AckStands, AcknowledgedStands, AreAssigned, CommittedAfter, CommittedAt, ComesNext, EarlyStands}
+use Rattle.hx_law_chains.specs.Chains.{GoesOnInstalled, InOrder, IsComing, IsHeld, IsSentFrom, IsStanding, IsUp, MayHave, MayHearAck, MayHearUpdate, PostStands}
+use Rattle.hx_law_chains.specs.Chains.{RunsAnswerCommitted, RunsAssignUpdates, RunsHoldParts, RunsKeepOrder, RunsKeepWhatStands, RunsPostsStand, RunsSendParts}
+use Rattle.hx_law_chains.specs.Chains.{SnapStands, StandsEarlier, UpdateStands}
 use Rattle.hx_law_chains.proofs.Heard.{heard-at, heard-from}
 use Rattle.hx_law_chains.proofs.Holders.{Up, now-listed}
+use Rattle.hx_law_chains.proofs.Moves.{Acked, Own, Waiting}
 use Rattle.hx_law_chains.proofs.Runs.{chained-run}
-use Rattle.hx_law_chains.proofs.Sending.{routed}
+use Rattle.hx_law_chains.proofs.Sending.{joiner-next, routed}
 use Rattle.hx_law_chains.proofs.Serving.{scene, world}
-use Rattle.hx_law_chains.proofs.World.{AckOk, Along, Chained, HearsAck, HearsUpdate, Lawful, May, Told, UpdateOk, Valid, World, ways}
+use Rattle.hx_law_chains.proofs.World.{AckOk, After, Along, Before, Chained, Done, Filled, HearsAck, HearsUpdate, Here, Lawful, May, Route, Told, UpdateOk, Valid}
+use Rattle.hx_law_chains.proofs.World.{World, around, context, ways}
 
 -- where all stand after a trace
 abbrev at : Script → List Entry → World
@@ -58,9 +64,9 @@ pub runs_assign_updates : RunsAssignUpdates
 runs_assign_updates script valid t run key = assigned script t key (line_of key t) ((chained-run script valid t run).keyed key).lawful
 
 -- a replica that is found and installed
-found-installed : (o : Option Replica) (r : Replica) → o ≡ Some r → r.installed ≡ true → if_installed o ≡ Some r
-found-installed None r f h = absurd (cc)
-found-installed (Some x) r f h = (let q : x ≡ r = cc in cond-true x.installed (Some x) None (ap (λ (y : Replica). y.installed) q ∙ h) ∙ f)
+found-there : (o : Option Replica) (r : Replica) → o ≡ Some r → r.installed ≡ true → if_installed o ≡ Some r
+found-there None r f h = absurd (cc)
+found-there (Some x) r f h = (let q : x ≡ r = cc in cond-true x.installed (Some x) None (ap (λ (y : Replica). y.installed) q ∙ h) ∙ f)
 
 module _ (script : Script) (valid : IsScript script) (t0 : List Entry) (run : IsRun script t0) where
   -- what holds of keys and posts
@@ -122,7 +128,7 @@ module _ (script : Script) (valid : IsScript script) (t0 : List Entry) (run : Is
     empty = λ h. c.empty h.replica (record {
       server = c.server;
       running = c.running;
-      installed = found-installed
+      installed = found-there
           (replica_of g (server_of script s t0).replicas) h.replica h.found h.installed;
     });
     from = c.from;
@@ -211,100 +217,231 @@ runs_answer_committed script valid t run from c v answer posted op key called on
     by (inr (inl h)) = floor h.2
     by (inr (inr h)) = floor h.3
 
--- ---- what is under way
+-- ---- what replicas keep for later, and what is under way
 
 module _ (script : Script) (valid : IsScript script) (t0 : List Entry) (run : IsRun script t0) where
+  -- what holds of keys and posts
+  abbrev all : Chained script (at script t0) (posts_of t0)
+  all = chained-run script valid t0 run
+
+  -- what all before a position have accepted
+  accepted-before : (key : List ℕ) (g : RegionId) (s : ServerId) (u : Update) → has_place g u ≡ true → Before script (at script t0) key g s u
+      → AcceptedBefore script t0 key g s u
+  accepted-before key g s u placed b h x t p held e =
+      let (w, holder, same) = holds script valid t0 run key h x t held in
+      let a = b h x w holder (placed-number u.places g placed, e) in
+      let z = same.top in
+      omega (arith, a, z)
+
+  -- what all after it have committed
+  committed-after : (key : List ℕ) (g : RegionId) (s : ServerId) (u : Update) → After script (at script t0) key g s u → CommittedAfter script t0 key g s u
+  committed-after key g s u b h x t p held e =
+      let (w, holder, same) = holds script valid t0 run key h x t held in
+      let a = b h x w holder (placed-number u.places h p, e) in
+      let z = same.floor in
+      omega (arith, a, z)
+
+  -- what is accepted at it
+  accepted-at : (key : List ℕ) (g : RegionId) (s : ServerId) (u : Update) → Here script (at script t0) key g s u → AcceptedAt script t0 key g s u
+  accepted-at key g s u b t held =
+      let (w, holder, same) = holds script valid t0 run key g s t held in
+      let a = b w holder in
+      let z = same.top in
+      omega (arith, a, z)
+
+  -- what is committed at it
+  committed-at : (key : List ℕ) (g : RegionId) (s : ServerId) (u : Update) → Done script (at script t0) key g s u → CommittedAt script t0 key g s u
+  committed-at key g s u b t held =
+      let (w, holder, same) = holds script valid t0 run key g s t held in
+      let a = b w holder in
+      let z = same.floor in
+      omega (arith, a, z)
+
+  -- ---- what a replica keeps
+
+  -- what a slot of a server that hasn't halted relies on
+  own-of : (g : RegionId) (s : ServerId) (r : Replica) → IsUp script t0 g s r → (key : List ℕ)
+      → Own (line_of key t0) g (around script (at script t0) key g s) (state_in script.space r key)
+  own-of g s r u key = subst (Own (line_of key t0) g (around script (at script t0) key g s))
+      (cond-false (server_of script s t0).halted (moved Forget (state_in script.space r key)) (state_in script.space r key) u.running)
+      ((all.keyed key).own g s (view (server_of script s t0) (state_in script.space r key)) (stands-held script valid t0 run key g s r (inl u)))
+
+  -- an early update
+  early-stands : (key : List ℕ) (g : RegionId) (s : ServerId) (u : Update) → Waiting (line_of key t0) g (around script (at script t0) key g s) u
+      → EarlyStands script t0 key g s u
+  early-stands key g s u w = record { stands = w.stands; placed = w.placed; accepted = accepted-before key g s u w.placed w.before; follows = w.waits }
+
+  -- the chain goes on at an installed replica
+  goes-on : (key : List ℕ) (u : Update) (hop : Hop) → Filled script (at script t0) key u hop → GoesOnInstalled script t0 u.places hop
+  goes-on key u (At x n) f = found-installed (server_of script x t0) (region_at u.places n) f
+  goes-on key u End f = tt
+  goes-on key u (Blocked g) f = f
+
+  -- an acknowledged version
+  acknowledged-stands : (key : List ℕ) (g : RegionId) (s : ServerId) (t : KeyState) (v : ℕ)
+      → Acked (line_of key t0) g (around script (at script t0) key g s) (top_of t) v → AcknowledgedStands script t0 key g s t v
+  acknowledged-stands key g s t v k = record {
+    update = k.update;
+    stands = k.stands;
+    version = k.version;
+    placed = k.placed;
+    here = k.low;
+    accepted = accepted-before key g s k.update k.placed k.before;
+    committed = committed-after key g s k.update k.after;
+    next = goes-on key k.update (next_at (context script (at script t0) g s) k.update) k.closed;
+  }
+
+  -- ---- who sends
+
+  -- the sender
+  abbrev sent-from : (x : ServerId) (epoch : Epoch) (g : RegionId) → Installed (server_of script x t0) g
+      → NoLater (coordinator_of script t0).config (server_of script x t0) epoch → IsSentFrom script t0 (Server x) epoch g
+  sent-from x epoch g h k = record { server = x; from_is = refl; installed = found-installed (server_of script x t0) g h; no_later = k.0 }
+
+  -- the receiver came after it
+  comes-next : (x : ServerId) (g : RegionId) (s : ServerId) (u : Update) (route : Route (IsKnown script t0) x g s u)
+      → ComesNext script t0 u route.region x g s
+  comes-next x g s u route = record {
+    config = route.config;
+    issued = route.known;
+    first = in-listed route.config route.region x route.first_in;
+    second = in-listed route.config g s route.second_in;
+    next = route.next;
+  }
+
+  -- ---- who may hear
+
   -- what the server has or may come to have
   may : (s : ServerId) (c : Config) → MayHave script t0 s c → May (ways (at script t0)) s c
   may s c m = record { up = (m.server, m.running); known = m.issued; later = m.later }
 
-  -- the sender
-  sent-from : (x : ServerId) (g : RegionId) (u : Update) → has_place g u ≡ true → Installed (server_of script x t0) g → IsSentFrom script t0 (Server x) g u
-  sent-from x g u p h = record {
-    server = x;
-    from_is = refl;
-    placed = p;
-    installed = ap is_some (found-installed (replica_of g (server_of script x t0).replicas) h.replica h.found h.installed);
-  }
-
   -- an update may be heard
-  hears-it : (x : ServerId) (g : RegionId) (s : ServerId) (u : Update) (c : Config) → MayHave script t0 s c → lists c g s ≡ true
-      → hears_update c u (place_number g u.places) s (Server x) ≡ true
+  hears-it : (x : ServerId) (g : RegionId) (s : ServerId) (u : Update) → MayHearUpdate script t0 (Server x) g s u
       → HearsUpdate (ways (at script t0)) x g s u
-  hears-it x g s u c m l h =
-      let (y, place, from_is, hop_is) = heard-from (Server x) (prev_of c u.places (place_number g u.places) s) h in
-      let q : x ≡ y = (let e = from_is in cc) in
-      record { config = c; may = may s c m; listed = listed-in c g s l; place = place; at = hop_is ∙ ap (λ (z : ServerId). At z place) (sym q) }
-
-  -- and an acknowledgement
-  hears-back : (x : ServerId) (by g : RegionId) (s : ServerId) (u : Update) (c : Config) → MayHave script t0 s c → lists c g s ≡ true
-      → hears_ack c u (place_number g u.places) s (Server x) by ≡ true
-      → HearsAck (ways (at script t0)) x by g s u
-  hears-back x by g s u c m l h =
-      let (y, place, from_is, hop_is, region) = heard-at u.places by (Server x) (next_of c u.places (place_number g u.places) s) h in
+  hears-it x g s u m =
+      let (y, place, from_is, hop_is) = heard-from (Server x) (prev_of m.config u.places (place_number g u.places) s) m.heard in
       let q : x ≡ y = (let e = from_is in cc) in
       record {
-        config = c;
-        may = may s c m;
-        listed = listed-in c g s l;
+        config = m.config;
+        may = may s m.config m.may;
+        listed = listed-in m.config g s m.listed;
+        place = place;
+        at = hop_is
+            ∙ ap (λ (z : ServerId). At z place) (sym q);
+      }
+
+  -- and an acknowledgement
+  hears-back : (x : ServerId) (by g : RegionId) (s : ServerId) (u : Update) → MayHearAck script t0 (Server x) by g s u
+      → HearsAck (ways (at script t0)) x by g s u
+  hears-back x by g s u m =
+      let (y, place, from_is, hop_is, region) = heard-at u.places by (Server x) (next_of m.config u.places (place_number g u.places) s) m.heard in
+      let q : x ≡ y = (let e = from_is in cc) in
+      record {
+        config = m.config;
+        may = may s m.config m.may;
+        listed = listed-in m.config g s m.listed;
         place = place;
         at = hop_is
             ∙ ap (λ (z : ServerId). At z place) (sym q);
         region = region;
       }
 
+  -- ---- posts
+
   -- an update under way
-  update-stands : (x : ServerId) (g : RegionId) (s : ServerId) (u : Update) → UpdateOk script (at script t0) u.key x g s u
-      → UpdateStands script t0 (Server x) g s u
-  update-stands x g s u ok = record {
+  update-stands : (x : ServerId) (epoch : Epoch) (g : RegionId) (s : ServerId) (u : Update) → UpdateOk script (at script t0) u.key x g s u
+      → NoLater (coordinator_of script t0).config (server_of script x t0) epoch → UpdateStands script t0 (Server x) epoch g s u
+  update-stands x epoch g s u ok k = record {
     region = ok.route.region;
-    sent = sent-from x ok.route.region u ok.route.sender_placed ok.from;
-    stands = λ c m l h. (ok.heard (hears-it x g s u c m l h)).stands;
-    accepted = λ c m l h k y t p held e. (let (w, holder, same) = holds script valid t0 run u.key k y t held in
-        let a = (ok.heard (hears-it x g s u c m l h)).before k y w holder (placed-number u.places g ok.route.placed, e) in
-        let z = same.top in omega (arith, a, z));
+    sent = sent-from x epoch ok.route.region ok.from k;
+    sender_placed = ok.route.sender_placed;
+    placed = ok.route.placed;
+    route = comes-next x g s u ok.route;
+    assigned = λ l. (ok.accepted (listed-in (coordinator_of script t0).config ok.route.region x l)).0;
+    kept = λ l. accepted-at u.key ok.route.region x u (ok.accepted (listed-in (coordinator_of script t0).config ok.route.region x l)).1;
+    stands = λ m. (ok.heard (hears-it x g s u m)).stands;
+    listed = λ m. in-listed (coordinator_of script t0).config g s (ok.heard (hears-it x g s u m)).listed;
+    accepted = λ m. accepted-before u.key g s u ok.route.placed (ok.heard (hears-it x g s u m)).before;
   }
 
   -- an acknowledgement under way
-  ack-stands : (x : ServerId) (by g : RegionId) (s : ServerId) (key : List ℕ) (v : Version) → AckOk script (at script t0) key x by g s v.0
-      → AckStands script t0 (Server x) by g s key v
-  ack-stands x by g s key v ok =
+  ack-stands : (x : ServerId) (epoch : Epoch) (by g : RegionId) (s : ServerId) (key : List ℕ) (v : Version)
+      → AckOk script (at script t0) key x by g s v.0 → NoLater (coordinator_of script t0).config (server_of script x t0) epoch
+      → AckStands script t0 (Server x) epoch by g s key v
+  ack-stands x epoch by g s key v ok k =
       let n = ok.version in
       record {
         update = ok.update;
         stands = ok.stands;
         version = λ j. record { 0 = n j };
-        sent = sent-from x by ok.update ok.sender_placed ok.from;
-        accepted = λ k y t p held. (let (w, holder, same) = holds script valid t0 run key k y t held in
-            let a = ok.everywhere k y w holder p in let z = same.top in omega (arith, a, z, n));
-        committed = λ c m l h k y t p held e. (let (w, holder, same) = holds script valid t0 run key k y t held in
-            let a = (ok.heard (hears-back x by g s ok.update c m l h)).1 k y w holder (placed-number ok.update.places k p, e) in
-            let z = same.floor in omega (arith, a, z, n));
+        sent = sent-from x epoch by ok.from k;
+        sender_placed = ok.sender_placed;
+        placed = ok.placed;
+        accepted = λ h y p. accepted-at key h y ok.update (λ t holder. ok.everywhere h y t holder p);
+        done = λ l. committed-at key by x ok.update (ok.committed (listed-in (coordinator_of script t0).config by x l));
+        listed = λ m. in-listed (coordinator_of script t0).config g s (ok.heard (hears-back x by g s ok.update m)).0;
+        committed = λ m. committed-after key g s ok.update (ok.heard (hears-back x by g s ok.update m)).1;
       }
 
+  -- a snapshot under way
+  snap-stands : (x : ServerId) (epoch : Epoch) (g : RegionId) (s : ServerId) (snapshot : List Kept) (pending : List Update)
+      → IsIn (post (Server x) (Server s) (a_message.Snap epoch g snapshot pending)) (posts_of t0)
+      → NoLater (coordinator_of script t0).config (server_of script x t0) epoch
+      → SendsSnapshot (IsKnown script t0) (server_of script x t0) epoch g x s
+      → SnapStands script t0 (Server x) epoch g s snapshot pending
+  snap-stands x epoch g s snapshot pending posted k sends = record {
+    sent = sent-from x epoch g sends.installed k;
+    config = sends.config;
+    issued = ap (λ (e : Epoch). config_of script e t0) (sym sends.epoch_is) ∙ sends.known;
+    joiner = sends.sender;
+    next = joiner-next x s (members_of sends.config g) (all.ordered.differ sends.config sends.known g) sends.sender;
+    listed = λ real up. in-listed (coordinator_of script t0).config g s
+        (coming-listed script valid t0 run (Server x) epoch g s snapshot pending posted (real, up));
+    holds = runs_send_parts script valid t0 run (Server x) epoch g s snapshot pending posted;
+  }
+
   -- each post
-  post-stands : (from : Actor) (s : ServerId) (m : Message) → Valid script (at script t0) from (Server s) m
+  post-stands : (from : Actor) (s : ServerId) (m : Message) → IsIn (post from (Server s) m) (posts_of t0) → Valid script (at script t0) from (Server s) m
       → Says (λ y. server_of script y t0) (IsKnown script t0) (coordinator_of script t0).config from (Server s) m → PostStands script t0 from s m
   post-stands from s (a_message.Update epoch g u) = by from
     where
-      by : (from : Actor) → Valid script (at script t0) from (Server s) (a_message.Update epoch g u)
+      by : (from : Actor) → IsIn (post from (Server s) (a_message.Update epoch g u)) (posts_of t0)
+          → Valid script (at script t0) from (Server s) (a_message.Update epoch g u)
           → Says (λ y. server_of script y t0) (IsKnown script t0) (coordinator_of script t0).config from (Server s) (a_message.Update epoch g u)
-          → UpdateStands script t0 from g s u
-      by (Server x) h k = update-stands x g s u h
-      by Coordinator h k = absurd k
-      by (Session y) h k = absurd k
+          → UpdateStands script t0 from epoch g s u
+      by (Server x) i h k = update-stands x epoch g s u h k
+      by Coordinator i h k = absurd k
+      by (Session y) i h k = absurd k
   post-stands from s (a_message.Ack epoch g region key version) = by from
     where
-      by : (from : Actor) → Valid script (at script t0) from (Server s) (a_message.Ack epoch g region key version)
+      by : (from : Actor) → IsIn (post from (Server s) (a_message.Ack epoch g region key version)) (posts_of t0)
+          → Valid script (at script t0) from (Server s) (a_message.Ack epoch g region key version)
           → Says (λ y. server_of script y t0) (IsKnown script t0) (coordinator_of script t0).config from (Server s)
-          (a_message.Ack epoch g region key version) → AckStands script t0 from region g s key version
-      by (Server x) h k = ack-stands x region g s key version h
-      by Coordinator h k = absurd k
-      by (Session y) h k = absurd k
-  post-stands from s other = λ h k. tt
+          (a_message.Ack epoch g region key version) → AckStands script t0 from epoch region g s key version
+      by (Server x) i h k = ack-stands x epoch region g s key version h k
+      by Coordinator i h k = absurd k
+      by (Session y) i h k = absurd k
+  post-stands from s (a_message.Snap epoch g snapshot pending) = by from
+    where
+      by : (from : Actor) → IsIn (post from (Server s) (a_message.Snap epoch g snapshot pending)) (posts_of t0)
+          → Valid script (at script t0) from (Server s) (a_message.Snap epoch g snapshot pending)
+          → Says (λ y. server_of script y t0) (IsKnown script t0) (coordinator_of script t0).config from (Server s)
+          (a_message.Snap epoch g snapshot pending) → SnapStands script t0 from epoch g s snapshot pending
+      by (Server x) i h k = snap-stands x epoch g s snapshot pending i k.0 k.1
+      by Coordinator i h k = absurd k
+      by (Session y) i h k = absurd k
+  post-stands from s other = λ i h k. tt
 
--- all updates and acknowledgements under way stand so
+-- what replicas keep for later stands
+pub runs_keep_what_stands : RunsKeepWhatStands
+runs_keep_what_stands script valid t run g s r up key =
+    let own = own-of script valid t run g s r up key in (
+      λ u i. early-stands script valid t run key g s u (own.early u i),
+      λ v i. acknowledged-stands script valid t run key g s (state_in script.space r key) v (own.acked v i),
+    )
+
+-- all updates, acknowledgements and snapshots under way stand so
 pub runs_posts_stand : RunsPostsStand
 runs_posts_stand script valid t run from s m i =
-    post-stands script valid t run from s m ((chained-run script valid t run).valid (post from (Server s) m) i)
+    post-stands script valid t run from s m i ((chained-run script valid t run).valid (post from (Server s) m) i)
     ((epochs-run script valid t run).epochs.says (post from (Server s) m) i)

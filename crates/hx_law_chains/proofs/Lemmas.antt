@@ -3,7 +3,7 @@ pub use Rattle.hx_law_chains.proofs.CoordinatorPosts.{Issues, OfCoordinator, coo
 pub use Rattle.hx_law_chains.proofs.Doubts.{lost-place}
 pub use Rattle.hx_law_chains.proofs.DoubtsTold.{doubts-told}
 pub use Rattle.hx_law_chains.proofs.Elsewhere.{issued-line}
-pub use Rattle.hx_law_chains.proofs.Headline.{runs_answer_committed, runs_keep_order, runs_posts_stand, runs_send_parts}
+pub use Rattle.hx_law_chains.proofs.Headline.{runs_answer_committed, runs_keep_order, runs_keep_what_stands, runs_posts_stand, runs_send_parts}
 pub use Rattle.hx_law_chains.proofs.Holders.{seat-of}
 pub use Rattle.hx_law_chains.proofs.Keys.{along-fixed}
 pub use Rattle.hx_law_chains.proofs.Lines.{only-upto, sorted-descends}

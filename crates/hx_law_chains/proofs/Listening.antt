@@ -41,8 +41,12 @@ hears space st from (a_message.Update epoch g u) = by (if_installed (replica_for
     by (Some r) e =
         cond_both (hears_update st.config u (place_number r.region u.places) st.id from)
         (at_slot st r (state_in space r u.key) (update_step (context_of space st r.region) (state_in space r u.key) u)) (unmoved st) Good
-        (λ t. inl (subst (λ (x : RegionId). hears_update st.config u (place_number x u.places) st.id from ≡ true)
-        (taken-region st g r (installed-is (replica_for st g) r e).0) t))
+        (λ t. inl (
+          r,
+          e,
+          subst (λ (x : RegionId). hears_update st.config u (place_number x u.places) st.id from ≡ true)
+              (taken-region st g r (installed-is (replica_for st g) r e).0) t,
+        ))
         (λ t. inr (dropped st epoch))
 hears space st from (a_message.Ack epoch g region key v) = by (if_installed (replica_for st g)) refl
   where
@@ -77,7 +81,7 @@ hears space st from (a_message.Snap epoch g snapshot pending) = by (replica_for 
     by (Some r) e = of (hears_snap st.config r.region st.id from) refl
       where
         of : (b : _) → hears_snap st.config r.region st.id from ≡ b → Good (cond (not b) (unmoved st) (snap_row space st r snapshot pending))
-        of true t = inl (subst (λ (x : RegionId). hears_snap st.config x st.id from ≡ true) (taken-region st g r e) t)
+        of true t = inl (r, e, subst (λ (x : RegionId). hears_snap st.config x st.id from ≡ true) (taken-region st g r e) t)
         of false t = inr (dropped st epoch)
 hears space st from other = tt
 

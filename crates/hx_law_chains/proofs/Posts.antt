@@ -1,5 +1,5 @@
 -- What an installed replica posts of an update that it has accepted or committed, by its server's own configuration, is true for whoever may hear it.
-use Rattle.std.proofs.Common.{◌≡◌, ℕ, ◌≤◌, inl, inr, true, List, refl, sym, ap, subst, arith}
+use Rattle.std.proofs.Common.{◌≡◌, ℕ, ◌≤◌, inl, inr, true, List, refl, sym, ap, ◌∙◌, subst, arith}
 use Rattle.hx_model.specs.Types.{At, RegionId, Script, ServerId, Update}
 use Rattle.hx_types.specs.Words.{IsIn}
 use Rattle.hx_types.specs.Spaces.{IsSpace}
@@ -7,7 +7,7 @@ use Rattle.hx_model.specs.Neighbours.{region_at}
 use Rattle.hx_model.specs.Slots.{KeyState, has_place, top_of}
 use Rattle.hx_model.specs.ServerSteps.{next_at, prev_at}
 use Rattle.hx_law_lemmas.proofs.Lemmas.{Apart, places-apart}
-use Rattle.hx_law_epochs.proofs.Lemmas.{GrownOut, HasPlace, number-placed, placed-number, stands-cases}
+use Rattle.hx_law_epochs.proofs.Lemmas.{GrownOut, HasPlace, next-is, number-placed, placed-number, stands-cases}
 use Rattle.hx_law_epochs.specs.Epochs.{order}
 use Rattle.hx_law_chains.proofs.Between.{none-after, none-before}
 use Rattle.hx_law_chains.proofs.Hops.{Hops, hops-first, hops-second, next-hops, prev-hops}
@@ -103,6 +103,7 @@ module _ (seated : Seated) where
             first_in = home;
             second_in = there.0;
             hops = hop;
+            next = e ∙ ap (At y) (sym (next-is (w.own i) u.places apart (o.differ (w.own i) (o.own i)) g here-placed i home y n e).number);
           };
           from = seat.installed;
           accepted = λ l. (k.stands, here);

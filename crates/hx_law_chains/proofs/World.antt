@@ -150,7 +150,7 @@ pub record HearsAck (v : Ways) (x : ServerId) (by : RegionId) (g : RegionId) (s 
   pub at : next_of config u.places (place_number g u.places) s ≡ At x place
   pub region : region_at u.places place ≡ by
 
--- the way of an update to a position: from a region of x, its neighbour in a configuration that was issued
+-- the way of an update to a position: from a region of x, after which it comes next in a configuration that was issued
 pub record Route (issued : Config → Type 0) (x : ServerId) (g : RegionId) (s : ServerId) (u : Update) : Type 0 where
   pub region : RegionId
   pub sender_placed : has_place region u ≡ true
@@ -161,6 +161,7 @@ pub record Route (issued : Config → Type 0) (x : ServerId) (g : RegionId) (s :
   pub first_in : IsIn x (order config region)
   pub second_in : IsIn s (order config g)
   pub hops : Hops config u.places region x g s
+  pub next : next_of config u.places (place_number region u.places) x ≡ At s (place_number g u.places)
 
 -- it stays so where more configurations are known
 abbrev pub route-known : (known known' : Config → Type 0) → ((c : Config) → known c → known' c) → (x : ServerId) (g : RegionId) (s : ServerId) (u : Update)
@@ -175,6 +176,7 @@ route-known known known' more x g s u r = record {
   first_in = r.first_in;
   second_in = r.second_in;
   hops = r.hops;
+  next = r.next;
 }
 
 module _ (script : Script) (w : World) (key : List ℕ) where

@@ -1,11 +1,12 @@
-//! The laws on chains over all runs: what replicas and snapshots under way hold of each line,
-//! whatever is delivered, lost, repeated, halted, stopped or added.
+//! The laws on chains over all runs: what replicas hold of each line and keep for later, what is
+//! under way between them and whom they hear, whatever is delivered, lost, repeated, halted,
+//! stopped or added.
 //!
 //! That what a replica accepted all before it accepted, and what it committed all after it committed, is chain
 //! replication's; that it holds of chains that depend on values, and while configurations overlap, is this project's.
 #![tactic(auto)]
 
-ghost use Rattle.hx_law_chains.specs.Chains.{RunsAnswerCommitted, RunsAssignUpdates, RunsHearNeighbours, RunsHoldParts, RunsKeepOrder, RunsPostsStand, RunsSendParts};
+ghost use Rattle.hx_law_chains.specs.Chains.{RunsAnswerCommitted, RunsAssignUpdates, RunsHearNeighbours, RunsHoldParts, RunsKeepOrder, RunsKeepWhatStands, RunsPostsStand, RunsSendParts};
 
 /// In every run each update of a key's line has the next version and is the effect of a write
 /// of the script on the object before it, or is refused because a configuration of the run has
@@ -44,18 +45,40 @@ pub fn answers_are_committed()
     ensures { RunsAnswerCommitted }
 {}
 
-/// In every run each update and each acknowledgement under way came from an installed replica;
-/// where its receiver may hear it, by its own configuration or a later one, an update stands in
-/// its key's line and is accepted by all before the receiver in its chain, and an acknowledged
-/// one, which all of its chain have accepted, is committed by all after the receiver.
+/// In every run what an installed replica of a server that hasn't halted keeps for later stands.
+/// An early update stands in its key's line, and all before the replica in its chain have accepted
+/// it. An acknowledged version stands there too, all before the replica have accepted it, and all
+/// after it have committed it; by its server's own configuration the chain ends at the replica, or
+/// goes on at an installed one.
+pub fn replicas_keep_what_stands()
+    ensures { RunsKeepWhatStands }
+{}
+
+/// In every run each update, acknowledgement and snapshot under way came from an installed replica.
+///
+/// An update is sent to a replica that came next in its chain, by a configuration of the run. Where
+/// the newest one lists the sender, the update stands in its key's line and the sender has accepted
+/// it. Where its receiver may hear it, by its own configuration or a later one, it stands in the
+/// line, the newest configuration lists the receiver, and all before the receiver in its chain have
+/// accepted it.
+///
+/// An acknowledged version stands in its key's line, and all of its chain have accepted it. Where
+/// the newest configuration lists the sender, that has committed it. Where the receiver may hear it,
+/// the newest configuration lists the receiver, and all after the receiver have committed it.
+///
+/// A snapshot is sent by the last ready member of its region to the member right after it, by the
+/// configuration of its epoch. Where the receiver hasn't halted, the newest configuration lists it;
+/// where it has no installed replica either, the snapshot and its pending updates hold the region's
+/// part of each key's line up to some version.
 pub fn posts_under_way_stand()
     ensures { RunsPostsStand }
 {}
 
-/// In every run a server takes an update only from its predecessor, an acknowledgement only
-/// from its successor, for a pending update and at the region that it names, and a snapshot
-/// only from the member before it, by its own configuration; any other leaves it as it is, and
-/// at most it asks for the newest configuration.
+/// In every run a server takes an update only from its predecessor, where its replica is installed;
+/// an acknowledgement only from its successor, for a pending update and at the region that it
+/// names; and a snapshot only from the member before it, where it has a replica of the region. All
+/// that is by its own configuration; any other leaves it as it is, and at most it asks for the
+/// newest configuration.
 pub fn replicas_hear_their_neighbours()
     ensures { RunsHearNeighbours }
 {}

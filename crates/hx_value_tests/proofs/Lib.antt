@@ -4,3 +4,4 @@ mod SnapshotRun
 mod SnapshotRows
 mod OverlapRun
 mod OverlapRows
+mod KeptRows

@@ -1,18 +1,22 @@
 -- What the laws on chains give of a snapshot under way, in a run of which all is computed.
 use Rattle.std.specs.Prelude.{◌≤◌, ℕ, List, [], ◌∷◌, length, None, Some}
 use Rattle.std.proofs.Common.{◌≡◌, true, inl, inr, refl, ap, sym, subst, ◌∙◌, arith}
-use Rattle.hx_model.specs.Types.{Server, Update}
+use Rattle.hx_model.specs.Types.{Config, Server, ServerId, Update}
 use Rattle.hx_types.specs.declared.calls.Answer.TheVariants as an_answer
+use Rattle.hx_types.specs.declared.messages.Message.TheVariants as a_message
+use Rattle.hx_types.specs.Configs.{joiner_for, lists, members_of}
 use Rattle.hx_types.specs.Words.{IsIn}
+use Rattle.hx_model.specs.Causes.{config_of}
 use Rattle.hx_model.specs.Histories.{line_of}
 use Rattle.hx_model.specs.Holders.{IsPrefix, snap_state}
+use Rattle.hx_model.specs.Neighbours.{member_after}
 use Rattle.hx_model.specs.Runs.{coordinator_of}
 use Rattle.hx_model.specs.ServerSteps.{Replica}
 use Rattle.hx_model.specs.Slots.{KeyState, has_place, top_of}
 use Rattle.hx_model.proofs.Lemmas.{caller, epoch, first_update, key_slot, put_color, red, region, replica, second_update, server, shop, the_key, version}
-use Rattle.hx_law_chains.specs.Chains.{InOrder, IsComing, IsHeld, IsUp, StandsEarlier}
-use Rattle.hx_law_chains.proofs.Lemmas.{runs_answer_committed, runs_keep_order, runs_send_parts}
-use Rattle.hx_value_tests.proofs.SnapshotRun.{its_empty, its_line, its_post, its_red_replica, its_reply, its_run, its_script, its_sender, pending, red_kept, red_slot, script, sent_slot, snapshot, trace}
+use Rattle.hx_law_chains.specs.Chains.{InOrder, IsComing, IsHeld, IsUp, SnapStands, StandsEarlier}
+use Rattle.hx_law_chains.proofs.Lemmas.{runs_answer_committed, runs_keep_order, runs_posts_stand, runs_send_parts}
+use Rattle.hx_value_tests.proofs.SnapshotRun.{its_empty, its_line, its_newest, its_post, its_red_replica, its_reply, its_run, its_script, its_sender, newest, pending, red_kept, red_slot, script, sent_slot, snapshot, trace}
 
 none_is_some : {A : Type 0} (x : A) → None ≡ Some x → ⊥
 none_is_some x e = absurd (cc)
@@ -59,6 +63,39 @@ without_red = key_slot (second_update ∷ []) 1 [] []
 
 not_without_red : ¬ IsPrefix (region 0) (second_update ∷ first_update ∷ []) without_red
 not_without_red = λ p. absurd (let e : length (second_update ∷ first_update ∷ []) ≡ length (second_update ∷ []) = ap length p.list in omega (arith, e))
+
+-- ---- by the law on posts under way: it went from server 2 to the member right after it
+
+snap_stands : SnapStands script trace (Server (server 2)) (epoch 2) (region 0) (server 3) snapshot pending
+snap_stands =
+    runs_posts_stand script its_script trace its_run (Server (server 2)) (server 3) (a_message.Snap (epoch 2) (region 0) snapshot pending) its_post
+
+-- whoever is said to have sent a post is its sender
+from_second : (s : ServerId) → Server (server 2) ≡ Server s → s ≡ server 2
+from_second s e = cc
+
+-- and the configuration of epoch 2 is the one that the run has
+of_epoch : (c : Config) → config_of script (epoch 2) trace ≡ Some c → c ≡ newest
+of_epoch c e = (let q : Some newest ≡ Some c = sym its_newest ∙ e in cc)
+
+comes_next : member_after (server 2) (members_of newest (region 0)) ≡ Some (server 3)
+comes_next =
+    subst (λ (c : Config). member_after (server 2) (members_of c (region 0)) ≡ Some (server 3)) (of_epoch snap_stands.config snap_stands.issued)
+    (subst (λ (s : ServerId). member_after s (members_of snap_stands.config (region 0)) ≡ Some (server 3))
+    (from_second snap_stands.sent.server snap_stands.sent.from_is) snap_stands.next)
+
+-- which lists the joiner
+joiner_is_listed : lists newest (region 0) (server 3) ≡ true
+joiner_is_listed = snap_stands.listed refl refl
+
+-- one from server 1, which isn't the last that is ready, wouldn't do
+from_first : (s : ServerId) → Server (server 1) ≡ Server s → s ≡ server 1
+from_first s e = cc
+
+not_from_first : ¬ SnapStands script trace (Server (server 1)) (epoch 2) (region 0) (server 3) snapshot pending
+not_from_first = λ p. none_is_some (server 3)
+    (subst (λ (c : Config). joiner_for c (region 0) (server 1) ≡ Some (server 3)) (of_epoch p.config p.issued)
+    (subst (λ (s : ServerId). joiner_for p.config (region 0) s ≡ Some (server 3)) (from_first p.sent.server p.sent.from_is) p.joiner))
 
 -- ---- by the law on the order of chains
 

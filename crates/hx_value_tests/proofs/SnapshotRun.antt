@@ -1,9 +1,9 @@
 -- A run with a snapshot under way to a joiner, computed: of the two updates of a key one is committed and one pending where the snapshot is made.
 use Rattle.std.specs.Prelude.{◌≢◌, ◌<◌, ◌≤◌, ℕ, List, [], ◌∷◌, length, codes, None, Some}
-use Rattle.std.proofs.Common.{◌≡◌, true, refl, arith}
+use Rattle.std.proofs.Common.{◌≡◌, true, false, refl, arith}
 use Rattle.std.proofs.lemmas.List.Elements.{All-from_recursion}
 use Rattle.std.specs.List.{All}
-use Rattle.hx_model.specs.Types.{Add, Attribute, Axis, Entry, Kept, Op, Post, Script, Server, Session, Step, Update}
+use Rattle.hx_model.specs.Types.{Add, Attribute, Axis, Config, Entry, Kept, Op, Post, Script, Server, Session, Step, Update}
 use Rattle.hx_types.specs.declared.calls.Answer.TheVariants as an_answer
 use Rattle.hx_types.specs.declared.messages.Message.TheVariants as a_message
 use Rattle.hx_types.specs.declared.traces.Step.TheVariants as a_step
@@ -11,12 +11,13 @@ use Rattle.hx_types.specs.declared.values.Value.TheVariants as a_value
 use Rattle.hx_types.specs.Fitting.{IsScript}
 use Rattle.hx_types.specs.Spaces.{ArePart, AssignFits, AssignsFit, Fits, IsKind, IsName, IsSpace, IsSubspaceOf, is_word}
 use Rattle.hx_types.specs.Words.{IsIn, post}
+use Rattle.hx_model.specs.Causes.{config_of}
 use Rattle.hx_model.specs.Histories.{line_of}
 use Rattle.hx_model.specs.Runs.{IsRun, coordinator_of, post_named, server_of}
 use Rattle.hx_model.specs.Schedule.{stepped}
 use Rattle.hx_model.specs.Slots.{KeyState}
 use Rattle.hx_model.specs.ServerSteps.{if_installed, replica_of}
-use Rattle.hx_model.proofs.Lemmas.{blue, epoch, first_update, key_slot, mark, not_installed, other_slot, put_color, red, region, replica, row, second_update}
+use Rattle.hx_model.proofs.Lemmas.{blue, configured, epoch, first_update, key_slot, mark, not_installed, other_slot, put_color, ready, red, region, replica, row, second_update}
 use Rattle.hx_model.proofs.Lemmas.{server, session, shop, the_key, touch, version}
 use Rattle.hx_law_lemmas.specs.Words.{posts_of}
 use Rattle.hx_law_lemmas.proofs.Lemmas.{arrived}
@@ -135,8 +136,15 @@ snapshot = red_kept ∷ []
 abbrev pub pending : List Update
 pending = second_update ∷ []
 
-its_epoch : (coordinator_of script trace).config.epoch ≡ epoch 2
-its_epoch = refl
+-- the newest configuration has server 3 as a joiner
+abbrev pub newest : Config
+newest = configured 2 (1 ∷ 2 ∷ 3 ∷ []) ((ready 1 ∷ ready 2 ∷ record { server = server 3; ready = false } ∷ []) ∷ (ready 2 ∷ ready 3 ∷ []) ∷ (ready 3 ∷ ready 1 ∷ []) ∷ [])
+
+pub its_newest : config_of script (epoch 2) trace ≡ Some newest
+its_newest = refl
+
+its_config : (coordinator_of script trace).config ≡ newest
+its_config = refl
 
 -- server 2 has sent it to server 3
 abbrev sent : Post
