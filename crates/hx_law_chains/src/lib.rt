@@ -63,8 +63,8 @@ pub fn replicas_keep_what_stands()
 /// accepted it.
 ///
 /// An acknowledged version stands in its key's line, and all of its chain have accepted it. Where
-/// the newest configuration lists the sender, that has committed it. Where the receiver may hear it,
-/// the newest configuration lists the receiver, and all after the receiver have committed it.
+/// the newest configuration lists the sender, that has committed it. Where the receiver may hear
+/// of it, the newest configuration lists the receiver, and all after that have committed it.
 ///
 /// A snapshot is sent by the last ready member of its region to the member right after it, by the
 /// configuration of its epoch. Where the receiver hasn't halted, the newest configuration lists it;
