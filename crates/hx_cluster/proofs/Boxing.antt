@@ -12,7 +12,7 @@ use Rattle.hx_mail.specs.declared.views.BoxNames.{BoxNames}
 use Rattle.hx_mail.specs.Boxes.{Boxed}
 use Rattle.hx_outbox.specs.Places.{names_for, place_of, AreBoxes}
 use Rattle.hx_outbox.proofs.Lemmas.{at-map, map-length, place-below}
-use Rattle.hx_desk.specs.Inboxes.{ins_of, HasInPort, IsInPort}
+use Rattle.hx_driver.specs.Inboxes.{ins_of, HasInPort, IsInPort}
 use Rattle.hx_cluster.specs.declared.opening.BoxPorts.{BoxPorts}
 use Rattle.hx_cluster.specs.Actors.{actor_at}
 use Rattle.hx_cluster.specs.Opened.{AreNewPorts, ArePortsOf}

@@ -29,9 +29,9 @@ use Rattle.hx_outbox.specs.Zipped.{Both}
 use Rattle.hx_fate.specs.States.{untouched}
 use Rattle.hx_outbox.specs.Offers.{IsOffered, IsTotal}
 use Rattle.hx_outbox.proofs.Lemmas.{map-length, offered-none}
-use Rattle.hx_desk.specs.declared.desks.Desk.{Desk}
-use Rattle.hx_desk.specs.Desks.{entries_before, made_by, past_of, told}
-use Rattle.hx_desk.specs.Inboxes.{HasInPort, IsHeardFrom, ins_of}
+use Rattle.hx_driver.specs.declared.desks.Desk.{Desk}
+use Rattle.hx_driver.specs.Desks.{entries_before, made_by, past_of, told}
+use Rattle.hx_driver.specs.Inboxes.{HasInPort, IsHeardFrom, ins_of}
 use Rattle.hx_driver.specs.declared.crews.Crew.{Crew}
 use Rattle.hx_driver.specs.Crews.{made_weight, no_totals, weight_in, IsBooked, IsCrew, IsDeskOf}
 use Rattle.hx_cluster.specs.Clusters.{actors_dealt, AreNewCrews, IsNewCrew, IsNewSeat}

@@ -15,7 +15,7 @@ use Rattle.hx_law_threads.proofs.Lemmas.{same_actor_is}
 use Rattle.hx_clock.proofs.Lemmas.{each_all, each_append, each_in}
 use Rattle.hx_outbox.specs.Places.{place_of, Exists}
 use Rattle.hx_outbox.proofs.Lemmas.{place-below}
-use Rattle.hx_desk.specs.declared.desks.Desk.{Desk}
+use Rattle.hx_driver.specs.declared.desks.Desk.{Desk}
 use Rattle.hx_driver.specs.declared.crews.Crew.{Crew}
 use Rattle.hx_law_drivers.specs.Crews.{desks_of, HaveAllActors}
 use Rattle.hx_cluster.specs.Clusters.{actors_dealt}

@@ -6,8 +6,8 @@ use Rattle.hx_types.specs.declared.traces.Script.{Script}
 use Rattle.hx_mail.specs.Boxes.{Boxed, Ported}
 use Rattle.hx_outbox.specs.declared.outboxes.Outbox.{Outbox}
 use Rattle.hx_outbox.specs.Outboxes.{IsOutbox, outs_of}
-use Rattle.hx_desk.specs.declared.desks.Desk.{Desk}
-use Rattle.hx_desk.specs.Desks.{IsWholeDesk}
+use Rattle.hx_driver.specs.declared.desks.Desk.{Desk}
+use Rattle.hx_driver.specs.Desks.{IsWholeDesk}
 use Rattle.hx_cluster.specs.Actors.{first_dealt}
 
 -- what holds of each item with its place

@@ -3,7 +3,7 @@ use Rattle.std.specs.Prelude.{ℕ, zero, suc, ◌≡◌, List, [], ◌∷◌, le
 use Rattle.hx_mail.specs.Boxes.{Boxed, Ported}
 use Rattle.hx_outbox.specs.Zipped.{Both}
 use Rattle.hx_outbox.specs.Outboxes.{IsOutPort, outs_of}
-use Rattle.hx_desk.specs.Inboxes.{IsInPort, ins_of}
+use Rattle.hx_driver.specs.Inboxes.{IsInPort, ins_of}
 use Rattle.hx_cluster.specs.declared.opening.BoxPorts.{BoxPorts}
 
 -- the ports of the drivers from j on

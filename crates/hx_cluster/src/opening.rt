@@ -3,7 +3,7 @@ ghost use Rattle.hx_types.specs.Fitting.{IsScript};
 ghost use Rattle.hx_mail.specs.Boxes.{IsPortOf};
 ghost use Rattle.hx_mail.specs.Ports.{first_port};
 ghost use Rattle.hx_outbox.specs.Places.{AreBoxes};
-ghost use Rattle.hx_desk.specs.Inboxes.{IsInPort, ins_of};
+ghost use Rattle.hx_driver.specs.Inboxes.{IsInPort, ins_of};
 ghost use Rattle.hx_cluster.specs.Opened.{AreNewPorts, AreOutPortsFrom, ArePortsOf};
 
 use crate::actors::actor_at;

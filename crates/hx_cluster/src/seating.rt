@@ -3,7 +3,7 @@ ghost use Rattle.hx_types.specs.Fitting.{IsScript};
 ghost use Rattle.hx_model.specs.Runs.{is_actor};
 ghost use Rattle.hx_clock.specs.Views.{Owns};
 ghost use Rattle.hx_outbox.specs.Places.{AreBoxes, place_of};
-ghost use Rattle.hx_desk.specs.Inboxes.{HasInPort, ins_of};
+ghost use Rattle.hx_driver.specs.Inboxes.{HasInPort, ins_of};
 ghost use Rattle.hx_cluster.specs.Clusters.{AreNewSeats, IsNewSeat};
 ghost use Rattle.hx_cluster.specs.Dealt.{AtEach, AreNewDesks, IsNewDesk};
 

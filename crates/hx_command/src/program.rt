@@ -15,7 +15,7 @@ ghost use Rattle.hx_replay.specs.declared.words.Question.{Question};
 use crate::finished::Finished;
 use crate::space_runs::MOST_DRIVERS;
 use crate::top::hyperstore;
-use hx_desk::Open;
+use hx_driver::Open;
 use hx_fate::{Fate, Losing};
 use hx_io::{Sink, Source, write_all};
 use hx_replay::{Done, Outcome, Question, fault_text, question_of, status};

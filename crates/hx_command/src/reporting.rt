@@ -10,7 +10,7 @@ ghost use Rattle.hx_command.specs.Threads.{EndsOnThreads, IsReported, IsThreaded
 use crate::finished::{Finished, ended};
 use crate::threads::{Threading, run_threads};
 use crate::writing::{hand_worn, write_run};
-use hx_desk::Gate;
+use hx_driver::Gate;
 use hx_fate::{Fate, Tuning};
 use hx_io::Sink;
 use hx_replay::Outcome;

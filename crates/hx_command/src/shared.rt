@@ -8,7 +8,7 @@ ghost use Rattle.hx_command.specs.Threads.{EndsShare, EndsWith, IsDecided, IsSha
 
 use crate::finished::{Finished, ended, unthreaded};
 use crate::reading::read_script;
-use hx_desk::Gate;
+use hx_driver::Gate;
 use hx_io::{Sink, Source, write_all};
 use hx_replay::{Done, Outcome, one_trace, status};
 use hx_report::report;

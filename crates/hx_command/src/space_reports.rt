@@ -18,7 +18,7 @@ use crate::space_runs::{SpacesRan, run_spaces, workers_of};
 use crate::threads::Threading;
 use crate::writing::{Threaded, handed, write_answer};
 use hx_bundle::Bundle;
-use hx_desk::Gate;
+use hx_driver::Gate;
 use hx_fate::{Fate, Tuning};
 use hx_io::Sink;
 use hx_replay::Outcome;

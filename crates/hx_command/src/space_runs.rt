@@ -10,7 +10,7 @@ ghost use Rattle.hx_command.specs.Threads.{AreRan, IsThreaded, most_drivers, wor
 
 use crate::threads::{Threading, run_threads};
 use hx_bundle::Bundle;
-use hx_desk::Gate;
+use hx_driver::Gate;
 use hx_fate::Fate;
 use hx_run::Ran;
 use hx_types::{Actor, Memory, Script};

@@ -19,7 +19,7 @@ use crate::reading::read_any_script;
 use crate::reporting::answer_run;
 use crate::soaking::answer_soak;
 use crate::space_reports::answer_spaces;
-use hx_desk::Gate;
+use hx_driver::Gate;
 use hx_fate::Fate;
 use hx_io::{Sink, Source};
 use hx_replay::{Outcome, Scripted};

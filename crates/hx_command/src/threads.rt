@@ -5,7 +5,7 @@ ghost use Rattle.hx_fate.specs.States.{tuned};
 ghost use Rattle.hx_run.specs.Ran.{HasRisen};
 ghost use Rattle.hx_command.specs.Threads.{IsThreaded};
 
-use hx_desk::Gate;
+use hx_driver::Gate;
 use hx_fate::{Fate, Tuning};
 use hx_run::{Ran, run};
 use hx_types::{Memory, Script};

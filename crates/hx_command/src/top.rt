@@ -21,7 +21,7 @@ ghost use Rattle.hx_replay.specs.declared.texts.Scripted.{Scripted as ScriptedSe
 use crate::finished::{Finished, unthreaded};
 use crate::shared::share_words;
 use crate::threaded::{run_words, soak_words};
-use hx_desk::Gate;
+use hx_driver::Gate;
 use hx_fate::Fate;
 use hx_io::{Sink, Source};
 use hx_replay::hyperstore_alone;

@@ -15,10 +15,10 @@ use Rattle.hx_outbox.specs.Outboxes.{kept_weight}
 use Rattle.hx_fate.specs.declared.fates.FateState.{FateState}
 use Rattle.hx_outbox.specs.Offers.{asked_of, count_of, raised_by, IsOffered, Offer}
 use Rattle.hx_outbox.proofs.Lemmas.{at-total, set-total, total-one, offered-both, offered-few, offered-long, offered-none}
-use Rattle.hx_desk.specs.declared.desks.Desk.{Desk}
-use Rattle.hx_desk.specs.declared.faults.Fault.{Fault}
-use Rattle.hx_desk.specs.Desks.{made_by, made_in}
-use Rattle.hx_desk.specs.Turns.{HasRoom, IsTurn, weight_of}
+use Rattle.hx_driver.specs.declared.desks.Desk.{Desk}
+use Rattle.hx_driver.specs.declared.faults.Fault.{Fault}
+use Rattle.hx_driver.specs.Desks.{made_by, made_in}
+use Rattle.hx_driver.specs.Turns.{HasRoom, IsTurn, weight_of}
 use Rattle.hx_driver.specs.declared.crews.Crew.{Crew}
 use Rattle.hx_driver.specs.Crews.{made_weight, no_totals, weight_in, IsBooked, IsCrew, IsDeskOf, IsPosted}
 

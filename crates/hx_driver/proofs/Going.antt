@@ -9,10 +9,10 @@ use Rattle.hx_clock.specs.declared.parts.Stamped.{Stamped}
 use Rattle.hx_mail.specs.Boxes.{Boxed}
 use Rattle.hx_fate.specs.declared.fates.FateState.{FateState}
 use Rattle.hx_outbox.specs.declared.outboxes.Outbox.{Outbox}
-use Rattle.hx_desk.specs.declared.desks.Desk.{Desk}
-use Rattle.hx_desk.specs.declared.faults.Fault.{Fault}
-use Rattle.hx_desk.specs.Desks.{HasRetried, IsBrokenDesk, IsWholeDesk}
-use Rattle.hx_desk.specs.Turns.{IsFaultOf, IsTurn}
+use Rattle.hx_driver.specs.declared.desks.Desk.{Desk}
+use Rattle.hx_driver.specs.declared.faults.Fault.{Fault}
+use Rattle.hx_driver.specs.Desks.{HasRetried, IsBrokenDesk, IsWholeDesk}
+use Rattle.hx_driver.specs.Turns.{IsFaultOf, IsTurn}
 use Rattle.hx_driver.specs.declared.crews.Crew.{Crew}
 use Rattle.hx_driver.specs.declared.moves.Move.{Move}
 use Rattle.hx_driver.specs.declared.moves.Move.TheVariants.{Turn, Retry}

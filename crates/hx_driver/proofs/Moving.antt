@@ -12,12 +12,12 @@ use Rattle.hx_mail.specs.Boxes.{Boxed}
 use Rattle.hx_fate.specs.declared.fates.FateState.{FateState}
 use Rattle.hx_outbox.specs.Zipped.{Both}
 use Rattle.hx_outbox.proofs.Lemmas.{begins-refl, begins-trans, more-refl, more-trans}
-use Rattle.hx_desk.specs.declared.desks.Desk.{Desk}
-use Rattle.hx_desk.specs.declared.faults.Fault.{Fault}
-use Rattle.hx_desk.specs.declared.faults.Fault.TheVariants as a_fault
-use Rattle.hx_desk.specs.Desks.{HasNoRetry, IsBrokenDesk, IsLater, IsWholeDesk}
-use Rattle.hx_desk.specs.Inboxes.{ins_of}
-use Rattle.hx_desk.specs.Turns.{IsFaultOf}
+use Rattle.hx_driver.specs.declared.desks.Desk.{Desk}
+use Rattle.hx_driver.specs.declared.faults.Fault.{Fault}
+use Rattle.hx_driver.specs.declared.faults.Fault.TheVariants as a_fault
+use Rattle.hx_driver.specs.Desks.{HasNoRetry, IsBrokenDesk, IsLater, IsWholeDesk}
+use Rattle.hx_driver.specs.Inboxes.{ins_of}
+use Rattle.hx_driver.specs.Turns.{IsFaultOf}
 use Rattle.hx_driver.specs.declared.crews.Crew.{Crew}
 use Rattle.hx_driver.specs.Crews.{HasFault, HasWorn, IsCrew, IsDeskOf}
 use Rattle.hx_driver.specs.Slices.{DoneTo, HasFaultSince, HaveNoRetry, IsLaterCrew, MayHaveRetried}

@@ -13,10 +13,10 @@ use Rattle.hx_outbox.specs.declared.outboxes.Outbox.{Outbox}
 use Rattle.hx_outbox.specs.Outboxes.{IsOutbox, kept_weight, out_weight}
 use Rattle.hx_fate.specs.declared.fates.FateState.{FateState}
 use Rattle.hx_outbox.specs.Offers.{IsOffered, IsTotal}
-use Rattle.hx_desk.specs.declared.desks.Desk.{Desk}
-use Rattle.hx_desk.specs.declared.faults.Fault.TheVariants as a_fault
-use Rattle.hx_desk.specs.Desks.{IsBrokenDesk, IsWholeDesk, made_by}
-use Rattle.hx_desk.specs.Turns.{HasMoreToMake}
+use Rattle.hx_driver.specs.declared.desks.Desk.{Desk}
+use Rattle.hx_driver.specs.declared.faults.Fault.TheVariants as a_fault
+use Rattle.hx_driver.specs.Desks.{IsBrokenDesk, IsWholeDesk, made_by}
+use Rattle.hx_driver.specs.Turns.{HasMoreToMake}
 use Rattle.hx_driver.specs.declared.crews.Crew.{Crew}
 
 -- h of all that the driver put, or keeps for one of its actors

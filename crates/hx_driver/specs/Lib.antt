@@ -1,3 +1,8 @@
+pub mod Inboxes
+pub mod Told
+pub mod Desks
+pub mod Turns
+pub mod Givings
 pub mod Crews
 pub mod Slices
 pub mod Floors

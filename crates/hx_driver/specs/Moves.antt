@@ -5,10 +5,10 @@ use Rattle.hx_types.specs.declared.traces.Script.{Script}
 use Rattle.hx_mail.specs.Boxes.{Boxed}
 use Rattle.hx_fate.specs.declared.fates.FateState.{FateState}
 use Rattle.hx_outbox.specs.declared.floors.Floor.{Floor}
-use Rattle.hx_desk.specs.declared.desks.Desk.{Desk}
-use Rattle.hx_desk.specs.declared.faults.Fault.{Fault}
-use Rattle.hx_desk.specs.Desks.{HasNoRetry, HasRetried}
-use Rattle.hx_desk.specs.Turns.{IsFaultOf}
+use Rattle.hx_driver.specs.declared.desks.Desk.{Desk}
+use Rattle.hx_driver.specs.declared.faults.Fault.{Fault}
+use Rattle.hx_driver.specs.Desks.{HasNoRetry, HasRetried}
+use Rattle.hx_driver.specs.Turns.{IsFaultOf}
 use Rattle.hx_driver.specs.declared.crews.Crew.{Crew}
 use Rattle.hx_driver.specs.declared.moves.Move.{Move}
 use Rattle.hx_driver.specs.declared.moves.Move.TheVariants.{Turn, Retry}

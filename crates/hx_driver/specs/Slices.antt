@@ -4,10 +4,10 @@ use Rattle.hx_types.specs.declared.traces.Script.{Script}
 use Rattle.hx_types.specs.Words.{IsIn}
 use Rattle.hx_outbox.specs.Outboxes.{MorePut}
 use Rattle.hx_outbox.specs.Zipped.{Both}
-use Rattle.hx_desk.specs.declared.desks.Desk.{Desk}
-use Rattle.hx_desk.specs.declared.faults.Fault.{Fault}
-use Rattle.hx_desk.specs.declared.faults.Fault.TheVariants as a_fault
-use Rattle.hx_desk.specs.Desks.{HasNoRetry, HasRetried, IsLater}
+use Rattle.hx_driver.specs.declared.desks.Desk.{Desk}
+use Rattle.hx_driver.specs.declared.faults.Fault.{Fault}
+use Rattle.hx_driver.specs.declared.faults.Fault.TheVariants as a_fault
+use Rattle.hx_driver.specs.Desks.{HasNoRetry, HasRetried, IsLater}
 use Rattle.hx_driver.specs.declared.crews.Crew.{Crew}
 use Rattle.hx_driver.specs.Crews.{HasFault, HasWorn}
 

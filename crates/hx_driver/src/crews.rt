@@ -1,6 +1,7 @@
 ghost use Rattle.std.specs.Prelude.{◌≡◌};
 
-use hx_desk::{Desk, Fault};
+use crate::desks::Desk;
+use crate::faults::Fault;
 use hx_outbox::Outbox;
 use hx_types::Totals;
 

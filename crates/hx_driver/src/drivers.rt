@@ -5,11 +5,12 @@ ghost use Rattle.hx_driver.specs.Crews.{IsCrew, IsPosted};
 ghost use Rattle.hx_driver.specs.Slices.{HaveNoRetry, HaveRetried, IsLaterCrew};
 
 use crate::crews::Crew;
+use crate::faults::Fault;
+use crate::gates::Gate;
 use crate::lulls::AtWork;
 use crate::retrying::retry_each;
 use crate::turning::rounds;
 use hx_clock::Clock;
-use hx_desk::{Fault, Gate};
 use hx_fate::Fate;
 use hx_mail::Mailbox;
 use hx_outbox::Floor;

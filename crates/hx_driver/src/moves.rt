@@ -3,13 +3,16 @@
 ghost use Rattle.std.specs.Prelude.{ℕ, ◌≡◌, ◌<◌, List, MatchResult, None, length};
 ghost use Rattle.hx_clock.specs.declared.parts.Stamped.{Stamped};
 ghost use Rattle.hx_outbox.specs.Outboxes.{IsOutbox};
-ghost use Rattle.hx_desk.specs.Floors.{IsBrokenDeskOn, IsWholeDeskOn};
-ghost use Rattle.hx_desk.specs.Turns.{HasRoom, IsTurn};
-ghost use Rattle.hx_driver.specs.Floors.{IsCrewOn};
+ghost use Rattle.hx_driver.specs.Floors.{IsBrokenDeskOn, IsWholeDeskOn, IsCrewOn};
+ghost use Rattle.hx_driver.specs.Turns.{HasRoom, IsTurn};
 ghost use Rattle.hx_driver.specs.Moves.{GoesOnAt, HasFailed, HasMoved, HasMovedAt};
 
 use crate::crews::Crew;
-use hx_desk::{Desk, Fault, Gate, retry, turn};
+use crate::desk_retries::retry;
+use crate::desk_turns::turn;
+use crate::desks::Desk;
+use crate::faults::Fault;
+use crate::gates::Gate;
 use hx_fate::Fate;
 use hx_outbox::{Floor, Outbox};
 use hx_types::Totals;

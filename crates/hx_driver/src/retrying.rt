@@ -4,8 +4,8 @@ ghost use Rattle.hx_driver.specs.Moves.{GoesOnAt};
 ghost use Rattle.hx_driver.specs.Slices.{HaveRetried};
 
 use crate::crews::Crew;
+use crate::gates::Gate;
 use crate::moves::{Move, move_at};
-use hx_desk::Gate;
 use hx_fate::Fate;
 use hx_outbox::Floor;
 use std::sync::Wait;

@@ -10,10 +10,10 @@ use Rattle.hx_law_threads.specs.Cuts.{is_retry, is_waiting}
 use Rattle.hx_law_threads.specs.Pacing.{AreRising}
 use Rattle.hx_mail.specs.Boxes.{Boxed}
 use Rattle.hx_outbox.specs.Zipped.{Both}
-use Rattle.hx_desk.specs.declared.desks.Desk.{Desk}
-use Rattle.hx_desk.specs.declared.faults.Fault.{Fault}
-use Rattle.hx_desk.specs.declared.faults.Fault.TheVariants.{Memory, Worn}
-use Rattle.hx_desk.specs.Desks.{entries_before, HasNoRetry, HasRetried, IsLater}
+use Rattle.hx_driver.specs.declared.desks.Desk.{Desk}
+use Rattle.hx_driver.specs.declared.faults.Fault.{Fault}
+use Rattle.hx_driver.specs.declared.faults.Fault.TheVariants.{Memory, Worn}
+use Rattle.hx_driver.specs.Desks.{entries_before, HasNoRetry, HasRetried, IsLater}
 use Rattle.hx_driver.specs.declared.crews.Crew.{Crew}
 use Rattle.hx_driver.specs.Crews.{HasFault, HasWorn}
 use Rattle.hx_driver.specs.Slices.{HasFaultSince, HasWornSince, IsLaterCrew, MayHaveRetried}

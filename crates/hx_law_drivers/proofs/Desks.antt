@@ -10,9 +10,9 @@ use Rattle.hx_law_threads.specs.PartPacing.{HasAllActors, HaveCut}
 use Rattle.hx_law_threads.proofs.Lemmas.{same_actor_is, same_as_itself, in_map}
 use Rattle.hx_outbox.specs.Zipped.{Both}
 use Rattle.hx_outbox.proofs.Lemmas.{begins-refl, begins-trans, more-refl, more-trans}
-use Rattle.hx_desk.specs.declared.desks.Desk.{Desk}
-use Rattle.hx_desk.specs.Inboxes.{ins_of}
-use Rattle.hx_desk.specs.Desks.{IsLater}
+use Rattle.hx_driver.specs.declared.desks.Desk.{Desk}
+use Rattle.hx_driver.specs.Inboxes.{ins_of}
+use Rattle.hx_driver.specs.Desks.{IsLater}
 use Rattle.hx_driver.specs.declared.crews.Crew.{Crew}
 use Rattle.hx_driver.specs.Slices.{IsLaterCrew}
 use Rattle.hx_law_drivers.specs.Crews.{cut_of, desks_of, entries_at, lost_by, part_of, parts_of, HaveAllActors}

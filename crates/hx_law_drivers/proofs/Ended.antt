@@ -17,7 +17,7 @@ use Rattle.hx_law_threads.specs.Merged.{parts_in, ActorPart, AreWholeParts, IsMe
 use Rattle.hx_law_threads.proofs.Lemmas.{in_map, merged_run, done_ended, by_own}
 use Rattle.hx_machine.specs.Machines.{has_ended}
 use Rattle.hx_mail.specs.Boxes.{Boxed}
-use Rattle.hx_desk.specs.Desks.{entries_before}
+use Rattle.hx_driver.specs.Desks.{entries_before}
 use Rattle.hx_driver.specs.declared.crews.Crew.{Crew}
 use Rattle.hx_law_drivers.specs.Crews.{desks_of, part_of, parts_of}
 use Rattle.hx_law_drivers.specs.Laws.{HaveRun}

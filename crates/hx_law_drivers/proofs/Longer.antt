@@ -14,7 +14,7 @@ use Rattle.hx_law_threads.specs.Counting.{total_at}
 use Rattle.hx_law_threads.specs.Cuts.{first_entries, is_in_cut, is_retry, is_waiting, next_at, open_at, own_at, whole_of, Cut, HasCallUnderWay}
 use Rattle.hx_law_threads.specs.Pacing.{earlier, retries_at, IsPacedBy, RetriesFollow, WaitersRetry}
 use Rattle.hx_law_threads.proofs.Lemmas.{same_actor_is, same_as_itself, first_fewer, retriers_waited}
-use Rattle.hx_desk.specs.declared.desks.Desk.{Desk}
+use Rattle.hx_driver.specs.declared.desks.Desk.{Desk}
 use Rattle.hx_law_drivers.proofs.Lists.{bools_same}
 use Rattle.hx_law_drivers.proofs.Seen.{count_own, IsSeen}
 

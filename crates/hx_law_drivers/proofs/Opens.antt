@@ -24,9 +24,9 @@ use Rattle.hx_outbox.specs.Places.{place_of, AreBoxes, Exists}
 use Rattle.hx_outbox.specs.Outboxes.{counts_of, kept_weight, out_weight, outs_of, IsOutPort, MorePut}
 use Rattle.hx_outbox.specs.Offers.{count_of, put_weight, Offer}
 use Rattle.hx_outbox.proofs.Lemmas.{begins-trans, both-long}
-use Rattle.hx_desk.specs.declared.desks.Desk.{Desk}
-use Rattle.hx_desk.specs.Inboxes.{ins_of, IsHeardFrom}
-use Rattle.hx_desk.specs.Desks.{entries_before, made_by, told, IsLater, IsWholeDesk}
+use Rattle.hx_driver.specs.declared.desks.Desk.{Desk}
+use Rattle.hx_driver.specs.Inboxes.{ins_of, IsHeardFrom}
+use Rattle.hx_driver.specs.Desks.{entries_before, made_by, told, IsLater, IsWholeDesk}
 use Rattle.hx_driver.specs.declared.crews.Crew.{Crew}
 use Rattle.hx_driver.specs.Crews.{made_weight, IsBooked, IsCrew, IsDeskOf}
 use Rattle.hx_driver.specs.Slices.{IsLaterCrew}

@@ -20,10 +20,10 @@ use Rattle.hx_machine.specs.Machines.{has_ended}
 use Rattle.hx_mail.specs.declared.views.Sent.{Sent}
 use Rattle.hx_mail.specs.Boxes.{Boxed}
 use Rattle.hx_outbox.specs.Zipped.{Both}
-use Rattle.hx_desk.specs.declared.desks.Desk.{Desk}
-use Rattle.hx_desk.specs.Desks.{entries_before, told, IsLater}
-use Rattle.hx_desk.specs.Inboxes.{ins_of}
-use Rattle.hx_desk.specs.Told.{told_by}
+use Rattle.hx_driver.specs.declared.desks.Desk.{Desk}
+use Rattle.hx_driver.specs.Desks.{entries_before, told, IsLater}
+use Rattle.hx_driver.specs.Inboxes.{ins_of}
+use Rattle.hx_driver.specs.Told.{told_by}
 use Rattle.hx_driver.specs.declared.crews.Crew.{Crew}
 use Rattle.hx_driver.specs.Crews.{IsCrew, IsDeskOf}
 use Rattle.hx_driver.specs.Slices.{IsLaterCrew}

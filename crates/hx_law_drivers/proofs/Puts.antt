@@ -19,8 +19,8 @@ use Rattle.hx_law_threads.proofs.Lemmas.{in_map, in_permuted, in_reverse, are_co
 use Rattle.hx_mail.specs.declared.views.Mailed.{Mailed}
 use Rattle.hx_mail.specs.Boxes.{Boxed}
 use Rattle.hx_outbox.specs.Offers.{put_weight, IsFair, Offer}
-use Rattle.hx_desk.specs.declared.desks.Desk.{Desk}
-use Rattle.hx_desk.specs.Desks.{entries_before, made_by}
+use Rattle.hx_driver.specs.declared.desks.Desk.{Desk}
+use Rattle.hx_driver.specs.Desks.{entries_before, made_by}
 use Rattle.hx_driver.specs.declared.crews.Crew.{Crew}
 use Rattle.hx_driver.specs.Crews.{IsCrew, IsDeskOf}
 use Rattle.hx_law_drivers.specs.Crews.{desks_of, part_of, parts_of}

@@ -17,10 +17,10 @@ use Rattle.hx_mail.specs.declared.views.Mailed.{Mailed}
 use Rattle.hx_mail.specs.declared.views.Sent.{Sent}
 use Rattle.hx_mail.specs.Boxes.{Boxed}
 use Rattle.hx_outbox.specs.Offers.{count_of, IsFair, Offer}
-use Rattle.hx_desk.specs.declared.desks.Desk.{Desk}
-use Rattle.hx_desk.specs.Inboxes.{ins_of}
-use Rattle.hx_desk.specs.Desks.{made_by, told}
-use Rattle.hx_desk.specs.Told.{told_by}
+use Rattle.hx_driver.specs.declared.desks.Desk.{Desk}
+use Rattle.hx_driver.specs.Inboxes.{ins_of}
+use Rattle.hx_driver.specs.Desks.{made_by, told}
+use Rattle.hx_driver.specs.Told.{told_by}
 use Rattle.hx_driver.specs.declared.crews.Crew.{Crew}
 use Rattle.hx_driver.specs.Crews.{made_weight, IsCrew, IsDeskOf}
 use Rattle.hx_law_drivers.specs.Crews.{desks_of, doubled_by}

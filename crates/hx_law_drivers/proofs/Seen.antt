@@ -21,9 +21,9 @@ use Rattle.hx_mail.specs.declared.views.Mailed.{Mailed}
 use Rattle.hx_outbox.specs.Offers.{named}
 use Rattle.hx_outbox.specs.Zipped.{Both}
 use Rattle.hx_outbox.proofs.Lemmas.{map-length}
-use Rattle.hx_desk.specs.declared.desks.Desk.{Desk}
-use Rattle.hx_desk.specs.Desks.{entries_before, made_by, told, IsLater}
-use Rattle.hx_desk.specs.Told.{told_by}
+use Rattle.hx_driver.specs.declared.desks.Desk.{Desk}
+use Rattle.hx_driver.specs.Desks.{entries_before, made_by, told, IsLater}
+use Rattle.hx_driver.specs.Told.{told_by}
 use Rattle.hx_driver.specs.declared.crews.Crew.{Crew}
 use Rattle.hx_law_drivers.specs.Crews.{cut_of, desks_of, part_of, parts_of}
 use Rattle.hx_law_drivers.proofs.Lists.{both_in, in_flat, prefix_take, total_of_map}

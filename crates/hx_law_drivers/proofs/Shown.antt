@@ -11,7 +11,7 @@ use Rattle.hx_law_threads.specs.Own.{own_entries, past_of}
 use Rattle.hx_law_threads.specs.Merged.{parts_in, ActorPart, AreWholeParts, IsMerged}
 use Rattle.hx_law_threads.proofs.Lemmas.{in_map, in_reverse, of_map, merged_run, of_parts}
 use Rattle.hx_mail.specs.Boxes.{Boxed}
-use Rattle.hx_desk.specs.declared.desks.Desk.{Desk}
+use Rattle.hx_driver.specs.declared.desks.Desk.{Desk}
 use Rattle.hx_driver.specs.declared.crews.Crew.{Crew}
 use Rattle.hx_driver.specs.Crews.{IsCrew, IsDeskOf}
 use Rattle.hx_law_drivers.specs.Crews.{desks_of, part_of, parts_of}

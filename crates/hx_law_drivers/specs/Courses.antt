@@ -7,7 +7,7 @@ use Rattle.hx_mail.specs.Boxes.{Boxed}
 use Rattle.hx_outbox.specs.Zipped.{Both}
 use Rattle.hx_driver.specs.declared.crews.Crew.{Crew}
 use Rattle.hx_driver.specs.Crews.{IsCrew}
-use Rattle.hx_desk.specs.Desks.{HasRetried}
+use Rattle.hx_driver.specs.Desks.{HasRetried}
 use Rattle.hx_driver.specs.Slices.{HasFaultSince, HaveNoRetry, IsLaterCrew, MayHaveRetried}
 use Rattle.hx_law_drivers.specs.Rests.{AreAtRest, SomeGoesOn}
 

@@ -7,7 +7,7 @@ use Rattle.hx_model.specs.Runs.{is_actor}
 use Rattle.hx_clock.specs.Views.{total}
 use Rattle.hx_law_threads.specs.Cuts.{Cut}
 use Rattle.hx_law_threads.specs.Merged.{ActorPart}
-use Rattle.hx_desk.specs.declared.desks.Desk.{Desk}
+use Rattle.hx_driver.specs.declared.desks.Desk.{Desk}
 use Rattle.hx_driver.specs.declared.crews.Crew.{Crew}
 
 abbrev pub desks_of : List Crew → List Desk

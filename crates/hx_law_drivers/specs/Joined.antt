@@ -9,8 +9,8 @@ use Rattle.hx_mail.specs.Boxes.{Ported}
 use Rattle.hx_mail.specs.Ports.{put_by}
 use Rattle.hx_outbox.specs.Outboxes.{out_weight, outs_of}
 use Rattle.hx_outbox.specs.Places.{place_of}
-use Rattle.hx_desk.specs.declared.desks.Desk.{Desk}
-use Rattle.hx_desk.specs.Inboxes.{ins_of}
+use Rattle.hx_driver.specs.declared.desks.Desk.{Desk}
+use Rattle.hx_driver.specs.Inboxes.{ins_of}
 use Rattle.hx_driver.specs.declared.crews.Crew.{Crew}
 use Rattle.hx_law_drivers.specs.Crews.{desks_of}
 

@@ -17,12 +17,12 @@ use Rattle.hx_law_threads.specs.Pacing.{IsPaced, IsPacedToEnd}
 use Rattle.hx_mail.specs.declared.views.Mailed.{Mailed}
 use Rattle.hx_mail.specs.Boxes.{Boxed}
 use Rattle.hx_outbox.specs.Places.{AreBoxes}
-use Rattle.hx_desk.specs.declared.desks.Desk.{Desk}
-use Rattle.hx_desk.specs.declared.faults.Fault.TheVariants.{Worn}
-use Rattle.hx_desk.specs.Desks.{told}
-use Rattle.hx_desk.specs.Inboxes.{ins_of}
-use Rattle.hx_desk.specs.Told.{told_by}
-use Rattle.hx_desk.specs.Turns.{HasMoreToMake}
+use Rattle.hx_driver.specs.declared.desks.Desk.{Desk}
+use Rattle.hx_driver.specs.declared.faults.Fault.TheVariants.{Worn}
+use Rattle.hx_driver.specs.Desks.{told}
+use Rattle.hx_driver.specs.Inboxes.{ins_of}
+use Rattle.hx_driver.specs.Told.{told_by}
+use Rattle.hx_driver.specs.Turns.{HasMoreToMake}
 use Rattle.hx_driver.specs.declared.crews.Crew.{Crew}
 use Rattle.hx_driver.specs.Crews.{IsCrew}
 use Rattle.hx_law_drivers.specs.Crews.{AreNumbered, HaveAllActors, desks_of, doubled_by, lost_by, parts_of}

@@ -6,8 +6,8 @@ use Rattle.hx_types.specs.Words.{IsIn}
 use Rattle.hx_law_threads.specs.Cuts.{is_idle_actor}
 use Rattle.hx_machine.specs.Machines.{has_ended}
 use Rattle.hx_outbox.specs.Places.{place_of}
-use Rattle.hx_desk.specs.declared.desks.Desk.{Desk}
-use Rattle.hx_desk.specs.Desks.{entries_before}
+use Rattle.hx_driver.specs.declared.desks.Desk.{Desk}
+use Rattle.hx_driver.specs.Desks.{entries_before}
 use Rattle.hx_driver.specs.declared.crews.Crew.{Crew}
 use Rattle.hx_law_drivers.specs.Crews.{desks_of}
 

@@ -3,7 +3,7 @@ ghost use Rattle.std.specs.Prelude.{◌≡◌, length};
 ghost use Rattle.hx_command.specs.Threads.{HasEnough};
 
 use hx_command::{Finished, hyperstore};
-use hx_desk::Open;
+use hx_driver::Open;
 use hx_fate::{Faithful, Fate};
 use hx_io::{MemorySink, MemorySource};
 use hx_words::{run_of, soak_of};

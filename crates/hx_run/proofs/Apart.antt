@@ -1,7 +1,7 @@
 -- Drivers that are taken apart.
 use Rattle.std.proofs.Common.{◌≡◌, List, [], ◌∷◌, ◌++◌, map, refl, ap, sym, ◌∙◌, append_assoc, append-nil}
 use Rattle.hx_law_threads.proofs.Lemmas.{map_append}
-use Rattle.hx_desk.specs.declared.desks.Desk.{Desk}
+use Rattle.hx_driver.specs.declared.desks.Desk.{Desk}
 use Rattle.hx_driver.specs.declared.crews.Crew.{Crew}
 use Rattle.hx_law_drivers.specs.Crews.{desks_of}
 

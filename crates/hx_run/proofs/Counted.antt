@@ -21,8 +21,8 @@ use Rattle.hx_fate.specs.declared.fates.FateState.{FateState}
 use Rattle.hx_outbox.specs.Offers.{asked_of, count_of, is_gone, named, raised_by, Offer}
 use Rattle.hx_outbox.specs.Places.{place_of}
 use Rattle.hx_outbox.proofs.Lemmas.{total-one, offered-long}
-use Rattle.hx_desk.specs.declared.desks.Desk.{Desk}
-use Rattle.hx_desk.specs.Desks.{entries_before, made_by}
+use Rattle.hx_driver.specs.declared.desks.Desk.{Desk}
+use Rattle.hx_driver.specs.Desks.{entries_before, made_by}
 use Rattle.hx_driver.specs.declared.crews.Crew.{Crew}
 use Rattle.hx_driver.specs.Crews.{made_weight, no_totals, weight_in, IsBooked, IsPosted}
 use Rattle.hx_law_drivers.specs.Crews.{desks_of, part_of, parts_of}

@@ -15,10 +15,10 @@ use Rattle.hx_mail.specs.Boxes.{Boxed}
 use Rattle.hx_fate.specs.declared.fates.FateState.{FateState}
 use Rattle.hx_outbox.specs.Zipped.{Both}
 use Rattle.hx_outbox.proofs.Lemmas.{begins-refl, begins-trans, more-refl, more-trans, offered-both, offered-none}
-use Rattle.hx_desk.specs.declared.desks.Desk.{Desk}
-use Rattle.hx_desk.specs.declared.faults.Fault.{Fault}
-use Rattle.hx_desk.specs.declared.faults.Fault.TheVariants.{Memory, Worn}
-use Rattle.hx_desk.specs.Desks.{HasNoRetry, HasRetried, IsLater}
+use Rattle.hx_driver.specs.declared.desks.Desk.{Desk}
+use Rattle.hx_driver.specs.declared.faults.Fault.{Fault}
+use Rattle.hx_driver.specs.declared.faults.Fault.TheVariants.{Memory, Worn}
+use Rattle.hx_driver.specs.Desks.{HasNoRetry, HasRetried, IsLater}
 use Rattle.hx_driver.specs.declared.crews.Crew.{Crew}
 use Rattle.hx_driver.specs.Crews.{made_weight, weight_in, HasFault, HasWorn, IsCrew, IsDeskOf, IsPosted}
 use Rattle.hx_driver.specs.Slices.{HasFaultSince, HaveNoRetry, HaveRetried, IsLaterCrew, MayHaveRetried}

@@ -19,7 +19,7 @@ use Rattle.hx_outbox.specs.Places.{place_of}
 use Rattle.hx_outbox.specs.Zipped.{Both}
 use Rattle.hx_outbox.proofs.Lemmas.{both-at, both-long}
 use Rattle.hx_run.specs.declared.joining.Taker.{Taker}
-use Rattle.hx_desk.specs.Inboxes.{ins_of}
+use Rattle.hx_driver.specs.Inboxes.{ins_of}
 use Rattle.hx_law_drivers.specs.Joined.{outs_at}
 use Rattle.hx_run.specs.Joined.{joined_lists, place_at, AreInPlaces, AreJoinedFrom, HaveIndexes, IsJoined, IsKeptTaker, TookInOrder}
 

@@ -30,9 +30,9 @@ use Rattle.hx_outbox.specs.Outboxes.{out_weight, IsOutbox}
 use Rattle.hx_outbox.specs.Places.{names_for, place_of, AreBoxes, Exists}
 use Rattle.hx_outbox.specs.Zipped.{Both}
 use Rattle.hx_outbox.proofs.Lemmas.{map-length, both-long, place-below}
-use Rattle.hx_desk.specs.declared.desks.Desk.{Desk}
-use Rattle.hx_desk.specs.Desks.{IsDesk}
-use Rattle.hx_desk.specs.Inboxes.{ins_of}
+use Rattle.hx_driver.specs.declared.desks.Desk.{Desk}
+use Rattle.hx_driver.specs.Desks.{IsDesk}
+use Rattle.hx_driver.specs.Inboxes.{ins_of}
 use Rattle.hx_driver.specs.declared.crews.Crew.{Crew}
 use Rattle.hx_driver.specs.Crews.{IsCrew, IsDeskOf}
 use Rattle.hx_law_drivers.specs.Crews.{desks_of, part_of, parts_of, AreNumbered, HaveAllActors}

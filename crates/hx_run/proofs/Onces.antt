@@ -18,7 +18,7 @@ use Rattle.hx_outbox.specs.declared.outboxes.Outbox.{Outbox}
 use Rattle.hx_outbox.specs.Outboxes.{out_weight, outs_of}
 use Rattle.hx_outbox.specs.Zipped.{Both}
 use Rattle.hx_run.specs.declared.joining.Taker.{Taker}
-use Rattle.hx_desk.specs.Inboxes.{ins_of}
+use Rattle.hx_driver.specs.Inboxes.{ins_of}
 use Rattle.hx_law_drivers.specs.Joined.{outs_at}
 use Rattle.hx_run.specs.Joined.{joined_lists, place_at, AreInPlaces, HaveIndexes, IsJoined, IsKeptTaker, TookOnce}
 use Rattle.hx_run.proofs.Joins.{joined-has, place-kept, some-at}

@@ -14,7 +14,7 @@ use Rattle.hx_law_threads.proofs.Lemmas.{reverse_snoc}
 use Rattle.hx_mail.specs.declared.views.Mailed.{Mailed}
 use Rattle.hx_mail.specs.declared.views.PortLists.{PortLists}
 use Rattle.hx_outbox.specs.Places.{place_of}
-use Rattle.hx_desk.specs.declared.desks.Desk.{Desk}
+use Rattle.hx_driver.specs.declared.desks.Desk.{Desk}
 use Rattle.hx_driver.specs.declared.crews.Crew.{Crew}
 use Rattle.hx_law_drivers.specs.Crews.{AreNumbered}
 use Rattle.hx_law_drivers.specs.Joined.{outs_at}

@@ -38,12 +38,12 @@ use Rattle.hx_fate.specs.declared.fates.FateState.{FateState}
 use Rattle.hx_outbox.specs.Places.{place_of}
 use Rattle.hx_outbox.specs.Zipped.{Both}
 use Rattle.hx_outbox.proofs.Lemmas.{map-length, both-long}
-use Rattle.hx_desk.specs.declared.desks.Desk.{Desk}
-use Rattle.hx_desk.specs.declared.faults.Fault.{Fault}
-use Rattle.hx_desk.specs.declared.faults.Fault.TheVariants.{Memory, Worn}
-use Rattle.hx_desk.specs.Desks.{entries_before, told, IsDesk}
-use Rattle.hx_desk.specs.Told.{told_by}
-use Rattle.hx_desk.specs.Inboxes.{ins_of}
+use Rattle.hx_driver.specs.declared.desks.Desk.{Desk}
+use Rattle.hx_driver.specs.declared.faults.Fault.{Fault}
+use Rattle.hx_driver.specs.declared.faults.Fault.TheVariants.{Memory, Worn}
+use Rattle.hx_driver.specs.Desks.{entries_before, told, IsDesk}
+use Rattle.hx_driver.specs.Told.{told_by}
+use Rattle.hx_driver.specs.Inboxes.{ins_of}
 use Rattle.hx_driver.specs.declared.crews.Crew.{Crew}
 use Rattle.hx_driver.specs.Crews.{IsCrew}
 use Rattle.hx_law_drivers.specs.Crews.{desks_of, doubled_by, lost_by, part_of, parts_of, AreNumbered}

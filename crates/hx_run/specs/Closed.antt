@@ -13,10 +13,10 @@ use Rattle.hx_mail.specs.Boxes.{Boxed, Ported}
 use Rattle.hx_mail.specs.Ports.{CarriesAll, IsInOrder, IsOnce, TookAlone}
 use Rattle.hx_fate.specs.declared.fates.FateState.{FateState}
 use Rattle.hx_outbox.specs.Zipped.{Both}
-use Rattle.hx_desk.specs.declared.desks.Desk.{Desk}
-use Rattle.hx_desk.specs.declared.faults.Fault.{Fault}
-use Rattle.hx_desk.specs.declared.faults.Fault.TheVariants.{Memory, Worn}
-use Rattle.hx_desk.specs.Inboxes.{ins_of}
+use Rattle.hx_driver.specs.declared.desks.Desk.{Desk}
+use Rattle.hx_driver.specs.declared.faults.Fault.{Fault}
+use Rattle.hx_driver.specs.declared.faults.Fault.TheVariants.{Memory, Worn}
+use Rattle.hx_driver.specs.Inboxes.{ins_of}
 use Rattle.hx_driver.specs.declared.crews.Crew.{Crew}
 use Rattle.hx_driver.specs.Crews.{IsPosted}
 use Rattle.hx_law_drivers.specs.Crews.{desks_of, parts_of}

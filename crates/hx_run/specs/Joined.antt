@@ -13,7 +13,7 @@ use Rattle.hx_outbox.specs.declared.outboxes.Outbox.{Outbox}
 use Rattle.hx_outbox.specs.Outboxes.{out_weight, IsOutbox}
 use Rattle.hx_outbox.specs.Places.{place_of}
 use Rattle.hx_run.specs.declared.joining.Taker.{Taker}
-use Rattle.hx_desk.specs.Inboxes.{ins_of}
+use Rattle.hx_driver.specs.Inboxes.{ins_of}
 use Rattle.hx_law_drivers.specs.Joined.{outs_at}
 
 -- the place of the actor's box

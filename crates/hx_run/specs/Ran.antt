@@ -32,7 +32,7 @@ use Rattle.hx_fate.specs.declared.fates.FateState.{FateState}
 use Rattle.hx_outbox.specs.Offers.{IsTotal, is_gone, raised_by}
 use Rattle.hx_outbox.specs.Places.{place_of}
 use Rattle.hx_outbox.specs.Zipped.{Both}
-use Rattle.hx_desk.specs.Told.{told_by}
+use Rattle.hx_driver.specs.Told.{told_by}
 use Rattle.hx_cluster.specs.Everyone.{actors_of}
 use Rattle.hx_gather.specs.Gathered.{IsDrawn}
 

@@ -2,7 +2,7 @@
 ghost use Rattle.std.specs.Prelude.{◌≡◌, ◌≤◌, length};
 
 use crate::running::{LIBRARY, answers, boxed, script_of};
-use hx_desk::Open;
+use hx_driver::Open;
 use hx_fate::{Choice, Drawn, Faithful, Fate, FateState, Tuning};
 use hx_run::{Ran, run};
 use hx_types::{Actor, Message};

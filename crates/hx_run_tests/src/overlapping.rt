@@ -3,7 +3,7 @@
 ghost use Rattle.std.specs.Prelude.{◌≤◌};
 
 use crate::running::{answers, boxed};
-use hx_desk::Gate;
+use hx_driver::Gate;
 use hx_fate::{Faithful, Fate};
 use hx_types::{Actor, ServerId, SessionId};
 use std::process::Abort;

@@ -2,7 +2,7 @@
 ghost use Rattle.std.specs.Prelude.{◌≤◌, length, IfOk};
 ghost use Rattle.hx_types.specs.Fitting.{IsScript};
 
-use hx_desk::Gate;
+use hx_driver::Gate;
 use hx_fate::Fate;
 use hx_history::{histories, records};
 use hx_legal::legal;

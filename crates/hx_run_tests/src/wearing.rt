@@ -2,7 +2,7 @@
 ghost use Rattle.std.specs.Prelude.{◌≡◌, length};
 
 use crate::running::{boxed, script_of};
-use hx_desk::Open;
+use hx_driver::Open;
 use hx_fate::{EveryNth, Fate, Tuning};
 use hx_run::{Ran, run};
 use hx_types::{Actor, SessionId};

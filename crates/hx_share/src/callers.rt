@@ -3,7 +3,7 @@ ghost use Rattle.hx_model.specs.Runs.{is_actor};
 ghost use Rattle.hx_types.specs.Fitting.{IsScript};
 ghost use Rattle.hx_types.specs.declared.ids.Actor.TheVariants as an_actor;
 
-use hx_desk::Gate;
+use hx_driver::Gate;
 use hx_service::{Charter, Roster, ServiceError};
 use hx_types::{Actor, Script, SessionId};
 use std::alloc::Global;

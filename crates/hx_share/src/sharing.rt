@@ -4,7 +4,7 @@ ghost use Rattle.hx_share.specs.Sharing.{IsShared};
 
 use crate::callers::call_sessions;
 use crate::rest::make_rest;
-use hx_desk::Gate;
+use hx_driver::Gate;
 use hx_service::{Charter, Roster};
 use hx_trace::Trace;
 use hx_types::{Actor, Memory, Script};

@@ -3,7 +3,7 @@
 ghost use Rattle.std.specs.Prelude.{◌≤◌};
 
 use crate::sharing::answers;
-use hx_desk::Gate;
+use hx_driver::Gate;
 use hx_types::{Actor, SessionId};
 use std::process::Abort;
 use std::sync::Wait;

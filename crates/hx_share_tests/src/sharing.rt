@@ -2,7 +2,7 @@
 ghost use Rattle.std.specs.Prelude.{◌≤◌, IfOk};
 ghost use Rattle.hx_types.specs.Fitting.{IsScript};
 
-use hx_desk::{Gate, Open};
+use hx_driver::{Gate, Open};
 use hx_history::{histories, records};
 use hx_legal::legal;
 use hx_script::{ScriptError, read, scripts_are_valid};

@@ -1,7 +1,7 @@
 use Rattle.std.proofs.Common.{arith, ◌≡◌, ◌+◌, ◌<◌, ◌%◌, ◌∙◌, sym, ap, subst, length}
 use Rattle.std.proofs.Math.Nat.{mod-lt}
 use Rattle.hx_outbox.specs.Places.{place_of}
-use Rattle.hx_desk.specs.Inboxes.{HasInPort}
+use Rattle.hx_driver.specs.Inboxes.{HasInPort}
 use Rattle.hx_cluster.specs.Dealt.{AreNewDesks}
 use Rattle.hx_cluster.proofs.AtEach.{at_each_read, at_each_set}
 use Rattle.hx_cluster.proofs.ByPlace.{place-at}

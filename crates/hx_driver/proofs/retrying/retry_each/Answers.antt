@@ -1,5 +1,5 @@
 use Rattle.std.proofs.Common.{arith, ◌≡◌, inl, length}
-use Rattle.hx_desk.specs.Desks.{HasRetried, IsLater}
+use Rattle.hx_driver.specs.Desks.{HasRetried, IsLater}
 use Rattle.hx_driver.specs.Slices.{MayHaveRetried}
 use Rattle.hx_driver.proofs.Going.{goes-refl, goes-trans}
 use Rattle.hx_driver.proofs.Moving.{done-all, done-none}

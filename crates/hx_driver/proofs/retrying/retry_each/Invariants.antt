@@ -1,5 +1,5 @@
 use Rattle.std.proofs.Common.{◌≡◌, None}
-use Rattle.hx_desk.specs.Desks.{HasRetried}
+use Rattle.hx_driver.specs.Desks.{HasRetried}
 use Rattle.hx_driver.specs.Moves.{GoesOnAt}
 use Rattle.hx_driver.specs.Slices.{DoneTo, HasFaultSince, MayHaveRetried}
 use Rattle.hx_driver.proofs.retrying.retry_each.Given as goal

@@ -1,5 +1,5 @@
 use Rattle.std.proofs.Common.{arith}
-use Rattle.hx_desk.specs.Desks.{IsLater}
+use Rattle.hx_driver.specs.Desks.{IsLater}
 use Rattle.hx_driver.proofs.Going.{goes-refl, goes-trans}
 use Rattle.hx_driver.proofs.Moving.{none-retried-refl, none-retried-trans}
 use Rattle.hx_driver.proofs.Places.{both-length}

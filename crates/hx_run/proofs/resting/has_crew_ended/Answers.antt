@@ -1,6 +1,6 @@
 use Rattle.std.proofs.Common.{◌<◌, ◌∙◌, sym, length, arith}
 use Rattle.hx_clock.proofs.Lemmas.{each_in, in_left}
-use Rattle.hx_desk.specs.Desks.{entries_before}
+use Rattle.hx_driver.specs.Desks.{entries_before}
 use Rattle.hx_run.specs.Rounds.{HasMachine}
 use Rattle.hx_run.proofs.Zipped.{at-in}
 use Rattle.hx_run.proofs.resting.has_crew_ended.Goals as goal

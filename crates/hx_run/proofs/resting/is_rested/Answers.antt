@@ -1,5 +1,5 @@
 use Rattle.std.proofs.Common.{arith, sym, ◌≡◌, ◌∙◌, length}
-use Rattle.hx_desk.specs.Desks.{entries_before}
+use Rattle.hx_driver.specs.Desks.{entries_before}
 use Rattle.hx_law_drivers.specs.Rests.{HasHeard}
 use Rattle.hx_run.proofs.Zipped.{each-map, map-each, nil}
 use Rattle.hx_run.proofs.resting.is_rested.Goals as goal
