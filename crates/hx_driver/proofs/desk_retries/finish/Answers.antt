@@ -6,7 +6,7 @@ use Rattle.hx_driver.proofs.Same.{desk-input}
 use Rattle.hx_driver.proofs.Turned.{turn-self}
 use Rattle.hx_driver.proofs.Waiting.{plan-enough, retried-one, tick-retries}
 use Rattle.hx_driver.proofs.Worn.{more-to-make}
-use Rattle.hx_driver.proofs.retrying.finish.Goals as goal
+use Rattle.hx_driver.proofs.desk_retries.finish.Goals as goal
 
 pub returns-then-not-makes_anything-clause-turn : goal.returns-then-not-makes_anything-clause-turn
 returns-then-not-makes_anything-clause-turn g c = ([], turn-self c.args.floor.now.boxes.now c.args.desk.now c.args.out.now c.args.totals.now _ c.requires.out c.requires.room.total)

@@ -3,7 +3,7 @@ use Rattle.hx_driver.specs.Desks.{entries_before}
 use Rattle.hx_driver.proofs.Same.{whole-of, whole-running}
 use Rattle.hx_driver.proofs.Turned.{turn-self}
 use Rattle.hx_driver.proofs.Waiting.{not-resting, retried-resting}
-use Rattle.hx_driver.proofs.retrying.retry.Goals as goal
+use Rattle.hx_driver.proofs.desk_retries.retry.Goals as goal
 
 pub returns-then-rests-clause-retried : goal.returns-then-rests-clause-retried
 returns-then-rests-clause-retried g c =

@@ -5,7 +5,7 @@ use Rattle.hx_law_threads.specs.Cuts.{is_idle_actor}
 use Rattle.hx_driver.specs.Desks.{entries_before}
 use Rattle.hx_driver.proofs.Results.{match-map}
 use Rattle.hx_driver.proofs.Same.{at-same, retried-same, room-same, turn-after, turn-same}
-use Rattle.hx_driver.proofs.retrying.tick.Goals as goal
+use Rattle.hx_driver.proofs.desk_retries.tick.Goals as goal
 
 pub finish-requires-clause-desk : goal.finish-requires-clause-desk
 finish-requires-clause-desk g c = (c.requires.desk.0, c.prepare_step.ensures.desk c.requires.desk.0 [] c.requires.desk.1)

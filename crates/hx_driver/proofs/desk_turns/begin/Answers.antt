@@ -5,7 +5,7 @@ use Rattle.hx_driver.proofs.Results.{match-elim, match-map}
 use Rattle.hx_driver.proofs.Same.{broken-of}
 use Rattle.hx_driver.proofs.Turned.{no-retry-none, no-retry-one, turn-self}
 use Rattle.hx_driver.proofs.Waiting.{idle-enough, tick-begins}
-use Rattle.hx_driver.proofs.turning.begin.Goals as goal
+use Rattle.hx_driver.proofs.desk_turns.begin.Goals as goal
 
 pub make_unless_worn-requires-clause-enough : goal.make_unless_worn-requires-clause-enough
 make_unless_worn-requires-clause-enough g c =

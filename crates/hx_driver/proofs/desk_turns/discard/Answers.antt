@@ -3,7 +3,7 @@ use Rattle.std.specs.Prelude.{nat_lt}
 use Rattle.std.specs.List.{list_all}
 use Rattle.hx_driver.proofs.Heard.{counted}
 use Rattle.hx_driver.proofs.Same.{broken-of, taken-broken}
-use Rattle.hx_driver.proofs.turning.discard.Goals as goal
+use Rattle.hx_driver.proofs.desk_turns.discard.Goals as goal
 
 pub receive-requires-clause-room : goal.receive-requires-clause-room
 receive-requires-clause-room g c =

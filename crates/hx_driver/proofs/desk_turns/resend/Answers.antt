@@ -1,7 +1,7 @@
 use Rattle.std.proofs.Common.{arith, refl, sym, append-nil}
 use Rattle.hx_outbox.proofs.Lemmas.{begins-refl, offered-none}
 use Rattle.hx_driver.specs.Inboxes.{ins_of}
-use Rattle.hx_driver.proofs.turning.resend.Goals as goal
+use Rattle.hx_driver.proofs.desk_turns.resend.Goals as goal
 
 pub put_kept-requires-clause-few : goal.put_kept-requires-clause-few
 put_kept-requires-clause-few g c = let l = c.requires.room.1.weight in omega (arith, l)

@@ -10,7 +10,7 @@ use Rattle.hx_driver.proofs.Results.{match-elim, match-map}
 use Rattle.hx_driver.specs.Inboxes.{ins_of}
 use Rattle.hx_driver.proofs.Same.{at-same, broken-of, no-tick, room-same, taken-enough, turn-taken}
 use Rattle.hx_driver.proofs.Turned.{no-retry-both, no-retry-none, no-retry-one}
-use Rattle.hx_driver.proofs.turning.take_and_enter.Goals as goal
+use Rattle.hx_driver.proofs.desk_turns.take_and_enter.Goals as goal
 
 pub receive-requires-clause-room : goal.receive-requires-clause-room
 receive-requires-clause-room g c =

@@ -7,7 +7,7 @@ use Rattle.hx_driver.specs.Turns.{IsFaultOf}
 use Rattle.hx_driver.proofs.Results.{match-map}
 use Rattle.hx_driver.proofs.Same.{at-same, whole-halted, whole-of, whole-running}
 use Rattle.hx_driver.proofs.Turned.{no-retry-both, no-retry-none, turn-both, turn-none}
-use Rattle.hx_driver.proofs.turning.turn.Goals as goal
+use Rattle.hx_driver.proofs.desk_turns.turn.Goals as goal
 
 pub resend-requires-clause-desk : goal.resend-requires-clause-desk
 resend-requires-clause-desk g c = (c.requires.desk.0, c.requires.desk.1.rest, c.requires.desk.1.desk)
