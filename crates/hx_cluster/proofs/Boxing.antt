@@ -3,8 +3,6 @@ use Rattle.std.proofs.Common.{◌≡◌, ℕ, zero, suc, ◌+◌, ◌<◌, ◌�
 use Rattle.std.proofs.lemmas.List.{map-append}
 use Rattle.std.proofs.lemmas.Option.{get_or_from_slice_get}
 use Rattle.atomic_table.specs.Seated.{TableId}
-use Rattle.hx_types.specs.declared.ids.Actor.{Actor}
-use Rattle.hx_types.specs.declared.spaces.Space.{Space}
 use Rattle.hx_types.specs.declared.traces.Script.{Script}
 use Rattle.hx_types.specs.Words.{below}
 use Rattle.hx_clock.proofs.Lemmas.{get-front}
@@ -56,12 +54,6 @@ below-at (suc n) k lt =
     cases zero (suc n) lt = inl (omega arith)
     cases (suc k) zero lt = absurd (omega (arith, lt))
     cases (suc k) (suc n) lt = ⊎_elim (λ (h : k < n). inl (omega (arith, h))) (λ (h : k ≡ n). inr (ap suc h)) (cases k n (omega (arith, lt)))
-
-abbrev pub box_names : TableId → Actor → Space → ℕ → BoxNames
-box_names clock owner space sessions = record { clock = clock; owner = owner; space = space; sessions = sessions }
-
-pub named-for : (script : Script) (clock : TableId) (a : Actor) (names : BoxNames) (owner : Actor) (sessions : ℕ) → names ≡ box_names clock owner script.space sessions → owner ≡ a → sessions ≡ length script.sessions → names ≡ names_for script clock a
-named-for script clock a names owner sessions e f g = e ∙ ap (λ o. box_names clock o script.space sessions) f ∙ ap (λ n. box_names clock a script.space n) g
 
 -- the boxes of the first places, one more
 pub names-more : (script : Script) (clock : TableId) (k : ℕ) (boxes boxes' : List Boxed) (box : Boxed)

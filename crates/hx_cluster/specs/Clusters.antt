@@ -1,5 +1,5 @@
 -- The boxes and the drivers of a script before the first turn.
-use Rattle.std.specs.Prelude.{ℕ, ◌≡◌, ◌%◌, List, [], ◌∷◌, map, slice_get, None, Some, eqb}
+use Rattle.std.specs.Prelude.{ℕ, ◌≡◌, ◌%◌, List, [], map, slice_get, None, Some, eqb}
 use Rattle.std.specs.List.{AllByRecursion, filter}
 use Rattle.atomic_table.specs.Seated.{TableId}
 use Rattle.hx_types.specs.declared.ids.Actor.{Actor}

@@ -3,3 +3,4 @@ pub mod Everyone
 pub mod Clusters
 pub mod Actors
 pub mod Dealt
+pub mod Setups

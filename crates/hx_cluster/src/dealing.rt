@@ -3,12 +3,14 @@ ghost use Rattle.hx_types.specs.Fitting.{IsScript};
 ghost use Rattle.hx_outbox.specs.Places.{AreBoxes};
 ghost use Rattle.hx_cluster.specs.Clusters.{AreNewCrews, AreNewSeats};
 ghost use Rattle.hx_cluster.specs.Everyone.{actors_of};
-ghost use Rattle.hx_cluster.specs.Dealt.{AtEach, AreNewDesks, IsNewOutbox};
+ghost use Rattle.hx_cluster.specs.Dealt.{AtEach, IsNewOutbox};
 ghost use Rattle.hx_cluster.specs.Opened.{ArePortsOf};
+ghost use Rattle.hx_cluster.specs.Setups.{AreAllDesksIn, AreNewCrewsIn};
 
 use crate::opening::BoxPorts;
 use crate::outboxes::{add_ports, new_outboxes};
 use crate::seating::{new_desks, seat_actor};
+use crate::setups::Setup;
 use hx_clock::{Clock, Seat};
 use hx_driver::{Crew, Desk, Driver};
 use hx_fate::Fate;
@@ -19,32 +21,23 @@ use std::alloc::Global;
 
 /// The desks and the outboxes of the drivers.
 fn deal_out(
-    alloc: Global,
-    script: &Script,
-    clock: &Clock,
-    boxes: &[Mailbox<'_>],
+    setup: &Setup<'_>,
     seats: Vec<Seat>,
     ports: Vec<BoxPorts>,
-    workers: u32,
 ) -> Result<(Vec<Vec<Desk>>, Vec<Outbox>), Memory>
-    requires script { IsScript script.now }
-    requires boxes { AreBoxes script.now clock.now boxes.now }
-    requires seats { AreNewSeats clock.now seats.items }
-    requires all { length seats.items ≡ length (actors_of script.now) }
-    requires ports { ArePortsOf workers boxes.now ports.items }
-    requires workers { 1 ≤ workers }
-    ensures desks { IfOk result (λ dealt. AtEach (λ i d. AreNewDesks script.now clock.now boxes.now workers (length (actors_of script.now)) i d.items) dealt.0.items × (length dealt.0.items ≡ workers)) }
-    ensures outs { IfOk result (λ dealt. AtEach (IsNewOutbox boxes.now) dealt.1.items × (length dealt.1.items ≡ workers)) }
+    requires seats { AreNewSeats setup.now.clock.now seats.items }
+    requires all { length seats.items ≡ length (actors_of setup.now.script.now) }
+    requires ports { ArePortsOf setup.now.workers setup.now.boxes.now ports.items }
+    ensures desks { IfOk result (λ dealt. AtEach (λ i d. AreAllDesksIn setup.now i d.items) dealt.0.items × (length dealt.0.items ≡ setup.now.workers)) }
+    ensures outs { IfOk result (λ dealt. AtEach (IsNewOutbox setup.now.boxes.now) dealt.1.items × (length dealt.1.items ≡ setup.now.workers)) }
 {
-    let mut desks = new_desks(alloc, script, clock, boxes, workers)?;
-    let mut outs = new_outboxes(alloc, workers)?;
+    let mut desks = new_desks(setup)?;
+    let mut outs = new_outboxes(setup.alloc, setup.workers)?;
     let mut place: u32 = 0;
     for (seat, of_box) in seats.into_iter().zip(ports) {
         let BoxPorts { first, others } = of_box;
         add_ports(&mut outs, others)?;
-        seat_actor(
-            alloc, script, clock, boxes, &mut desks, place, seat, first, workers,
-        )?;
+        seat_actor(setup, &mut desks, place, seat, first)?;
         place += 1;
     }
     Ok((desks, outs))
@@ -52,21 +45,15 @@ fn deal_out(
 
 /// Crews that have done nothing, of these desks and outboxes.
 fn new_crews(
-    alloc: Global,
-    script: &Script,
-    clock: &Clock,
-    boxes: &[Mailbox<'_>],
+    setup: &Setup<'_>,
     desks: Vec<Vec<Desk>>,
     outs: Vec<Outbox>,
-    workers: u32,
 ) -> Result<Vec<Crew>, Memory>
-    requires script { IsScript script.now }
-    requires desks { AtEach (λ i d. AreNewDesks script.now clock.now boxes.now workers (length (actors_of script.now)) i d.items) desks.items × (length desks.items ≡ workers) }
-    requires outs { AtEach (IsNewOutbox boxes.now) outs.items × (length outs.items ≡ workers) }
-    requires workers { 1 ≤ workers }
-    ensures { IfOk result (λ crews. AreNewCrews script.now clock.now boxes.now workers crews.items) }
+    requires desks { AtEach (λ i d. AreAllDesksIn setup.now i d.items) desks.items × (length desks.items ≡ setup.now.workers) }
+    requires outs { AtEach (IsNewOutbox setup.now.boxes.now) outs.items × (length outs.items ≡ setup.now.workers) }
+    ensures { IfOk result (λ crews. AreNewCrewsIn setup.now crews.items) }
 {
-    let mut crews = Vec::with_capacity(alloc, workers as usize)?;
+    let mut crews = Vec::with_capacity(setup.alloc, setup.workers as usize)?;
     for (desks, out) in desks.into_iter().zip(outs) {
         crews.push(Crew {
             desks,
@@ -121,7 +108,14 @@ pub fn deal(
     ensures crews { IfOk result (λ drivers. AreNewCrews script.now clock.now boxes.now workers (map (λ d. d.crew) drivers.items)) }
     ensures fates { IfOk result (λ drivers. (i : ℕ) (d : _) (f : _) → slice_get drivers.items i ≡ Some d → slice_get fates.items i ≡ Some f → state d.fate ≡ state f) }
 {
-    let (desks, outs) = deal_out(alloc, script, clock, boxes, seats, ports, workers)?;
-    let crews = new_crews(alloc, script, clock, boxes, desks, outs, workers)?;
+    let setup = Setup {
+        alloc,
+        script,
+        clock,
+        boxes,
+        workers,
+    };
+    let (desks, outs) = deal_out(&setup, seats, ports)?;
+    let crews = new_crews(&setup, desks, outs)?;
     give_fates(alloc, crews, fates)
 }

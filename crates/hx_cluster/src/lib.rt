@@ -12,6 +12,7 @@ mod enrolling;
 mod opening;
 mod outboxes;
 mod seating;
+mod setups;
 
 pub use dealing::deal;
 pub use enrolling::enrol_all;

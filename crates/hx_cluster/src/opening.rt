@@ -2,14 +2,14 @@ ghost use Rattle.std.specs.Prelude.{◌≡◌, ◌≤◌, ◌<◌, [], length, I
 ghost use Rattle.hx_types.specs.Fitting.{IsScript};
 ghost use Rattle.hx_mail.specs.Boxes.{IsPortOf};
 ghost use Rattle.hx_mail.specs.Ports.{first_port};
-ghost use Rattle.hx_outbox.specs.Places.{AreBoxes};
+ghost use Rattle.hx_outbox.specs.Places.{names_for, AreBoxes};
 ghost use Rattle.hx_driver.specs.Inboxes.{IsInPort, ins_of};
 ghost use Rattle.hx_cluster.specs.Opened.{AreNewPorts, AreOutPortsFrom, ArePortsOf};
 
 use crate::actors::actor_at;
 use hx_clock::Clock;
 use hx_mail::{Mailbox, Port};
-use hx_types::{Actor, Memory, Script, Space};
+use hx_types::{Actor, Memory, Script};
 use std::alloc::Global;
 use std::sync::Wait;
 
@@ -45,19 +45,27 @@ fn split_all<R: Wait>(
 fn open_box<'a, R: Wait>(
     rt: &R,
     alloc: Global,
+    script: &'a Script,
     clock: &'a Clock,
     owner: Actor,
-    space: &'a Space,
-    sessions: u32,
     workers: u32,
     capacity: usize,
 ) -> Result<(Mailbox<'a>, BoxPorts), Memory>
+    requires script { IsScript script.now }
     requires capacity { 0 < capacity }
     requires workers { workers ≤ 16 }
-    ensures names { IfOk result (λ opened. opened.0.names ≡ record { clock = clock.now; owner = owner; space = space.now; sessions = sessions }) }
+    ensures names { IfOk result (λ opened. opened.0.names ≡ names_for script.now clock.now owner) }
     ensures ports { IfOk result (λ opened. AreNewPorts workers opened.0 opened.1) }
 {
-    let (mailbox, mut first) = Mailbox::new(alloc, clock, owner, space, sessions, capacity)?;
+    let sessions = script.sessions.len() as u32;
+    let (mailbox, mut first) = Mailbox::new(
+        alloc,
+        clock,
+        owner,
+        &script.space,
+        sessions,
+        capacity,
+    )?;
     let others = split_all(rt, alloc, &mailbox, &mut first, workers)?;
     Ok((mailbox, BoxPorts { first, others }))
 }
@@ -77,22 +85,12 @@ pub fn open_boxes<'a, R: Wait>(
     ensures boxes { IfOk result (λ opened. AreBoxes script.now clock.now opened.0.items) }
     ensures ports { IfOk result (λ opened. ArePortsOf workers opened.0.items opened.1.items) }
 {
-    let sessions = script.sessions.len() as u32;
-    let count = 1 + script.space.servers + sessions;
+    let count = 1 + script.space.servers + script.sessions.len() as u32;
     let mut boxes = Vec::with_capacity(alloc, count as usize)?;
     let mut ports = Vec::with_capacity(alloc, count as usize)?;
     for place in 0..count {
         let owner = actor_at(&script.space, place);
-        let (mailbox, of_box) = open_box(
-            rt,
-            alloc,
-            clock,
-            owner,
-            &script.space,
-            sessions,
-            workers,
-            capacity,
-        )?;
+        let (mailbox, of_box) = open_box(rt, alloc, script, clock, owner, workers, capacity)?;
         boxes.push(mailbox)?;
         ports.push(of_box)?;
     }

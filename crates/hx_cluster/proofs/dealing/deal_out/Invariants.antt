@@ -7,7 +7,7 @@ invariant-loop-seat l =
     (l.place ≡ length l.yielded)
     × (map (λ x. x.0) l.yielded ++ l.seat-iterator.a.rest.items ≡ l.fn.seats.items)
     × (map (λ x. x.1) l.yielded ++ l.seat-iterator.b.rest.items ≡ l.fn.ports.items)
-    × AtEach (λ i d. AreNewDesks l.script l.clock l.boxes l.workers l.place i d.items) l.desks.items
-    × (length l.desks.items ≡ l.workers)
-    × AtEach (IsNewOutbox (take l.place l.boxes)) l.outs.items
-    × (length l.outs.items ≡ l.workers)
+    × AtEach (λ i d. AreNewDesks l.setup.script.now l.setup.clock.now l.setup.boxes.now l.setup.workers l.place i d.items) l.desks.items
+    × (length l.desks.items ≡ l.setup.workers)
+    × AtEach (IsNewOutbox (take l.place l.setup.boxes.now)) l.outs.items
+    × (length l.outs.items ≡ l.setup.workers)

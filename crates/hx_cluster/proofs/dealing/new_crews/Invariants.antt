@@ -7,4 +7,4 @@ invariant-loop-desks l =
     (length l.crews.items ≡ length l.yielded)
     × (map (λ x. x.0) l.yielded ++ l.desks-iterator.a.rest.items ≡ l.fn.desks.items)
     × (map (λ x. x.1) l.yielded ++ l.desks-iterator.b.rest.items ≡ l.fn.outs.items)
-    × AreCrewsSoFar l.script l.clock l.boxes l.workers l.crews.items
+    × AreCrewsSoFar l.setup.script.now l.setup.clock.now l.setup.boxes.now l.setup.workers l.crews.items
