@@ -1,4 +1,5 @@
 pub mod BundleSessions
+pub mod Decimals
 pub mod Examples
 pub mod Plain
 pub mod Prefixes

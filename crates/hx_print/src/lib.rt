@@ -8,6 +8,7 @@
 
 mod bundles;
 mod calls;
+mod digits;
 mod numbers;
 mod scripts;
 mod spaces;

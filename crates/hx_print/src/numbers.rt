@@ -6,26 +6,47 @@ ghost use Rattle.std.specs.List.{flat_map};
 ghost use Rattle.hx_print.specs.Prefixes.{IsPrefix};
 ghost use Rattle.hx_print.specs.Printing.{next_number_text, numbers_text};
 
+use crate::digits::push_number;
 use crate::texts::put_bytes;
 use hx_types::{Memory, RegionId, ServerId};
 use itoa::Buffer;
 
-/// Appends a number in decimal. Its digits are made on the stack.
+/// Appends a number of more than eight digits, which are made on the stack first. It stands apart,
+/// so that a short one doesn't pay for it.
+#[cold]
+#[inline(never)]
 #[tactic(auto, using(crate::proofs::Prefixes::same, crate::proofs::Prefixes::further))]
-pub fn put_number(out: &mut Vec<u8>, number: u64) -> Result<(), Memory>
+fn put_long(out: &mut Vec<u8>, number: u64) -> Result<(), Memory>
     ensures appends { OnOk result (out.new.items ≡ out.old.items ++ decimal number) }
     ensures prefix { OnErr result (IsPrefix out.old.items out.new.items) }
 {
     put_bytes(out, Buffer::new().format(number).as_bytes())
 }
 
-/// Appends a number in decimal, with `-` before it if it is negative.
+/// Appends a number in decimal. Most have few digits, which are pushed into room that is made first.
 #[tactic(auto, using(crate::proofs::Prefixes::same, crate::proofs::Prefixes::further))]
+pub fn put_number(out: &mut Vec<u8>, number: u64) -> Result<(), Memory>
+    ensures appends { OnOk result (out.new.items ≡ out.old.items ++ decimal number) }
+    ensures prefix { OnErr result (IsPrefix out.old.items out.new.items) }
+{
+    if number >= 100_000_000 {
+        return put_long(out, number);
+    }
+    out.reserve(8)?;
+    push_number(out, number as u32);
+    Ok(())
+}
+
+/// Appends a number in decimal, with `-` before it if it is negative.
+#[tactic(auto, using(crate::proofs::Prefixes::same, crate::proofs::Prefixes::further, crate::proofs::Decimals::below_zero, crate::proofs::Decimals::from_zero))]
 pub fn put_signed(out: &mut Vec<u8>, number: i64) -> Result<(), Memory>
     ensures appends { OnOk result (out.new.items ≡ out.old.items ++ signed_decimal number) }
     ensures prefix { OnErr result (IsPrefix out.old.items out.new.items) }
 {
-    put_bytes(out, Buffer::new().format(number).as_bytes())
+    if number < 0 {
+        put_bytes(out, b"-")?;
+    }
+    put_number(out, number.unsigned_abs())
 }
 
 /// What is printed as a number, as a server or a region.

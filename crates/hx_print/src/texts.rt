@@ -41,11 +41,16 @@ fn is_plain(byte: u8) -> bool
     !matches!(byte, b'"' | b'\\' | b'\n' | b'\t')
 }
 
-/// Whether all bytes stand between quotes as they are.
+/// Whether all bytes stand between quotes as they are. It looks at all of them, since many are
+/// looked at together.
 fn are_plain(bytes: &[u8]) -> bool
     ensures { result ≡ list_all is_plain bytes.now }
 {
-    bytes.iter().all(|byte| is_plain(*byte))
+    let mut are = true;
+    for byte in bytes {
+        are &= is_plain(*byte);
+    }
+    are
 }
 
 /// Appends the bytes of a text, as they stand between quotes: at once where all stand as they are.
