@@ -1,17 +1,20 @@
 -- The histories of the groups of a map are those of all keys.
-use Rattle.std.proofs.Common.{◌≡◌, ◌≢◌, ℕ, Bool, true, false, ◌&&◌, ◌||◌, cond, List, [], ◌∷◌, ◌++◌, Option, Some, None, map, reverse, refl, sym, ap, subst, ◌∙◌, inl, inr}
+use Rattle.std.proofs.Common.{◌≡◌, ◌≢◌, ℕ, Bool, true, false, ◌&&◌, ◌||◌, cond, List, [], ◌∷◌, ◌++◌, Option, Some, None, map, reverse, get_or, refl, sym, ap, subst, ◌∙◌, inl, inr}
 use Rattle.std.proofs.lemmas.List.{append-nil, reverse-reverse}
 use Rattle.std.proofs.lemmas.List.Elements.{All-append, All-cons, All-nil, All-weaker, filter_agree, recursion_from_All}
+use Rattle.std.proofs.lemmas.List.Kept.{IsStrictlySortedBy-dedup}
+use Rattle.std.proofs.lemmas.Map.Entries.{lookup_from_place}
 use Rattle.std.proofs.lemmas.Map.Text.{is_eq-slice_cmp}
+use Rattle.std.proofs.lemmas.Option.{slice_get-get_or}
 use Rattle.std.proofs.lemmas.Slice.Eq.{bytes_eq-Decides}
-use Rattle.std.specs.BTreeMap.{is_at}
 use Rattle.std.specs.Borrow.{Bor}
-use Rattle.std.specs.Cmp.Lexicographic.{nat_list_eq_equiv, slice_cmp}
-use Rattle.std.specs.List.{All, AllByRecursion, filter, flat_map, list_all}
-use Rattle.std.specs.List.Sorted.{IsStrictlySortedBy}
+use Rattle.std.specs.Cmp.{IsEquivalence, IsTotalOrder, on_equiv, on_total}
+use Rattle.std.specs.Cmp.Lexicographic.{nat_list_cmp_total, nat_list_eq_equiv, slice_cmp}
+use Rattle.std.specs.List.{All, AllByRecursion, IsDistinct, dedup, filter, flat_map, list_all}
+use Rattle.std.specs.List.Sorted.{IsSorted, IsStrictlySortedBy}
 use Rattle.std.specs.Map.{keys_of, lookup}
 use Rattle.std.specs.Option.{option_map_or}
-use Rattle.std.specs.Ordering.{is_eq, nat_cmp, ordering_then}
+use Rattle.std.specs.Ordering.{nat_cmp, ordering_then}
 use Rattle.std.specs.declared.cmp.Ordering.{Ordering}
 use Rattle.std.specs.declared.cmp.Ordering.TheVariants.{Less, Equal, Greater}
 use Rattle.std.specs.Prelude.{nat_lt, ◌==◌}
@@ -48,6 +51,41 @@ at_key : (key : List ℕ) (events : List Event)
 at_key key events =
     filter_agree (λ (e : Event). bytes_eq key (key_of (event_view e))) (λ (e : Event). is_event_at key (event_view e))
     (λ e. nat_list_eq_equiv.symm key (key_of (event_view e))) events
+
+-- keys by their bytes
+abbrev pub by_bytes : Bor (List ℕ) → Bor (List ℕ) → Ordering
+by_bytes a b = slice_cmp nat_cmp a.now b.now
+
+abbrev pub same_bytes : Bor (List ℕ) → Bor (List ℕ) → Bool
+same_bytes a b = bytes_eq a.now b.now
+
+bytes_laws : IsEquivalence same_bytes
+bytes_laws = on_equiv (λ (b : Bor (List ℕ)). b.now) nat_list_eq_equiv
+
+bytes_total : IsTotalOrder by_bytes
+bytes_total = on_total (λ (b : Bor (List ℕ)). b.now) nat_list_cmp_total
+
+-- of distinct keys none is left out
+undoubled : (k : Bor (List ℕ)) (ks : List (Bor (List ℕ))) → IsDistinct same_bytes (k ∷ ks) → dedup same_bytes (k ∷ ks) ≡ k ∷ ks
+unfolding IsDistinct
+undoubled k [] distinct = refl
+undoubled k (x ∷ ks) distinct =
+    rw (bytes_laws.symm x k ∙ distinct.0.0) (ap (λ (l : List (Bor (List ℕ))). k ∷ l) (undoubled x ks distinct.1))
+
+all_undoubled : (ks : List (Bor (List ℕ))) → IsDistinct same_bytes ks → dedup same_bytes ks ≡ ks
+all_undoubled [] distinct = refl
+all_undoubled (k ∷ ks) distinct = undoubled k ks distinct
+
+strictly : (ks : List (Bor (List ℕ))) → IsSorted by_bytes ks → IsDistinct same_bytes ks → IsStrictlySortedBy by_bytes ks
+strictly ks sorted distinct =
+    subst (IsStrictlySortedBy by_bytes) (all_undoubled ks distinct)
+    (IsStrictlySortedBy-dedup bytes_total (λ a b. sym (is_eq-slice_cmp a.now b.now)) ks sorted)
+
+-- each entry is found at its key
+found_all : {V : Type 0} (entries : List (Bor (List ℕ) × V)) → IsDistinct same_bytes (keys_of entries)
+    → All (λ (e : Bor (List ℕ) × V). lookup (λ (k : Bor (List ℕ)). bytes_eq e.0.now k.now) entries ≡ Some e.1) entries
+found_all entries distinct = λ i d within.
+    lookup_from_place bytes_laws entries i (get_or entries i d).0 (get_or entries i d).1 distinct (slice_get-get_or entries i d within)
 
 module _ {V : Type 0} (script : Script) (group : V → List Event) where
   -- the history told by a group
@@ -102,15 +140,15 @@ module _ {V : Type 0} (script : Script) (group : V → List Event) where
   in_rest key k (x ∷ items) rest there = inr there
 
   in_all : (key : List ℕ) (g : V) → told_by g ≢ [] → (entries : List (Bor (List ℕ) × V))
-      → lookup (is_at (λ (k : Bor (List ℕ)). slice_cmp nat_cmp key k.now)) entries ≡ Some g → IsIn key (keys_of_histories (histories_of entries))
+      → lookup (λ (k : Bor (List ℕ)). bytes_eq key k.now) entries ≡ Some g → IsIn key (keys_of_histories (histories_of entries))
   in_all key g some [] found = cc
   in_all key g some (e ∷ entries) found =
-      by_test (is_eq (slice_cmp nat_cmp key e.0.now)) (is_eq-slice_cmp key e.0.now) found
+      by_test (bytes_eq key e.0.now) refl found
       (λ more. in_rest key e.0.now (told_by e.1) (histories_of entries) (in_all key g some entries more))
     where
       by_test : (b : Bool) → b ≡ bytes_eq key e.0.now
-          → cond b (Some e.1) (lookup (is_at (λ (k : Bor (List ℕ)). slice_cmp nat_cmp key k.now)) entries) ≡ Some g
-          → (lookup (is_at (λ (k : Bor (List ℕ)). slice_cmp nat_cmp key k.now)) entries ≡ Some g → IsIn key (keys_of_histories (histories_of (e ∷ entries))))
+          → cond b (Some e.1) (lookup (λ (k : Bor (List ℕ)). bytes_eq key k.now) entries) ≡ Some g
+          → (lookup (λ (k : Bor (List ℕ)). bytes_eq key k.now) entries ≡ Some g → IsIn key (keys_of_histories (histories_of (e ∷ entries))))
           → IsIn key (keys_of_histories (histories_of (e ∷ entries)))
       by_test true same here more =
           let this : e.1 ≡ g = cc in
@@ -121,26 +159,26 @@ module _ {V : Type 0} (script : Script) (group : V → List Event) where
   -- the map has at each key the key's events
   pub are_histories : (trace : List Entry) (events : List Event) (entries : List (Bor (List ℕ) × V))
       → map event_view events ≡ events_of script trace
-      → ((q : List ℕ) → option_map_or group (lookup (is_at (λ (k : Bor (List ℕ)). slice_cmp nat_cmp q k.now)) entries) []
+      → ((q : List ℕ) → option_map_or group (lookup (λ (k : Bor (List ℕ)). bytes_eq q k.now) entries) []
       ≡ filter (λ (e : Event). bytes_eq q (key_of (event_view e))) events)
-      → IsStrictlySortedBy (λ (a b : Bor (List ℕ)). slice_cmp nat_cmp a.now b.now) (keys_of entries)
-      → All (λ (e : Bor (List ℕ) × V). lookup (is_at (λ (k : Bor (List ℕ)). slice_cmp nat_cmp e.0.now k.now)) entries ≡ Some e.1) entries
+      → IsSorted by_bytes (keys_of entries)
+      → IsDistinct same_bytes (keys_of entries)
       → AreHistories script (reverse trace) (histories_of entries)
-  are_histories trace events entries view groups sorted found =
+  are_histories trace events entries view groups sorted distinct =
       record {
-        ascending = ascend entries sorted;
-        each = each_all (reverse trace) entries (recursion_from_All _ entries (All-weaker _ _ (λ e at. told_here e.0.now e.1 at) entries found));
-        every = λ key some. by_lookup key some (lookup (is_at (λ (k : Bor (List ℕ)). slice_cmp nat_cmp key k.now)) entries) refl;
+        ascending = ascend entries (strictly (keys_of entries) sorted distinct);
+        each = each_all (reverse trace) entries (recursion_from_All _ entries (All-weaker _ _ (λ e at. told_here e.0.now e.1 at) entries (found_all entries distinct)));
+        every = λ key some. by_lookup key some (lookup (λ (k : Bor (List ℕ)). bytes_eq key k.now) entries) refl;
       }
     where
-      told_here : (key : List ℕ) (g : V) → lookup (is_at (λ (k : Bor (List ℕ)). slice_cmp nat_cmp key k.now)) entries ≡ Some g
+      told_here : (key : List ℕ) (g : V) → lookup (λ (k : Bor (List ℕ)). bytes_eq key k.now) entries ≡ Some g
           → told_by g ≡ reverse (history_of script key (reverse trace))
       told_here key g at =
           ap (λ es. history_by script (map event_view es)) (ap (λ o. option_map_or group o []) (sym at) ∙ groups key ∙ at_key key events)
           ∙ history_found script key trace events view
 
       by_lookup : (key : List ℕ) → history_of script key (reverse trace) ≢ []
-          → (o : Option V) → lookup (is_at (λ (k : Bor (List ℕ)). slice_cmp nat_cmp key k.now)) entries ≡ o → IsIn key (keys_of_histories (histories_of entries))
+          → (o : Option V) → lookup (λ (k : Bor (List ℕ)). bytes_eq key k.now) entries ≡ o → IsIn key (keys_of_histories (histories_of entries))
       by_lookup key some None at =
           absurd
           (some

@@ -1,7 +1,5 @@
 ghost use Rattle.std.specs.Prelude.{◌≡◌, ◌++◌, ℕ, List, [], map, reverse, filter, OnOk, IfOk};
-ghost use Rattle.std.specs.BTreeMap.{get_by};
-ghost use Rattle.std.specs.Cmp.Lexicographic.{slice_cmp};
-ghost use Rattle.std.specs.Ordering.{nat_cmp};
+ghost use Rattle.indexmap.specs.IndexMap.{get_by};
 ghost use Rattle.std.specs.Option.{option_map_or};
 ghost use Rattle.std.specs.Str.{bytes_eq};
 ghost use Rattle.hx_model.specs.Histories.{history_of};
@@ -14,8 +12,8 @@ use crate::items::{ItemRef, items_of};
 use crate::placing::history_from;
 use hx_trace::Trace;
 use hx_types::{Exact, Items, Memory, Same, Script, Sequence, Text};
+use indexmap::IndexMap;
 use std::alloc::Global;
-use std::collections::BTreeMap;
 
 /// The history of a key: its items, the oldest first.
 pub struct KeyHistory {
@@ -39,7 +37,7 @@ pub struct KeyItems<'a> {
     pub items: Vec<ItemRef<'a>>,
 }
 
-type Groups<'a> = BTreeMap<&'a str, Vec<Event<'a>>>;
+type Groups<'a> = IndexMap<&'a str, Vec<Event<'a>>>;
 
 /// The events of one key.
 fn events_at<'a>(alloc: Global, events: &[Event<'a>], key: &Text) -> Result<Vec<Event<'a>>, Memory>
@@ -66,9 +64,9 @@ pub fn history(alloc: Global, script: &Script, trace: &Trace, key: &Text) -> Res
     Ok(copies)
 }
 
-/// The events of each key.
+/// The events of each key, in the order in which keys were first met.
 fn groups<'a>(alloc: Global, events: &[Event<'a>]) -> Result<Groups<'a>, Memory>
-    ensures { IfOk result (λ groups. (q : List ℕ) → option_map_or (λ g. g.items) (get_by (λ k. slice_cmp nat_cmp q k.now) groups) [] ≡ filter (λ e. bytes_eq q (key_of (event_view e))) events.now) }
+    ensures { IfOk result (λ groups. (q : List ℕ) → option_map_or (λ g. g.items) (get_by (λ k. bytes_eq q k.now) groups) [] ≡ filter (λ e. bytes_eq q (key_of (event_view e))) events.now) }
 {
     let mut groups = Groups::new(alloc);
     for event in events {
@@ -107,7 +105,8 @@ pub fn items_by_key<'a>(
 ) -> Result<Vec<KeyItems<'a>>, Memory>
     ensures { IfOk result (λ listed. (trace : List Entry) → map event_view events.now ≡ events_of script.now trace → AreHistories script.now (reverse trace) (map history_view listed.items)) }
 {
-    let groups = groups(alloc, events)?;
+    let mut groups = groups(alloc, events)?;
+    groups.sort_keys()?;
     let mut listed = Vec::new(alloc);
     for (key, events) in groups.iter() {
         push_items(alloc, &mut listed, script, key, events)?;

@@ -41,7 +41,7 @@ pub fn line_of<'a>(alloc: Global, events: &[Event<'a>]) -> Result<Vec<&'a Update
     ensures exact { IfOk result (λ line. reverse (updates_at line.items) ≡ line_by (map event_view events.now)) }
     ensures sorted { IfOk result (λ line. IsNonDecreasingBy version_at line.items) }
 {
-    let mut line = Vec::new(alloc);
+    let mut line = Vec::with_capacity(alloc, events.len())?;
     for event in events {
         if let Event::Wrote(update) = event {
             assign(&mut line, update)?;
@@ -54,7 +54,7 @@ pub fn line_of<'a>(alloc: Global, events: &[Event<'a>]) -> Result<Vec<&'a Update
 pub fn writes_of<'a>(alloc: Global, line: &[&'a Update]) -> Result<Vec<&'a Update>, Memory>
     ensures { IfOk result (λ writes. writes.items ≡ filter (λ u. not (is_refused u.now.answer)) line.now) }
 {
-    let mut writes = Vec::new(alloc);
+    let mut writes = Vec::with_capacity(alloc, line.len())?;
     for update in line {
         if !update.answer.is_refused() {
             writes.push(*update)?;
@@ -67,7 +67,7 @@ pub fn writes_of<'a>(alloc: Global, line: &[&'a Update]) -> Result<Vec<&'a Updat
 pub fn reads_of<'a>(alloc: Global, events: &[Event<'a>]) -> Result<Vec<Read<'a>>, Memory>
     ensures { IfOk result (λ reads. map read_view reads.items ≡ reads_by (map event_view events.now)) }
 {
-    let mut reads = Vec::new(alloc);
+    let mut reads = Vec::with_capacity(alloc, events.len())?;
     for event in events {
         if let Event::Read(read) = event {
             reads.push(*read)?;
