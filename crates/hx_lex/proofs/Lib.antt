@@ -7,5 +7,6 @@ pub mod Words
 pub mod Numerals
 pub mod Standing
 pub mod Parts
+pub mod Plain
 pub mod Examples
 pub mod Lemmas

@@ -23,7 +23,7 @@ parts_are_ascii (b ∷ bs) e (suc i) = parts_are_ascii bs (and_right (is_word_pa
 pub word_utf8 : (bytes : List ℕ) → IsWord bytes → IsUtf8 bytes
 word_utf8 bytes is = IsUtf8-from_ascii bytes (parts_are_ascii bytes is.parts)
 
-front_passes : (p : ℕ → Bool) (xs : List ℕ) → list_all p (take (prefix_len p xs) xs) ≡ true
+pub front_passes : (p : ℕ → Bool) (xs : List ℕ) → list_all p (take (prefix_len p xs) xs) ≡ true
 front_passes p [] = refl
 front_passes p (x ∷ xs) = by_test (p x) refl (front_passes p xs)
   where

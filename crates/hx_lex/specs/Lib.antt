@@ -1,6 +1,7 @@
 pub mod Answers
 pub mod Letters
 pub mod Numbers
+pub mod Plain
 pub mod Quotes
 pub mod Pieces
 pub mod Lines

@@ -1,9 +1,13 @@
 //! Texts between quotes.
 
-ghost use Rattle.std.specs.Prelude.{◌≡◌, ◌<◌, ◌≤◌, ◌+◌, ◌^◌, IfOk, length, take, false};
+ghost use Rattle.std.specs.Prelude.{◌≡◌, ◌<◌, ◌≤◌, ◌+◌, ◌^◌, IfOk, IfSome, length, take, true, false};
+ghost use Rattle.std.specs.List.{list_all, prefix_len};
 ghost use Rattle.std.specs.Str.{IsUtf8};
 ghost use Rattle.std.specs.Str.Lossy.{utf8_valid_len};
 ghost use Rattle.hx_lex.specs.Answers.{Gives};
+ghost use Rattle.hx_lex.specs.declared.token.TokenKind.TheVariants as kinds;
+ghost use Rattle.hx_lex.specs.Numbers.{token_piece};
+ghost use Rattle.hx_lex.specs.Plain.{IsPlainFront, is_plain};
 ghost use Rattle.hx_lex.specs.Quotes.{inside_len, escaped, content, inside_at, text_at};
 
 use crate::errors::LexError;
@@ -116,12 +120,62 @@ fn inside(alloc: Global, at: usize, bytes: &[u8]) -> Result<Text, LexError>
     Ok(text_of(content)?)
 }
 
-/// The text whose first quote stands at that place, before the bytes.
-#[tactic(auto, unfolding(crate::specs::Quotes::text_at))]
+/// Whether a byte between quotes is ASCII and stands for itself.
+fn is_plain(byte: u8) -> bool
+    ensures { result ≡ is_plain byte }
+{
+    (b' '..128).contains(&byte) && byte != b'"' && byte != b'\\'
+}
+
+/// How many bytes at the front are ASCII and stand for themselves.
+fn plain_len(bytes: &[u8]) -> usize
+    ensures { result ≡ prefix_len is_plain bytes.now }
+{
+    bytes.iter().take_while(|byte| is_plain(**byte)).count()
+}
+
+/// The bytes before the closing quote, where all of them are ASCII and stand for themselves.
+fn plain_front(bytes: &[u8]) -> Option<&[u8]>
+    ensures { IfSome result (λ plain. IsPlainFront bytes.now plain.now) }
+{
+    let len = plain_len(bytes);
+    match bytes.get(len) {
+        Some(b'"') => Some(&bytes[..len]),
+        _ => None,
+    }
+}
+
+/// Bytes that are ASCII and stand for themselves, as a text. That they are UTF-8 is proved, and so
+/// isn't looked at.
+#[tactic(auto, using(crate::proofs::Plain::plain_utf8))]
+fn plain_str(bytes: &[u8]) -> &str
+    requires { list_all is_plain bytes.now ≡ true }
+    ensures { result.now ≡ bytes.now }
+{
+    unsafe { str::from_utf8_unchecked(bytes) }
+}
+
+/// The text of bytes that are ASCII and stand for themselves, and of a quote behind them.
+fn plain_text(alloc: Global, bytes: &[u8]) -> Result<Piece, LexError>
+    requires { list_all is_plain bytes.now ≡ true }
+    ensures { Gives (λ p. p) result (token_piece (kinds.Text bytes.now) (length bytes.now + 2)) }
+{
+    let text = Text::from_str(alloc, plain_str(bytes))?;
+    Ok(Piece {
+        kind: Some(TokenKind::Text(text)),
+        len: bytes.len() + 2,
+    })
+}
+
+/// The text whose first quote stands at that place, before the bytes. Most texts need no escape.
+#[tactic(auto, using(crate::proofs::Plain::text_is_plain), unfolding(crate::specs::Quotes::text_at))]
 pub(crate) fn text(alloc: Global, at: usize, bytes: &[u8]) -> Result<Piece, LexError>
     requires { at + length bytes.now + 1 < 2 ^ 64 }
     ensures { Gives (λ p. p) result (text_at at bytes.now) }
 {
+    if let Some(plain) = plain_front(bytes) {
+        return plain_text(alloc, plain);
+    }
     let len = inside_len(bytes);
     if len == bytes.len() {
         return Err(LexError::OpenText { place: at });
