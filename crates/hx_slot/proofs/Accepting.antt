@@ -10,7 +10,7 @@ use Rattle.hx_model.specs.Slots.{Hold, Take, moved, other_version}
 use Rattle.hx_slot.specs.declared.updates.PlacedUpdate.{PlacedUpdate}
 use Rattle.hx_slot.specs.declared.updates.AcceptedUpdate.{AcceptedUpdate}
 use Rattle.hx_slot.specs.declared.slots.Slot.TheInside.{Inside}
-use Rattle.hx_slot.specs.Updates.{Ascends, IsHeld, IsPlaced, last_version, newest_first, places_in}
+use Rattle.hx_slot.specs.Updates.{Ascends, IsHeld, IsPlaced, last_version, newest_first}
 use Rattle.hx_slot.specs.Acks.{AreAcked, is_of_version}
 use Rattle.hx_slot.specs.Bases.{kept_in}
 use Rattle.hx_slot.specs.Invariant.{IsLine, IsSlot, coming, pending_in, whole, updates_of}
@@ -77,15 +77,6 @@ acked-push v acked ts t h a l f =
       known = known-push ts t acked h.known;
     }
 
--- as many places, and those of the update
-pub places-push : (ts : List AcceptedUpdate) (t : AcceptedUpdate) → places_in (ts ++ t ∷ []) ≡ places_in ts + length t.update.places
-places-push [] t = (let n : places_in (t ∷ []) ≡ length t.update.places + 0 = refl in omega (arith, n))
-places-push (x ∷ ts) t =
-    let b = places-push ts t in
-    let n : places_in ((x ∷ ts) ++ t ∷ []) ≡ length x.update.places + places_in (ts ++ t ∷ []) = refl in
-    let m : places_in (x ∷ ts) ≡ length x.update.places + places_in ts = refl in
-    omega (arith, b, n, m)
-
 -- what is pending with an update more
 pending-push : (a : Inside) → IsSlot a → (t : AcceptedUpdate) → drop a.committed (a.accepted.items ++ t ∷ []) ≡ pending_in a ++ t ∷ []
 pending-push a h t = drop-append-le a.committed a.accepted.items (t ∷ []) h.line.within
@@ -113,12 +104,6 @@ accepted-slot a t accepted early spare h p above f items len capacity held early
         accepted = (let r = room.accepted in omega (arith, r));
         early = (let r = room.early in omega (arith, r));
         few = (let r = room.few in omega (arith, r));
-        base = λ m. (
-            let r = room.base m in
-            let n = ap places_in items ∙ places-push a.accepted.items t in
-            let few = p.few in
-            record { marks = (let q = r.marks in omega (arith, q)); touches = (let q = r.touches in omega (arith, q, n, few)) }
-            );
       };
     }
 
@@ -155,10 +140,6 @@ held-slot a early spare h held fewer capacity =
         accepted = (let r = room.accepted in omega (arith, r));
         early = (let r = room.early in omega (arith, r));
         few = (let r = room.few in omega (arith, r));
-        base = λ m. (
-            let r = room.base m in
-            record { marks = (let q = r.marks in omega (arith, q)); touches = (let q = r.touches in omega (arith, q)) }
-            );
       };
     }
 

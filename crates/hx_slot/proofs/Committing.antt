@@ -17,7 +17,7 @@ use Rattle.hx_slot.specs.Bases.{IsFolded, kept_in}
 use Rattle.hx_slot.specs.Invariant.{IsLine, IsSlot, seen, updates_of}
 use Rattle.hx_slot.specs.States.{IsOrderly, IsRowUpTo, IsSettledInto, SlotState}
 use Rattle.hx_slot.specs.MarksAndTouches.{AscendByRegion, marks_over, touches_over}
-use Rattle.hx_slot.specs.Updates.{Ascends, IsPlaced, last_version, newest_first, places_in, row_by, row_over}
+use Rattle.hx_slot.specs.Updates.{Ascends, IsPlaced, last_version, newest_first, row_by, row_over}
 use Rattle.hx_slot.proofs.Carrying.{marks_after-over, row-weaker, row_by-upto, touches_after-over}
 use Rattle.hx_slot.proofs.Newer.{AscendBySession, MarksUpTo, with_mark-ascends, with_mark-upto}
 use Rattle.hx_slot.proofs.Newest.{kept_row-newest_first, newest_first-append, pending-ascends, by_recursion-take, top_above-newest_first, upto-line}
@@ -196,9 +196,6 @@ module _ (a : Inside) (h : IsSlot a) (base : Base) (t : AcceptedUpdate) (rest : 
   committed-slot =
       let room = h.room in
       let pending = ap (λ (ts : List AcceptedUpdate). drop c ts) items ∙ sym (ap (λ (ts : List AcceptedUpdate). drop a.committed ts) is ∙ ap (λ n. drop n (t ∷ rest)) count) in
-      let places = ap places_in is in
-      let n : places_in (t ∷ rest) ≡ length t.update.places + places_in rest = refl in
-      let left = ap places_in items in
       record {
         line = subst (λ (v : ℕ). IsLine a.region v accepted.items c a.floor.0) (ap (λ (x : Version). x.0) (sym f.floor)) (subst (λ (ts : List AcceptedUpdate). IsLine a.region t.update.version.0 ts c a.floor.0) (sym items) (line-rest t rest line));
         base = orderly a.keeps_marks a.key t a.base base line.ascends.0 h.base f;
@@ -210,12 +207,5 @@ module _ (a : Inside) (h : IsSlot a) (base : Base) (t : AcceptedUpdate) (rest : 
           accepted = (let r = room.accepted in omega (arith, r, len, capacity));
           early = room.early;
           few = (let r = room.few in omega (arith, r, len));
-          base = λ m. (
-              let r = room.base m in
-              record {
-                marks = (let q = r.marks in let s = f.more_marks in let k = f.marks_capacity in omega (arith, q, s, k, len));
-                touches = (let q = r.touches in let s = f.more_touches in let k = f.touches_capacity in omega (arith, q, s, k, places, n, left));
-              }
-              );
         };
       }

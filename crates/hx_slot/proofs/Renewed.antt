@@ -1,5 +1,5 @@
 -- A copy of a slot that has forgotten acknowledgements and early updates.
-use Rattle.std.proofs.Common.{◌≡◌, ℕ, zero, suc, ◌+◌, ◌<◌, true, false, List, [], ◌∷◌, ◌++◌, length, take, drop, get_or, Vec, vec_len, ap, sym, ◌∙◌, subst, arith, add-one}
+use Rattle.std.proofs.Common.{◌≡◌, ℕ, zero, suc, ◌+◌, ◌<◌, false, List, [], ◌∷◌, ◌++◌, length, take, drop, get_or, Vec, vec_len, ap, sym, ◌∙◌, subst, arith, add-one}
 use Rattle.std.specs.List.{AllByRecursion}
 use Rattle.std.specs.declared.alloc.Global.{Global}
 use Rattle.hx_model.specs.Types.{Version}
@@ -10,14 +10,14 @@ use Rattle.hx_slot.specs.declared.updates.AcceptedUpdate.{AcceptedUpdate}
 use Rattle.hx_slot.specs.declared.slots.Slot.TheInside.{Inside}
 use Rattle.hx_slot.specs.declared.bases.Base.{Base}
 use Rattle.hx_slot.specs.Acks.{AreAcked, AreSameUpdates}
-use Rattle.hx_slot.specs.Updates.{IsHeld, places_in}
+use Rattle.hx_slot.specs.Updates.{IsHeld}
 use Rattle.hx_slot.specs.Invariant.{IsLine, IsSlot, whole, updates_of}
-use Rattle.hx_slot.specs.Bases.{HasBaseRoom, IsCopied, kept_in}
+use Rattle.hx_slot.specs.Bases.{IsCopied, kept_in}
 use Rattle.hx_slot.specs.States.{IsOrderly}
 use Rattle.hx_slot.proofs.Acking.{acked-none}
 use Rattle.hx_slot.proofs.Newest.{by_recursion-drop}
 use Rattle.hx_slot.proofs.Refitting.{same-kept, same-provided}
-use Rattle.hx_slot.proofs.SameUpdates.{same-length, same-line, same-newest_first, same-places}
+use Rattle.hx_slot.proofs.SameUpdates.{same-length, same-line, same-newest_first}
 
 -- one entry more on either side
 pub same-push : (xs ys : List AcceptedUpdate) (x y : AcceptedUpdate) → AreSameUpdates xs ys → y.update ≡ x.update → y.place ≡ x.place → AreSameUpdates (xs ++ x ∷ []) (ys ++ y ∷ [])
@@ -43,9 +43,8 @@ same-next xs ys i x y l e h u p =
 pub renewed-slot : (a : Inside) (key : List ℕ) (base : Base) (accepted : Vec AcceptedUpdate Global) (acked : AckOrder) (early : Vec PlacedUpdate Global) → IsSlot a → key ≡ a.key → IsCopied a.base base
     → AreSameUpdates a.accepted.items accepted.items → AllByRecursion (λ (t : AcceptedUpdate). t.acknowledged ≡ false) accepted.items
     → acked.versions ≡ [] → early.items ≡ [] → vec_len early ≡ 0
-    → (a.keeps_marks ≡ true → HasBaseRoom base (length a.accepted.items) (places_in a.accepted.items))
     → IsSlot (record a { key = key; base = base; accepted = accepted; acked = acked; early = early; spare = 0 })
-renewed-slot a key base accepted acked early h same_key copied same unmarked none_acked none_early no_early base_room =
+renewed-slot a key base accepted acked early h same_key copied same unmarked none_acked none_early no_early =
     let ok = accepted.ok in
     let old = a.accepted.ok in
     let count = same-length a.accepted.items accepted.items same in
@@ -61,11 +60,6 @@ renewed-slot a key base accepted acked early h same_key copied same unmarked non
         accepted = omega (arith, ok.0, ok.1, no_early);
         early = (let e = early.ok in omega (arith, e.1, no_early));
         few = (let r = h.room.few in omega (arith, r, ok.0, old.0, count, no_early));
-        base = λ m. (
-            let r = base_room m in
-            let n = same-places a.accepted.items accepted.items same in
-            record { marks = (let q = r.marks in omega (arith, q, ok.0, count, no_early)); touches = (let q = r.touches in omega (arith, q, n, no_early)) }
-            );
       };
     }
 

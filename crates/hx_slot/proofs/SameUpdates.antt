@@ -1,10 +1,10 @@
 -- Lists of the same updates at the same places.
-use Rattle.std.proofs.Common.{◌≡◌, ℕ, zero, suc, ◌+◌, ◌<◌, Bool, List, [], ◌∷◌, length, take, set, get_or, refl, ap, sym, ◌∙◌, subst, arith}
+use Rattle.std.proofs.Common.{◌≡◌, ℕ, zero, suc, ◌<◌, Bool, List, [], ◌∷◌, length, take, set, get_or, refl, ap, sym, ◌∙◌, subst, arith}
 use Rattle.std.specs.List.{AllByRecursion}
 use Rattle.hx_model.specs.Types.{Place, RegionId, Update}
 use Rattle.hx_slot.specs.declared.updates.AcceptedUpdate.{AcceptedUpdate}
 use Rattle.hx_slot.specs.Acks.{AreSameUpdates}
-use Rattle.hx_slot.specs.Updates.{Ascends, IsPlaced, last_version, newest_first, places_in}
+use Rattle.hx_slot.specs.Updates.{Ascends, IsPlaced, last_version, newest_first}
 use Rattle.hx_slot.specs.Invariant.{IsLine}
 
 pub same-refl : (xs : List AcceptedUpdate) → AreSameUpdates xs xs
@@ -72,10 +72,3 @@ same-line {g = g} {base = base} {xs = xs} {c = c} line ys h =
       within = (let n = same-length xs ys h in let w = line.within in omega (arith, n, w));
       floor_is = line.floor_is ∙ sym (same-last_version base (take c xs) (take c ys) (same-take c xs ys h));
     }
-
--- they have as many places
-pub same-places : (xs ys : List AcceptedUpdate) → AreSameUpdates xs ys → places_in ys ≡ places_in xs
-same-places [] [] h = refl
-same-places [] (y ∷ ys) h = absurd h
-same-places (x ∷ xs) [] h = absurd h
-same-places (x ∷ xs) (y ∷ ys) h = (λ j. length (h.0 j).places + same-places xs ys h.2 j)

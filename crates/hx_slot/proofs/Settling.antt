@@ -20,7 +20,7 @@ use Rattle.hx_slot.specs.Invariant.{IsSlot, pending_in, whole, updates_of}
 use Rattle.hx_slot.proofs.Acking.{acked-none, acked-settled, acked-set, commits-count, commits-front, commits-state, commits-with, commits_of, dropped, dropped-upto, pending-any, with_ack}
 use Rattle.hx_slot.proofs.Newest.{last_version-append, pending-ascends, update_of}
 use Rattle.hx_slot.proofs.Reading.{pending-seen}
-use Rattle.hx_slot.proofs.SameUpdates.{same-line, same-newest_first, same-places, same-set}
+use Rattle.hx_slot.proofs.SameUpdates.{same-line, same-newest_first, same-set}
 
 -- the slot with its lowest pending updates committed
 pub settled-slot : (a : Inside) (n : ℕ) (floor : Version) (acked : AckOrder) → IsSlot a → n ≤ length (pending_in a) → floor.0 ≡ last_version a.floor.0 (take n (pending_in a))
@@ -48,7 +48,6 @@ settled-slot a n floor acked h w f versions =
         accepted = room.accepted;
         early = room.early;
         few = room.few;
-        base = room.base;
       };
     }
 
@@ -94,11 +93,6 @@ acknowledged-slot a i t accepted acked h l e items len capacity acks =
         accepted = (let r = room.accepted in omega (arith, r));
         early = room.early;
         few = (let r = room.few in omega (arith, r));
-        base = λ m. (
-            let r = room.base m in
-            let n = same-places a.accepted.items accepted.items same in
-            record { marks = (let q = r.marks in omega (arith, q)); touches = (let q = r.touches in omega (arith, q, n)) }
-            );
       };
     }
 
@@ -138,11 +132,6 @@ forgotten-slot a accepted acked early h same forgotten len capacity none_acked n
         accepted = (let r = room.accepted in omega (arith, r));
         early = (let r = room.early in omega (arith, r));
         few = (let r = room.few in omega (arith, r));
-        base = λ m. (
-            let r = room.base m in
-            let n = same-places a.accepted.items accepted.items same in
-            record { marks = (let q = r.marks in omega (arith, q)); touches = (let q = r.touches in omega (arith, q, n)) }
-            );
       };
     }
 

@@ -1,5 +1,5 @@
 -- What the folded updates left: an update more, and room for its mark and its touches.
-use Rattle.std.specs.Prelude.{◌≡◌, ℕ, ◌+◌, ◌≤◌, Bool, true, false, List, length, vec_capacity, vec_len}
+use Rattle.std.specs.Prelude.{◌≡◌, ℕ, ◌+◌, ◌≤◌, Bool, true, false, List, vec_capacity, vec_len}
 use Rattle.hx_model.specs.Types.{Kept}
 use Rattle.hx_model.specs.Slots.{mark_by, with_mark, with_touches}
 use Rattle.hx_slot.specs.declared.bases.Base.{Base}
@@ -12,7 +12,7 @@ pub record HasBaseRoom (base : Base) (more_marks more_touches : ℕ) : Type 0 wh
   pub marks : vec_len base.marks + more_marks ≤ vec_capacity base.marks
   pub touches : vec_len base.touches + more_touches ≤ vec_capacity base.touches
 
--- the same, with no less room
+-- the same entries, with no less room
 pub record IsWidened (old new : Base) : Type 0 where
   pub floor : new.floor ≡ old.floor
   pub object : new.object ≡ old.object
@@ -27,10 +27,6 @@ pub record IsFolded (kept : Bool) (t : AcceptedUpdate) (old new : Base) : Type 0
   pub touches : kept ≡ true → new.touches.items ≡ with_touches t.update.version t.update.places old.touches.items
   pub no_marks : kept ≡ false → new.marks.items ≡ old.marks.items
   pub no_touches : kept ≡ false → new.touches.items ≡ old.touches.items
-  pub more_marks : vec_len new.marks ≤ vec_len old.marks + 1
-  pub more_touches : vec_len new.touches ≤ vec_len old.touches + length t.update.places
-  pub marks_capacity : vec_capacity old.marks ≤ vec_capacity new.marks
-  pub touches_capacity : vec_capacity old.touches ≤ vec_capacity new.touches
 
 -- the state of a key that is folded
 abbrev pub kept_in : List ℕ → Base → Kept

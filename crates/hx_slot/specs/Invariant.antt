@@ -1,5 +1,5 @@
 -- What a slot keeps, and what contracts see of it.
-use Rattle.std.specs.Prelude.{◌≡◌, ℕ, ◌+◌, ◌*◌, ◌^◌, ◌<◌, ◌≤◌, true, List, [], map, length, take, drop, vec_capacity, vec_len}
+use Rattle.std.specs.Prelude.{◌≡◌, ℕ, ◌+◌, ◌^◌, ◌<◌, ◌≤◌, List, [], map, length, take, drop, vec_capacity, vec_len}
 use Rattle.std.specs.List.{AllByRecursion}
 use Rattle.hx_model.specs.Types.{RegionId, Update}
 use Rattle.hx_types.specs.Words.{provided}
@@ -8,8 +8,8 @@ use Rattle.hx_slot.specs.declared.updates.PlacedUpdate.{PlacedUpdate}
 use Rattle.hx_slot.specs.declared.updates.AcceptedUpdate.{AcceptedUpdate}
 use Rattle.hx_slot.specs.declared.slots.Slot.TheInside.{Inside}
 use Rattle.hx_slot.specs.Acks.{AreAcked}
-use Rattle.hx_slot.specs.Bases.{HasBaseRoom, kept_in}
-use Rattle.hx_slot.specs.Updates.{Ascends, IsHeld, IsPlaced, last_version, newest_first, places_in}
+use Rattle.hx_slot.specs.Bases.{kept_in}
+use Rattle.hx_slot.specs.Updates.{Ascends, IsHeld, IsPlaced, last_version, newest_first}
 use Rattle.hx_slot.specs.States.{IsOrderly, SlotState}
 
 abbrev pub updates_of : List PlacedUpdate → List Update
@@ -50,12 +50,11 @@ pending_in a = drop a.committed a.accepted.items
 abbrev pub coming : Inside → ℕ
 coming a = vec_len a.early + a.spare
 
--- there is room for the updates that may still come, and where marks and touches are kept for those of all
+-- there is room for the updates that may still come
 pub record HasRoom (a : Inside) : Type 0 where
   pub accepted : vec_len a.accepted + coming a ≤ vec_capacity a.accepted
   pub early : coming a ≤ vec_capacity a.early
   pub few : vec_len a.accepted + coming a + 1 < 2 ^ 32
-  pub base : a.keeps_marks ≡ true → HasBaseRoom a.base (vec_len a.accepted + coming a) (places_in a.accepted.items + 17 * coming a)
 
 pub record IsSlot (a : Inside) : Type 0 where
   pub line : IsLine a.region a.base.floor.0 a.accepted.items a.committed a.floor.0

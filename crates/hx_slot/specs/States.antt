@@ -10,8 +10,8 @@ use Rattle.hx_types.specs.Spaces.{IsAscending}
 use Rattle.hx_model.specs.Neighbours.{place_number}
 use Rattle.hx_model.specs.Slots.{KeyState, after_at, kept_of}
 
--- a key at a replica of a region, for how many offers there is room, and how many committed updates aren't in the base: none,
--- but where a count of owners was full when they were to go there
+-- a key at a replica of a region, for how many offers there is room, and how many committed updates aren't in the base: those
+-- for whose marks and touches there is no room yet, and where a count of owners was full when they were to go there
 pub record SlotState : Type 0 where
   pub region : RegionId
   pub state : KeyState

@@ -13,8 +13,11 @@
 //! can fail. [`Slot::kept`], [`Slot::renewed`] and [`Slot::reserve`] alone take memory: that they
 //! can succeed no contract says, but the tests show it.
 //!
-//! What a base holds it shares with the update, and a shared value has at most 2^63 owners: an
-//! update that finds their count full is held, committed, until it can go into the base.
+//! An update is held, committed, until it can go into the base. At a key region that is where the
+//! base has room for its mark and its touches, which is made with that for the next offer: so a key
+//! that is written once takes no memory for them. Elsewhere it goes there at once, but where a count
+//! of owners is full: what a base holds it shares with the update, and a shared value has at most
+//! 2^63 owners.
 #![tactic(auto)]
 
 mod ack_order;

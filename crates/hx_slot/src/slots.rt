@@ -44,8 +44,8 @@ pub struct Slot {
     base: Base,
     /// The updates accepted since, the oldest first.
     accepted: Vec<AcceptedUpdate>,
-    /// How many of them are committed: none, but where a count of owners was full when they were to
-    /// go into the base.
+    /// How many of them are committed: those for whose marks and touches the base has no room yet,
+    /// and after one that found a count of owners full.
     committed: usize,
     /// The version of the last committed one, or that of the base.
     floor: Version,
@@ -224,23 +224,24 @@ impl Slot {
         }))
     }
 
-    /// How many committed updates aren't in the base. There are some only where a count of owners was
-    /// full when they were to go there.
+    /// How many committed updates aren't in the base. There are some only where marks and touches are
+    /// kept, until room was made for them, and where a count of owners was full when they were to go
+    /// there.
     pub fn held_count(&self) -> u32
         ensures { result ≡ self.now.held }
     {
         self.committed as u32
     }
 
-    /// The committed state, or `None` where nothing is committed; all else of the slot is dropped. It
-    /// takes no memory. The slot comes back exactly where a committed update still can't go into the
-    /// base, since a count of owners is full; it is as it was.
+    /// The committed state, or `None` where nothing is committed; all else of the slot is dropped.
+    /// The slot comes back exactly where a committed update still can't go into the base, since
+    /// there is no memory for its mark and its touches or a count of owners is full; it is as it was.
     pub fn into_kept(mut self) -> Result<Option<Kept>, Slot>
         ensures kept { IfOk result (λ kept. kept ≡ committed_state self.region self.state) }
         ensures orderly { IfOk result (λ kept. IfSome kept IsOrderly) }
         ensures back { IfErr result (IsHeldUp self) }
     {
-        self.fold();
+        self.fold_all();
         if self.committed > 0 {
             return Err(self);
         }
@@ -282,7 +283,7 @@ impl Slot {
             spare: 0,
             keeps_marks: self.keeps_marks,
             key: self.key.copy(alloc)?,
-            base: renewed_base(alloc, &self.base, self.keeps_marks, line)?,
+            base: renewed_base(alloc, &self.base)?,
             accepted,
             committed: self.committed,
             floor: self.floor,
@@ -350,9 +351,9 @@ impl Slot {
         )
     }
 
-    /// Makes room for n offers and for what is acknowledged and committed of them, none of which
-    /// then takes memory. A slot holds fewer than 4,294,967,295 updates; where it would hold more,
-    /// that is [`Memory`] too.
+    /// Makes room for n offers, none of which then takes memory, and in the base for what the
+    /// updates that are here leave there. A slot holds fewer than 4,294,967,295 updates; where it
+    /// would hold more, that is [`Memory`] too.
     pub fn reserve(&mut self, _alloc: Global, n: u32) -> Result<(), Memory>
         ensures region { self.new.region ≡ self.old.region }
         ensures state { self.new.state ≡ self.old.state }
@@ -369,7 +370,7 @@ impl Slot {
         }
         make_room(&mut self.accepted, coming, &mut self.early, n as usize)?;
         self.base
-            .reserve(self.keeps_marks, self.accepted.as_slice(), coming)?;
+            .reserve(self.keeps_marks, self.accepted.as_slice())?;
         self.spare = n;
         Ok(())
     }
@@ -575,6 +576,23 @@ impl Slot {
         forget_acks(&mut self.accepted, self.committed);
     }
 
+    /// The committed updates go into the base, which gets room for their marks and their touches
+    /// first. Where there is no memory for it, those that find no room stay.
+    fn fold_all(&mut self)
+        ensures { IsSettledInto self.old self.new }
+    {
+        let _ = self.widen();
+        self.fold();
+    }
+
+    /// Makes room in the base for the marks and the touches of all accepted updates.
+    fn widen(&mut self) -> Result<(), Memory>
+        ensures { IsSettledInto self.old self.new }
+    {
+        self.base
+            .reserve(self.keeps_marks, self.accepted.as_slice())
+    }
+
     /// The committed updates go into the base, the lowest first, as far as they can.
     fn fold(&mut self)
         ensures { IsSettledInto self.old self.new }
@@ -586,8 +604,8 @@ impl Slot {
         }
     }
 
-    /// The lowest committed update goes into the base, if there is one and no count of owners is
-    /// full.
+    /// The lowest committed update goes into the base, if there is one, there is room for what it
+    /// leaves there, and no count of owners is full.
     fn fold_lowest(&mut self) -> bool
         ensures { IsSettledInto self.old self.new }
     {

@@ -22,7 +22,7 @@ returns-clause-kept c =
     ap (λ (k : Kept). Some k) (made c)
     ∙ committed-state c.self.inside.region (seen c.self.inside).state c.if-self-eq0.false
     ∙ ap (λ (s : SlotState). committed_state s.region s.state) c.self.view_is
-    ∙ (λ j. committed_state (c.fold.ensures.region j) (c.fold.ensures.state j))
+    ∙ (λ j. committed_state (c.fold_all.ensures.region j) (c.fold_all.ensures.state j))
 
 pub returns-clause-orderly : goal.returns-clause-orderly
 returns-clause-orderly c = subst IsOrderly (sym (made c)) (kept-orderly c.self.inside c.self.invariant)
