@@ -31,12 +31,12 @@ Ascends-push v [] t h l = (l, tt)
 Ascends-push v (x ∷ ts) t h l = (h.0, Ascends-push x.update.version.0 ts t h.1 l)
 
 -- the line with an update more
-line-push : {g : RegionId} {base : ℕ} {ts : List AcceptedUpdate} {c floor : ℕ} → IsLine g base ts c floor → (t : AcceptedUpdate) → IsPlaced g t.update t.place → last_version base ts < t.update.version.0 → IsLine g base (ts ++ t ∷ []) c floor
+line-push : {g : RegionId} {base : ℕ} {ts : List AcceptedUpdate} {c floor : ℕ} → IsLine g base ts c floor → (t : AcceptedUpdate) → IsPlaced g t.update t.keeps → last_version base ts < t.update.version.0 → IsLine g base (ts ++ t ∷ []) c floor
 line-push {g = g} {base = base} {ts = ts} {c = c} line t p l =
     let n = length-append ts (t ∷ []) in
     record {
       ascends = Ascends-push base ts t line.ascends l;
-      placed = by_recursion-push (λ (x : AcceptedUpdate). IsPlaced g x.update x.place) ts t line.placed p;
+      placed = by_recursion-push (λ (x : AcceptedUpdate). IsPlaced g x.update x.keeps) ts t line.placed p;
       within = (let w = line.within in omega (arith, n, w));
       floor_is = line.floor_is ∙ ap (last_version base) (sym (take-append-le c ts (t ∷ []) line.within));
     }
@@ -83,7 +83,7 @@ pending-push a h t = drop-append-le a.committed a.accepted.items (t ∷ []) h.li
 
 -- the slot that accepts an update
 pub accepted-slot : (a : Inside) (t : AcceptedUpdate) (accepted : Vec AcceptedUpdate Global) (early : Vec PlacedUpdate Global) (spare : ℕ)
-    → IsSlot a → IsPlaced a.region t.update t.place → last_version a.base.floor.0 a.accepted.items < t.update.version.0 → t.acknowledged ≡ false
+    → IsSlot a → IsPlaced a.region t.update t.keeps → last_version a.base.floor.0 a.accepted.items < t.update.version.0 → t.acknowledged ≡ false
     → accepted.items ≡ a.accepted.items ++ t ∷ [] → vec_len accepted ≡ vec_len a.accepted + 1 → vec_capacity accepted ≡ vec_capacity a.accepted
     → AllByRecursion (IsHeld a.region) early.items → vec_len early ≤ vec_len a.early → vec_capacity early ≡ vec_capacity a.early
     → spare + 1 ≡ a.spare

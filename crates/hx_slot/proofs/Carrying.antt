@@ -72,7 +72,7 @@ row_of-upto v u l = by u.object
 
 pub row_by-upto : (v : ℕ) (t : AcceptedUpdate) (row : Option Row) → t.update.version.0 ≤ v → IsRowUpTo v row → IsRowUpTo v (row_by t row)
 row_by-upto v t row l h =
-    cond_both t.place.keeps (cond t.update.changes (row_of t.update) row) None (IsRowUpTo v)
+    cond_both t.keeps (cond t.update.changes (row_of t.update) row) None (IsRowUpTo v)
     (λ e. cond_both t.update.changes (row_of t.update) row (IsRowUpTo v) (λ q. row_of-upto v t.update l) (λ q. h))
     (λ e. tt)
 

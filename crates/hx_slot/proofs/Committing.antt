@@ -61,12 +61,12 @@ module _ (g : RegionId) (base floor : ℕ) (t : AcceptedUpdate) (rest : List Acc
   row-same : (old new : Option Row) → new ≡ row_by t old → kept_row g new (upto floor (newest_first [] rest)) ≡ kept_row g old (upto floor (newest_first [] (t ∷ rest)))
   row-same old new e =
       ap (kept_row g new) (upto-line left)
-      ∙ kept_row-newest_first g new [] (take c rest) (by_recursion-take (λ (x : AcceptedUpdate). IsPlaced g x.update x.place) c rest line.placed.1)
+      ∙ kept_row-newest_first g new [] (take c rest) (by_recursion-take (λ (x : AcceptedUpdate). IsPlaced g x.update x.keeps) c rest line.placed.1)
       ∙ ap (λ (row : Option Row). row_over row (take c rest)) e
       ∙ sym
       (
       ap (kept_row g old) (upto-line line)
-      ∙ kept_row-newest_first g old [] (t ∷ take c rest) (by_recursion-take (λ (x : AcceptedUpdate). IsPlaced g x.update x.place) (suc c) (t ∷ rest) line.placed)
+      ∙ kept_row-newest_first g old [] (t ∷ take c rest) (by_recursion-take (λ (x : AcceptedUpdate). IsPlaced g x.update x.keeps) (suc c) (t ∷ rest) line.placed)
       )
 
   marks-same : (old new : List Mark) → new ≡ with_mark (mark_by t.update) old → marks_after new (upto floor (newest_first [] rest)) ≡ marks_after old (upto floor (newest_first [] (t ∷ rest)))

@@ -1,8 +1,8 @@
 -- The folds of a slot, by the list that it keeps.
 use Rattle.hx_model.specs.Lines.{upto}
-use Rattle.std.proofs.Common.{◌≡◌, ℕ, zero, suc, ◌+◌, ◌<◌, ◌≤◌, false, List, [], ◌∷◌, ◌++◌, map, length, take, drop, slice_get, Option, Some, None, refl, ap, sym, ◌∙◌, subst, arith, cond, leb, append_assoc}
+use Rattle.std.proofs.Common.{◌≡◌, ℕ, zero, suc, ◌+◌, ◌<◌, ◌≤◌, false, List, [], ◌∷◌, ◌++◌, map, length, take, drop, slice_get, Option, Some, None, refl, ap, sym, ◌∙◌, subst, arith, cond, leb, append_assoc, Bool}
 use Rattle.std.specs.List.{AllByRecursion}
-use Rattle.std.specs.Option.{IfSome}
+use Rattle.std.specs.Option.{IfSome, option_map}
 use Rattle.std.proofs.lemmas.Bool.{cond_both, cond-true, cond-false, le-leb, lt-leb}
 use Rattle.std.proofs.lemmas.List.{append-nil, take-append-drop}
 use Rattle.hx_model.specs.Types.{Place, RegionId, Row, Update}
@@ -101,11 +101,16 @@ upto-line {base = base} {ts = ts} {c = c} {floor = floor} line =
     ∙ not_upto floor floor (committed_of c ts) (drop c ts) (omega arith) (pending-ascends line)
     ∙ all_upto floor (committed_of c ts) (top-committed base floor (take c ts) line.floor_is)
 
--- the row after the updates
-kept_by : (g : RegionId) (t : AcceptedUpdate) (row : Option Row) → place_in g t.update.places ≡ Some t.place → kept_after g t.update row ≡ row_by t row
-kept_by g t row e = ap (λ (o : Option Place). cond (when_some o false (λ (p : Place). p.keeps)) (cond t.update.changes (row_of t.update) row) None) e
+-- whether the object is kept is what the place tells
+kept_there : (o : Option Place) (keeps : Bool) → option_map (λ (p : Place). p.keeps) o ≡ Some keeps → when_some o false (λ (p : Place). p.keeps) ≡ keeps
+kept_there None keeps = λ e. absurd (cc)
+kept_there (Some p) keeps = λ e. (cc)
 
-pub kept_row-newest_first : (g : RegionId) (base : Option Row) (o : List Update) (ts : List AcceptedUpdate) → AllByRecursion (λ (t : AcceptedUpdate). IsPlaced g t.update t.place) ts → kept_row g base (newest_first o ts) ≡ row_over (kept_row g base o) ts
+-- the row after the updates
+kept_by : (g : RegionId) (t : AcceptedUpdate) (row : Option Row) → option_map (λ (p : Place). p.keeps) (place_in g t.update.places) ≡ Some t.keeps → kept_after g t.update row ≡ row_by t row
+kept_by g t row e = ap (λ b. cond b (cond t.update.changes (row_of t.update) row) None) (kept_there (place_in g t.update.places) t.keeps e)
+
+pub kept_row-newest_first : (g : RegionId) (base : Option Row) (o : List Update) (ts : List AcceptedUpdate) → AllByRecursion (λ (t : AcceptedUpdate). IsPlaced g t.update t.keeps) ts → kept_row g base (newest_first o ts) ≡ row_over (kept_row g base o) ts
 kept_row-newest_first g base o [] h = refl
 kept_row-newest_first g base o (t ∷ rest) h =
     kept_row-newest_first g base (t.update ∷ o) rest h.1 ∙ ap (λ (row : Option Row). row_over row rest) (kept_by g t (kept_row g base o) h.0.place)
@@ -131,18 +136,18 @@ if_at P (x ∷ xs) zero h = h.0
 if_at P (x ∷ xs) (suc i) h = if_at P xs i h.1
 
 -- a place that is found has a number within the places
-pub place_number-within : (g : RegionId) (places : List Place) (p : Place) → place_in g places ≡ Some p → place_number g places < length places
-place_number-within g [] p = λ e. absurd (cc)
-place_number-within g (q ∷ rest) p =
-    cond_both (same_region q.region g) (Some q) (place_in g rest) (λ (o : Option Place). o ≡ Some p → place_number g (q ∷ rest) < length (q ∷ rest))
+pub place_number-within : (g : RegionId) (places : List Place) (keeps : Bool) → option_map (λ (p : Place). p.keeps) (place_in g places) ≡ Some keeps → place_number g places < length places
+place_number-within g [] keeps = λ e. absurd (cc)
+place_number-within g (q ∷ rest) keeps =
+    cond_both (same_region q.region g) (Some q) (place_in g rest) (λ (o : Option Place). option_map (λ (p : Place). p.keeps) o ≡ Some keeps → place_number g (q ∷ rest) < length (q ∷ rest))
     (λ b e. subst (λ n. n < length (q ∷ rest)) (sym (cond-true (same_region q.region g) 0 (place_number g rest + 1) b)) (omega arith))
-    (λ b e. let l = place_number-within g rest p e in subst (λ n. n < length (q ∷ rest)) (sym (cond-false (same_region q.region g) 0 (place_number g rest + 1) b)) (omega (arith, l)))
+    (λ b e. let l = place_number-within g rest keeps e in subst (λ n. n < length (q ∷ rest)) (sym (cond-false (same_region q.region g) 0 (place_number g rest + 1) b)) (omega (arith, l)))
 
-pub placed-within : (g : RegionId) (ts : List AcceptedUpdate) → AllByRecursion (λ (t : AcceptedUpdate). IsPlaced g t.update t.place) ts → AllByRecursion (IsPlacedIn g) (map update_of ts)
+pub placed-within : (g : RegionId) (ts : List AcceptedUpdate) → AllByRecursion (λ (t : AcceptedUpdate). IsPlaced g t.update t.keeps) ts → AllByRecursion (IsPlacedIn g) (map update_of ts)
 placed-within g [] h = tt
-placed-within g (t ∷ rest) h = (place_number-within g t.update.places t.place h.0.place, placed-within g rest h.1)
+placed-within g (t ∷ rest) h = (place_number-within g t.update.places t.keeps h.0.place, placed-within g rest h.1)
 
-pub few-placed : (g : RegionId) (ts : List AcceptedUpdate) → AllByRecursion (λ (t : AcceptedUpdate). IsPlaced g t.update t.place) ts → AllByRecursion HasFewPlaces (map update_of ts)
+pub few-placed : (g : RegionId) (ts : List AcceptedUpdate) → AllByRecursion (λ (t : AcceptedUpdate). IsPlaced g t.update t.keeps) ts → AllByRecursion HasFewPlaces (map update_of ts)
 few-placed g [] h = tt
 few-placed g (t ∷ rest) h = (h.0.few, few-placed g rest h.1)
 

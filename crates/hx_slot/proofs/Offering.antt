@@ -60,10 +60,11 @@ pub placed-read : (g : RegionId) (places read : List Place) (n : ℕ) (d : Place
 placed-read g places read n d e l r = place_in-at g places d l ∙ ap (λ k. Some (get_or places k d)) (sym e) ∙ ap (λ (ps : List Place). Some (get_or ps n d)) (sym r)
 
 pub held-read : (g : RegionId) (u : Update) (read : List Place) (n : ℕ) (d : Place) → n ≡ place_number g u.places → place_number g u.places < length u.places → read ≡ u.places → All (λ (p : Place). p.after.0 < u.version.0) u.places → length u.places ≤ 17
-    → IsHeld g (record { update = u; place = get_or read n d })
+    → IsHeld g (record { update = u; after = (get_or read n d).after; keeps = (get_or read n d).keeps })
 held-read g u read n d e l r after few =
     record {
-      placed = record { place = placed-read g u.places read n d e l r; few = few };
+      placed = record { place = ap (λ (o : Option Place). option_map (λ (p : Place). p.keeps) o) (placed-read g u.places read n d e l r); few = few };
+      turn = ap (λ (o : Option Place). option_map (λ (p : Place). p.after.0) o) (placed-read g u.places read n d e l r);
       after = subst (λ (ps : List Place). (get_or ps n d).after.0 < u.version.0) (sym r) (after n d (omega (arith, e, l)));
     }
 

@@ -28,7 +28,7 @@ object-seen a h =
     sym
     (
     ap (kept_row a.region a.base.object) (upto-line h.line)
-    ∙ kept_row-newest_first a.region a.base.object [] (take a.committed a.accepted.items) (by_recursion-take (λ (t : AcceptedUpdate). IsPlaced a.region t.update t.place) a.committed a.accepted.items h.line.placed)
+    ∙ kept_row-newest_first a.region a.base.object [] (take a.committed a.accepted.items) (by_recursion-take (λ (t : AcceptedUpdate). IsPlaced a.region t.update t.keeps) a.committed a.accepted.items h.line.placed)
     )
 
 pub pending-seen : (a : Inside) → IsSlot a → map update_of (pending_in a) ≡ pending_of (whole a).state
@@ -45,10 +45,10 @@ versions-seen a h =
     pending-between a.floor.0 (top_of (whole a).state) a.floor.0 (pending_in a) (omega arith) (pending-ascends h.line) (omega (arith, e, q))
 
 pub places-seen : (a : Inside) → IsSlot a → AllByRecursion (IsPlacedIn a.region) (map update_of (pending_in a))
-places-seen a h = placed-within a.region (pending_in a) (by_recursion-drop (λ (t : AcceptedUpdate). IsPlaced a.region t.update t.place) a.committed a.accepted.items h.line.placed)
+places-seen a h = placed-within a.region (pending_in a) (by_recursion-drop (λ (t : AcceptedUpdate). IsPlaced a.region t.update t.keeps) a.committed a.accepted.items h.line.placed)
 
 pub few-seen : (a : Inside) → IsSlot a → AllByRecursion HasFewPlaces (map update_of (pending_in a))
-few-seen a h = few-placed a.region (pending_in a) (by_recursion-drop (λ (t : AcceptedUpdate). IsPlaced a.region t.update t.place) a.committed a.accepted.items h.line.placed)
+few-seen a h = few-placed a.region (pending_in a) (by_recursion-drop (λ (t : AcceptedUpdate). IsPlaced a.region t.update t.keeps) a.committed a.accepted.items h.line.placed)
 
 -- nothing of the slot is above its top
 pub updates-upto : (a : Inside) → IsSlot a → UpdatesUpTo (top_of (whole a).state) (newest_first [] a.accepted.items)

@@ -20,7 +20,7 @@ use Rattle.hx_slot.proofs.Refitting.{same-kept, same-provided}
 use Rattle.hx_slot.proofs.SameUpdates.{same-length, same-line, same-newest_first}
 
 -- one entry more on either side
-pub same-push : (xs ys : List AcceptedUpdate) (x y : AcceptedUpdate) → AreSameUpdates xs ys → y.update ≡ x.update → y.place ≡ x.place → AreSameUpdates (xs ++ x ∷ []) (ys ++ y ∷ [])
+pub same-push : (xs ys : List AcceptedUpdate) (x y : AcceptedUpdate) → AreSameUpdates xs ys → y.update ≡ x.update → y.keeps ≡ x.keeps → AreSameUpdates (xs ++ x ∷ []) (ys ++ y ∷ [])
 same-push [] [] x y h u p = (u, p, tt)
 same-push [] (b ∷ ys) x y h u p = absurd h
 same-push (a ∷ xs) [] x y h u p = absurd h
@@ -35,7 +35,7 @@ take-one [] i x l e = absurd (omega arith)
 take-one (y ∷ ys) zero x l e = ap (λ (z : AcceptedUpdate). z ∷ []) (sym e)
 take-one (y ∷ ys) (suc i) x l e = ap (λ (zs : List AcceptedUpdate). y ∷ zs) (take-one ys i x (omega arith) e)
 
-pub same-next : (xs ys : List AcceptedUpdate) (i : ℕ) (x y : AcceptedUpdate) → i < length xs → x ≡ get_or xs i x → AreSameUpdates (take i xs) ys → y.update ≡ x.update → y.place ≡ x.place → AreSameUpdates (take (i + 1) xs) (ys ++ y ∷ [])
+pub same-next : (xs ys : List AcceptedUpdate) (i : ℕ) (x y : AcceptedUpdate) → i < length xs → x ≡ get_or xs i x → AreSameUpdates (take i xs) ys → y.update ≡ x.update → y.keeps ≡ x.keeps → AreSameUpdates (take (i + 1) xs) (ys ++ y ∷ [])
 same-next xs ys i x y l e h u p =
     subst (λ (zs : List AcceptedUpdate). AreSameUpdates zs (ys ++ y ∷ [])) (sym (ap (λ n. take n xs) (add-one i) ∙ take-one xs i x l e)) (same-push (take i xs) ys x y h u p)
 

@@ -5,7 +5,7 @@ use Rattle.std.specs.Option.{IfSome, option_map}
 use Rattle.std.proofs.lemmas.Bool.{cond_both, cond-false, cond-true, eqb-true, false≢true, ltb-false, ltb-true, ne_eqb, not-false}
 use Rattle.std.proofs.lemmas.Option.{slice_get_past, slice_get_read}
 use Rattle.std.proofs.lemmas.List.Folds.{find_at}
-use Rattle.hx_model.specs.Types.{Place, RegionId, Update}
+use Rattle.hx_model.specs.Types.{RegionId, Update}
 use Rattle.hx_types.specs.Words.{when_some}
 use Rattle.hx_model.specs.Slots.{KeyState, Move, Take, after_at, follows, moved, moved_all, other_version, taken, top_of, turns}
 use Rattle.hx_slot.specs.declared.updates.PlacedUpdate.{PlacedUpdate}
@@ -15,11 +15,11 @@ use Rattle.hx_slot.specs.States.{HasFewPlaces, IsLater, IsPlacedIn}
 use Rattle.hx_slot.proofs.Newest.{place_number-within}
 
 abbrev pub comes_after : ℕ → PlacedUpdate → Bool
-comes_after v p = eqb p.place.after.0 v
+comes_after v p = eqb p.after.0 v
 
 -- an early update's turn comes after the version of its place
 follows-held : (g : RegionId) (v : ℕ) (p : PlacedUpdate) → IsHeld g p → follows g v p.update ≡ comes_after v p
-follows-held g v p h = ap (λ (o : Option Place). when_some (option_map (λ (q : Place). q.after.0) o) false (λ after. eqb after v)) h.placed.place
+follows-held g v p h = ap (λ (o : Option ℕ). when_some o false (λ after. eqb after v)) h.turn
 
 -- the first of them is found by its place
 pub find-held : (g : RegionId) (v : ℕ) (early : List PlacedUpdate) → AllByRecursion (IsHeld g) early → find (follows g v) (updates_of early) ≡ option_map (λ (p : PlacedUpdate). p.update) (find (comes_after v) early)
@@ -62,7 +62,7 @@ pub record IsTurn (g : RegionId) (v : ℕ) (early : List PlacedUpdate) (i : ℕ)
   pub found : find (follows g v) (updates_of early) ≡ Some p.update
   pub within : i < length early
   pub held : IsHeld g p
-  pub after : p.place.after.0 ≡ v
+  pub after : p.after.0 ≡ v
 
 pub turn-found : (g : RegionId) (v : ℕ) (early : List PlacedUpdate) (i : ℕ) (p : PlacedUpdate) → AllByRecursion (IsHeld g) early → position (comes_after v) early ≡ Some i → p ≡ get_or early i p → IsTurn g v early i p
 turn-found g v early i p h e r =
@@ -73,7 +73,7 @@ turn-found g v early i p h e r =
       found = find-held g v early h ∙ ap (λ (o : Option PlacedUpdate). option_map (λ (q : PlacedUpdate). q.update) o) at;
       within = within;
       held = facts.0;
-      after = eqb-true p.place.after.0 v facts.1;
+      after = eqb-true p.after.0 v facts.1;
     }
 
 pub turn-none : (g : RegionId) (v : ℕ) (early : List PlacedUpdate) → AllByRecursion (IsHeld g) early → position (comes_after v) early ≡ None → find (follows g v) (updates_of early) ≡ None
@@ -83,12 +83,12 @@ turn-none g v early h e = find-held g v early h ∙ ap (λ (o : Option PlacedUpd
 pub later-held : (g : RegionId) (early : List PlacedUpdate) → AllByRecursion (IsHeld g) early → AllByRecursion (IsLater g) (updates_of early)
 later-held g [] h = tt
 later-held g (p ∷ rest) h =
-    (subst (λ (o : Option ℕ). IfSome o (λ after. after < p.update.version.0)) (sym (ap (λ (o : Option Place). option_map (λ (q : Place). q.after.0) o) h.0.placed.place)) h.0.after, later-held g rest h.1)
+    (subst (λ (o : Option ℕ). IfSome o (λ after. after < p.update.version.0)) (sym h.0.turn) h.0.after, later-held g rest h.1)
 
 -- each has a place in the region, and few places
 pub places-held : (g : RegionId) (early : List PlacedUpdate) → AllByRecursion (IsHeld g) early → AllByRecursion (IsPlacedIn g) (updates_of early)
 places-held g [] h = tt
-places-held g (p ∷ rest) h = (place_number-within g p.update.places p.place h.0.placed.place, places-held g rest h.1)
+places-held g (p ∷ rest) h = (place_number-within g p.update.places p.keeps h.0.placed.place, places-held g rest h.1)
 
 pub few-held : (g : RegionId) (early : List PlacedUpdate) → AllByRecursion (IsHeld g) early → AllByRecursion HasFewPlaces (updates_of early)
 few-held g [] h = tt

@@ -34,4 +34,4 @@ abbrev pub AreSameUpdates : List AcceptedUpdate → List AcceptedUpdate → Type
 AreSameUpdates [] [] = ⊤
 AreSameUpdates [] (y ∷ ys) = ⊥
 AreSameUpdates (x ∷ xs) [] = ⊥
-AreSameUpdates (x ∷ xs) (y ∷ ys) = (y.update ≡ x.update) × (y.place ≡ x.place) × AreSameUpdates xs ys
+AreSameUpdates (x ∷ xs) (y ∷ ys) = (y.update ≡ x.update) × (y.keeps ≡ x.keeps) × AreSameUpdates xs ys

@@ -39,7 +39,7 @@ seen a = record { region = a.region; state = folded a.region (whole a).state; sp
 -- versions ascend from that of the base, each update has its place, and the first ones are committed
 pub record IsLine (g : RegionId) (base : ℕ) (accepted : List AcceptedUpdate) (committed floor : ℕ) : Type 0 where
   pub ascends : Ascends base accepted
-  pub placed : AllByRecursion (λ (t : AcceptedUpdate). IsPlaced g t.update t.place) accepted
+  pub placed : AllByRecursion (λ (t : AcceptedUpdate). IsPlaced g t.update t.keeps) accepted
   pub within : committed ≤ length accepted
   pub floor_is : floor ≡ last_version base (take committed accepted)
 

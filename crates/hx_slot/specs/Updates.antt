@@ -2,7 +2,7 @@
 use Rattle.std.specs.Prelude.{◌≡◌, ℕ, ◌+◌, ◌<◌, ◌≤◌, ⊤, Bool, not, ◌||◌, List, [], ◌∷◌, length, if◌then◌else◌, Option, None, Some}
 use Rattle.std.specs.Option.{option_map}
 use Rattle.hx_model.specs.Types.{Place, RegionId, Row, Update}
-use Rattle.hx_model.specs.Slots.{place_in, row_of}
+use Rattle.hx_model.specs.Slots.{after_at, place_in, row_of}
 use Rattle.hx_slot.specs.declared.updates.PlacedUpdate.{PlacedUpdate}
 use Rattle.hx_slot.specs.declared.updates.AcceptedUpdate.{AcceptedUpdate}
 use Rattle.hx_slot.specs.declared.line.RowRef.{RowRef}
@@ -27,23 +27,24 @@ abbrev pub Ascends : ℕ → List AcceptedUpdate → Type 0
 Ascends v [] = ⊤
 Ascends v (t ∷ rest) = (v < t.update.version.0) × Ascends t.update.version.0 rest
 
--- the place is the update's in the region, one of few
-pub record IsPlaced (g : RegionId) (u : Update) (p : Place) : Type 0 where
-  pub place : place_in g u.places ≡ Some p
+-- the update has a place in the region, one of few, which tells whether the object is kept there
+pub record IsPlaced (g : RegionId) (u : Update) (keeps : Bool) : Type 0 where
+  pub place : option_map (λ (p : Place). p.keeps) (place_in g u.places) ≡ Some keeps
   pub few : length u.places ≤ 17
 
--- an update with its place in the region, after a lower version
+-- an update with what its place in the region tells, after a lower version
 pub record IsHeld (g : RegionId) (p : PlacedUpdate) : Type 0 where
-  pub placed : IsPlaced g p.update p.place
-  pub after : p.place.after.0 < p.update.version.0
+  pub placed : IsPlaced g p.update p.keeps
+  pub turn : after_at g p.update ≡ Some p.after.0
+  pub after : p.after.0 < p.update.version.0
 
 -- the object is set by an update that keeps and changes, and removed by one that doesn't keep
 abbrev pub row_by : AcceptedUpdate → Option Row → Option Row
-row_by t old = if t.place.keeps then if t.update.changes then row_of t.update else old else None
+row_by t old = if t.keeps then if t.update.changes then row_of t.update else old else None
 
 -- the row after the update isn't the one before it
 abbrev pub changes_row : AcceptedUpdate → Bool
-changes_row t = not t.place.keeps || t.update.changes
+changes_row t = not t.keeps || t.update.changes
 
 -- the row after updates, from the one before them
 abbrev pub row_over : Option Row → List AcceptedUpdate → Option Row

@@ -81,14 +81,14 @@ impl Base {
 fn changes_row(taken: &AcceptedUpdate) -> bool
     ensures { result ≡ changes_row taken.now }
 {
-    !taken.place.keeps || taken.update.changes
+    !taken.keeps || taken.update.changes
 }
 
 /// The row that an update sets, or `None` where it sets none.
 fn row_set(alloc: Global, taken: &AcceptedUpdate) -> Result<Option<Row>, Memory>
     ensures { IfOk result (λ row. row ≡ row_by taken.now None) }
 {
-    if taken.place.keeps && taken.update.changes {
+    if taken.keeps && taken.update.changes {
         return copy_row(alloc, row_of(taken));
     }
     Ok(None)

@@ -7,11 +7,9 @@ use hx_types::{Shared, Update, Version};
 
 /// The first of the early updates that come after this version, by its number.
 pub fn early_after(early: &[PlacedUpdate], top: Version) -> Option<usize>
-    ensures { result ≡ position (λ (p : PlacedUpdate). p.place.after.0 == top.0) early.now }
+    ensures { result ≡ position (λ (p : PlacedUpdate). p.after.0 == top.0) early.now }
 {
-    early
-        .iter()
-        .position(|placed| placed.place.after.0 == top.0)
+    early.iter().position(|placed| placed.after.0 == top.0)
 }
 
 /// Takes the updates of a version out.

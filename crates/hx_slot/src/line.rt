@@ -57,7 +57,7 @@ pub fn row_over<'a>(base: Option<&'a Row>, line: &'a [AcceptedUpdate]) -> Option
 {
     let mut rest = line;
     while let Some((taken, older)) = rest.split_last() {
-        if !taken.place.keeps {
+        if !taken.keeps {
             return None;
         }
         if taken.update.changes {

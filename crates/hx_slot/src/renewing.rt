@@ -19,7 +19,7 @@ pub fn renewed_line(alloc: Global, line: &[AcceptedUpdate]) -> Result<Vec<Accept
     for taken in line {
         copy.push(AcceptedUpdate {
             update: taken.update.copy(alloc)?,
-            place: taken.place,
+            keeps: taken.keeps,
             acknowledged: false,
         })?;
     }

@@ -427,8 +427,12 @@ impl Slot {
             return Offer::Known;
         }
         let place = update.places.as_slice()[place as usize];
-        let placed = PlacedUpdate { update, place };
-        if placed.place.after.0 != top.0 {
+        let placed = PlacedUpdate {
+            update,
+            after: place.after,
+            keeps: place.keeps,
+        };
+        if placed.after.0 != top.0 {
             self.hold(placed);
             return Offer::Early;
         }
@@ -683,11 +687,15 @@ impl Slot {
         ensures spare { self.new.spare + 1 ≡ self.old.spare }
         ensures held { self.new.held ≡ self.old.held }
     {
-        let PlacedUpdate { update, place } = placed;
+        let PlacedUpdate {
+            update,
+            after: _,
+            keeps,
+        } = placed;
         drop_version(&mut self.early, update.version);
         self.accepted.push_reserved(AcceptedUpdate {
             update,
-            place,
+            keeps,
             acknowledged: false,
         });
         self.spare -= 1;

@@ -11,7 +11,7 @@ pub loop-place-preserved : goal.loop-place-preserved
 loop-place-preserved c =
     let xs = c.loop-place.accepted.items in
     let i = c.loop-place.place in
-    let t : AcceptedUpdate = record { update = c.index_mut.result.now.update; place = c.index_mut.result.now.place; acknowledged = false } in
+    let t : AcceptedUpdate = record { update = c.index_mut.result.now.update; keeps = c.index_mut.result.now.keeps; acknowledged = false } in
     let ok = c.loop-place.accepted.ok.0 in
     let len = c.loop-place.invariant.len in
     let end = c.len-place-end.ensures in

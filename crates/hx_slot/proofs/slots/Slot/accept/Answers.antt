@@ -14,8 +14,8 @@ use Rattle.hx_slot.proofs.slots.Slot.accept.Goals as goal
 pub invariant_of-self : goal.invariant_of-self
 invariant_of-self c =
     let a = c.self.inside in
-    let t : AcceptedUpdate = record { update = c.args.placed.update; place = c.args.placed.place; acknowledged = false } in
-    let placed = subst (λ (s : SlotState). IsPlaced s.region t.update t.place) (sym c.self.view_is) c.requires.held.placed in
+    let t : AcceptedUpdate = record { update = c.args.placed.update; keeps = c.args.placed.keeps; acknowledged = false } in
+    let placed = subst (λ (s : SlotState). IsPlaced s.region t.update t.keeps) (sym c.self.view_is) c.requires.held.placed in
     let top = subst (λ (s : SlotState). top_of s.state < t.update.version.0) (sym c.self.view_is) c.requires.above in
     let is = top-seen a c.self.invariant in
     let above : last_version a.base.floor.0 a.accepted.items < t.update.version.0 = omega (arith, is, top) in
@@ -29,7 +29,7 @@ invariant_of-self c =
 
 pub returns-clause-state : goal.returns-clause-state
 returns-clause-state c =
-    let t : AcceptedUpdate = record { update = c.args.placed.update; place = c.args.placed.place; acknowledged = false } in
+    let t : AcceptedUpdate = record { update = c.args.placed.update; keeps = c.args.placed.keeps; acknowledged = false } in
     let top = subst (λ (s : SlotState). top_of s.state < t.update.version.0) (sym c.self.view_is) c.requires.above in
     let dropped = c.drop_version.ensures.items ∙ ap (λ (u : Update). filter (λ (p : PlacedUpdate). not (eqb p.update.version.0 u.version.0)) c.self.inside.early.items) c.deref.ensures in
     let floor = floor-seen c.self.inside c.self.invariant in
