@@ -1,21 +1,17 @@
--- A message that goes to a slot of a replica is a step of that slot, where the replica hears it; one that goes to none moves nothing.
-use Rattle.std.proofs.Common.{◌≡◌, ℕ, Bool, true, false, cond, nat_le, List, [], ◌∷◌, ◌++◌, append-nil, Option, None, Some, refl, ap, sym, ◌∙◌}
-use Rattle.std.proofs.lemmas.Bool.{cond_both, cond-true, cond-false, eqb-true, false≢true}
+-- Which replica takes a message, and what the slot makes to which it goes.
+use Rattle.std.proofs.Common.{◌≡◌, ℕ, Bool, true, false, cond, List, [], ◌∷◌, Option, None, Some, refl, ap, sym, ◌∙◌, subst}
+use Rattle.std.proofs.lemmas.Bool.{cond_both, cond-true, cond-false, eqb-true}
 use Rattle.std.proofs.lemmas.Option.{same_Some}
-use Rattle.hx_model.specs.Types.{Actor, Caller, Config, Coordinator, Message, Op, Post, RegionId, Server, ServerId, Session, Space, Update}
-use Rattle.hx_types.specs.declared.messages.Message.TheVariants as a_message
+use Rattle.hx_model.specs.Types.{Actor, Caller, Config, Op, RegionId, ServerId, Space, Update}
 use Rattle.hx_types.specs.Configs.{leads}
-use Rattle.hx_types.specs.Effects.{key_of}
-use Rattle.hx_types.specs.Posts.{goes_between}
 use Rattle.hx_types.specs.Words.{same_region, when_some}
 use Rattle.hx_model.specs.Regions.{key_region}
 use Rattle.hx_model.specs.Hearing.{hears_ack, hears_update}
 use Rattle.hx_model.specs.Neighbours.{place_number}
-use Rattle.hx_model.specs.ServerSteps.{Replica, ServerState, ServerStep, SlotContext, SlotStep, ack_step, acked, acked_of, at_slot, call_at, call_step, called, context_of, if_installed, message_step, pending_with, replica_for, replica_of, state_in, unmoved, update_step, updated}
-use Rattle.hx_model.specs.Slots.{KeyState, top_of}
-use Rattle.hx_replica.specs.Hearing.{IsOfOneSlot, addressed, leading, met_posts, own_step}
-use Rattle.hx_replica.specs.Outputs.{IsChangeOf, IsMaybeChangeOf, ack_heard, hears_version, key_in, notes_of, posts_of, slot_step_of, some_if, update_heard}
-use Rattle.hx_replica.specs.declared.outputs.SlotChange.{SlotChange}
+use Rattle.hx_model.specs.ServerSteps.{Replica, ServerState, SlotContext, ack_step, acked, acked_of, at_slot, call_at, call_step, called, context_of, if_installed, pending_with, replica_for, replica_of, state_in, unmoved, update_step, updated}
+use Rattle.hx_model.specs.Slots.{KeyState}
+use Rattle.hx_replica.specs.Hearing.{leading}
+use Rattle.hx_replica.specs.Outputs.{hears_version}
 
 same_number : (a b : RegionId) → same_region a b ≡ true → a ≡ b
 same_number a b e = let f : ℕ → RegionId = λ n. record { 0 = n } in ap f (eqb-true a.0 b.0 e)
@@ -60,27 +56,7 @@ led space s key r e =
     let both = if_some (leads space s.config s.id (key_region space key)) (replica_for s (key_region space key)) r e in
     record { leads_it = both.0; takes = both.1; region = found_region (key_region space key) s.replicas r (replica_for_found s (key_region space key) r both.1) }
 
--- the step of one slot, as the server's; nothing moves where there is none
-abbrev pub slot_or_nothing : ServerState → Replica → KeyState → Option SlotStep → ServerStep
-slot_or_nothing s r state None = unmoved s
-slot_or_nothing s r state (Some step) = at_slot s r state step
-
-pub slot_posts : (s : ServerState) (r : Replica) (state : KeyState) (o : Option SlotStep) → posts_of o ≡ (slot_or_nothing s r state o).posts
-slot_posts s r state None = refl
-slot_posts s r state (Some step) = refl
-
-pub slot_notes : (s : ServerState) (r : Replica) (state : KeyState) (o : Option SlotStep) → notes_of o ≡ (slot_or_nothing s r state o).notes
-slot_notes s r state None = refl
-slot_notes s r state (Some step) = refl
-
-called_there : (space : Space) (s : ServerState) (caller : Caller) (op : Op) (o : Option (List ℕ)) (r : Replica) → when_some o None (leading space s) ≡ Some r
-    → called space s caller op o ≡ at_slot s r (state_in space r (when_some o [] (λ k. k))) (call_step (context_of space s r.region) (state_in space r (when_some o [] (λ k. k))) caller op)
-called_there space s caller op None r e = absurd cc
-called_there space s caller op (Some key) r e =
-    let l = led space s key r e in
-    ap (λ (o : Option Replica). when_some o (unmoved s) (λ (x : Replica). call_at space s x key caller op)) l.takes
-    ∙ cond-true (leads space s.config s.id r.region) _ (unmoved s) (ap (leads space s.config s.id) l.region ∙ l.leads_it)
-
+-- where the server doesn't lead the key's region, a call moves nothing
 not_led : (space : Space) (s : ServerState) (caller : Caller) (op : Op) (key : List ℕ) (h : Option Replica) → replica_for s (key_region space key) ≡ h
     → cond (leads space s.config s.id (key_region space key)) h None ≡ None → when_some h (unmoved s) (λ (x : Replica). call_at space s x key caller op) ≡ unmoved s
 not_led space s caller op key None is e = refl
@@ -88,94 +64,54 @@ not_led space s caller op key (Some r) is e =
     let region = found_region (key_region space key) s.replicas r (replica_for_found s (key_region space key) r is) in
     cond-false (leads space s.config s.id r.region) _ (unmoved s) (ap (leads space s.config s.id) region ∙ if_none (leads space s.config s.id (key_region space key)) r e)
 
-called_nowhere : (space : Space) (s : ServerState) (caller : Caller) (op : Op) (o : Option (List ℕ)) → when_some o None (leading space s) ≡ None → called space s caller op o ≡ unmoved s
-called_nowhere space s caller op None e = refl
-called_nowhere space s caller op (Some key) e = not_led space s caller op key (replica_for s (key_region space key)) refl e
+pub called_nowhere : (space : Space) (s : ServerState) (caller : Caller) (op : Op) (key : List ℕ) → leading space s key ≡ None → called space s caller op (Some key) ≡ unmoved s
+called_nowhere space s caller op key e = not_led space s caller op key (replica_for s (key_region space key)) refl e
 
--- what isn't heard is dropped
-heard_or_dropped : (s : ServerState) (r : Replica) (state : KeyState) (step : SlotStep) (b : Bool) → cond b (at_slot s r state step) (unmoved s) ≡ slot_or_nothing s r state (some_if b step)
-heard_or_dropped s r state step true = refl
-heard_or_dropped s r state step false = refl
+-- ---- the slot of a key at a replica, which stands so, and is so
 
-module _ (space : Space) (s : ServerState) (from : Actor) (r : Replica) where
-  updated_there : (u : Update) → updated space s from u (Some r)
-      ≡ slot_or_nothing s r (state_in space r u.key) (some_if (hears_update s.config u (place_number r.region u.places) s.id from) (update_step (context_of space s r.region) (state_in space r u.key) u))
-  updated_there u =
-      heard_or_dropped s r (state_in space r u.key) (update_step (context_of space s r.region) (state_in space r u.key) u)
-      (hears_update s.config u (place_number r.region u.places) s.id from)
+module _ (space : Space) (s : ServerState) (r : Replica) (x : SlotContext) (stands : x ≡ context_of space s r.region) where
+  -- a call
+  pub called_there : (caller : Caller) (op : Op) (key : List ℕ) (state : KeyState) → state ≡ state_in space r key → leading space s key ≡ Some r
+      → called space s caller op (Some key) ≡ at_slot s r state (call_step x state caller op)
+  called_there caller op key state same e =
+      let l = led space s key r e in
+      ap (λ (o : Option Replica). when_some o (unmoved s) (λ (y : Replica). call_at space s y key caller op)) l.takes
+      ∙ cond-true (leads space s.config s.id r.region) _ (unmoved s) (ap (leads space s.config s.id) l.region ∙ l.leads_it)
+      ∙ ap (λ (t : KeyState). at_slot s r t (call_step (context_of space s r.region) t caller op)) (sym same)
+      ∙ ap (λ (y : SlotContext). at_slot s r state (call_step y state caller op)) (sym stands)
 
-  acked_there : (by : RegionId) (state : KeyState) (v : ℕ) (o : Option Update) → acked_of space s from by r state v o
-      ≡ slot_or_nothing s r state (some_if (hears_version (context_of space s r.region) from by o) (ack_step (context_of space s r.region) state v))
-  acked_there by state v None = refl
-  acked_there by state v (Some u) =
-      heard_or_dropped s r state (ack_step (context_of space s r.region) state v) (hears_ack s.config u (place_number r.region u.places) s.id from by)
+  -- an update that is heard, and one that isn't
+  module _ (from : Actor) (u : Update) where
+    pub updated_there : (state : KeyState) → state ≡ state_in space r u.key → hears_update x.config u (place_number x.region u.places) x.server from ≡ true
+        → updated space s from u (Some r) ≡ at_slot s r state (update_step x state u)
+    updated_there state same h =
+        cond-true (hears_update s.config u (place_number r.region u.places) s.id from) _ (unmoved s)
+        (subst (λ (y : SlotContext). hears_update y.config u (place_number y.region u.places) y.server from ≡ true) stands h)
+        ∙ ap (λ (t : KeyState). at_slot s r t (update_step (context_of space s r.region) t u)) (sym same)
+        ∙ ap (λ (y : SlotContext). at_slot s r state (update_step y state u)) (sym stands)
 
--- the step of one slot
-pub message_there : (space : Space) (s : ServerState) (from to : Actor) (m : Message) (r : Replica) → goes_between from to m ≡ true → addressed space s m ≡ Some r
-    → own_step space s from m ≡ slot_or_nothing s r (state_in space r (key_in m)) (slot_step_of (context_of space s r.region) (state_in space r (key_in m)) from m)
-message_there space s Coordinator to (a_message.Call epoch number op) r b e = absurd (false≢true b)
-message_there space s (Server x) to (a_message.Call epoch number op) r b e = absurd (false≢true b)
-message_there space s (Session u) to (a_message.Call epoch number op) r b e = called_there space s (record { session = u; number = number }) op (key_of op) r e
-message_there space s from to (a_message.Update epoch g u) r b e = ap (updated space s from u) e ∙ updated_there space s from r u
-message_there space s from to (a_message.Ack epoch g by key version) r b e =
-    ap (acked space s from key version.0 by) e ∙ acked_there space s from r by (state_in space r key) version.0 (pending_with version.0 (state_in space r key))
-message_there space s from to other r b e = absurd cc
+    pub updated_nowhere : hears_update x.config u (place_number x.region u.places) x.server from ≡ false → updated space s from u (Some r) ≡ unmoved s
+    updated_nowhere h =
+        cond-false (hears_update s.config u (place_number r.region u.places) s.id from) _ (unmoved s)
+        (subst (λ (y : SlotContext). hears_update y.config u (place_number y.region u.places) y.server from ≡ false) stands h)
 
--- nothing moves
-pub message_nowhere : (space : Space) (s : ServerState) (from : Actor) (m : Message) → IsOfOneSlot m → addressed space s m ≡ None → own_step space s from m ≡ unmoved s
-message_nowhere space s (Session u) (a_message.Call epoch number op) h e = called_nowhere space s (record { session = u; number = number }) op (key_of op) e
-message_nowhere space s from (a_message.Call epoch number op) h e = refl
-message_nowhere space s from (a_message.Update epoch g u) h e = ap (updated space s from u) e
-message_nowhere space s from (a_message.Ack epoch g by key version) h e = ap (acked space s from key version.0 by) e
-message_nowhere space s from (a_message.Ask epoch number g terms) h e = absurd h
-message_nowhere space s from (a_message.Install config) h e = absurd h
-message_nowhere space s from a_message.Die h e = absurd h
-message_nowhere space s from (a_message.Snap epoch g snapshot pending) h e = absurd h
-message_nowhere space s from other h e = refl
+  -- an acknowledgement
+  module _ (from : Actor) (by : RegionId) (key : List ℕ) (v : ℕ) (state : KeyState) (same : state ≡ state_in space r key) where
+    acked_so : (o : Option Update) → acked_of space s from by r state v o ≡ cond (hears_version (context_of space s r.region) from by o) (at_slot s r state (ack_step (context_of space s r.region) state v)) (unmoved s)
+    acked_so None = refl
+    acked_so (Some u) = refl
 
--- what a message makes beside asking for the newest configuration
-pub met_first : (space : Space) (s : ServerState) (from : Actor) (m : Message) → (message_step space s from m).posts ≡ met_posts s m ++ (own_step space s from m).posts
-met_first space s from (a_message.Call epoch number op) = refl
-met_first space s from (a_message.Update epoch g u) = refl
-met_first space s from (a_message.Ack epoch g by key version) = refl
-met_first space s from (a_message.Ask epoch number g terms) = refl
-met_first space s from (a_message.Snap epoch g snapshot pending) = refl
-met_first space s from other = refl
+    acked_is : acked space s from key v by (Some r) ≡ cond (hears_version x from by (pending_with v state)) (at_slot s r state (ack_step x state v)) (unmoved s)
+    acked_is =
+        ap (λ (t : KeyState). acked_of space s from by r t v (pending_with v t)) (sym same)
+        ∙ acked_so (pending_with v state)
+        ∙ ap (λ (y : SlotContext). cond (hears_version y from by (pending_with v state)) (at_slot s r state (ack_step y state v)) (unmoved s)) (sym stands)
 
-pub own_notes : (space : Space) (s : ServerState) (from : Actor) (m : Message) → (message_step space s from m).notes ≡ (own_step space s from m).notes
-own_notes space s from (a_message.Call epoch number op) = refl
-own_notes space s from (a_message.Update epoch g u) = refl
-own_notes space s from (a_message.Ack epoch g by key version) = refl
-own_notes space s from (a_message.Ask epoch number g terms) = refl
-own_notes space s from (a_message.Snap epoch g snapshot pending) = refl
-own_notes space s from other = refl
+    pub acked_there : hears_version x from by (pending_with v state) ≡ true → acked space s from key v by (Some r) ≡ at_slot s r state (ack_step x state v)
+    acked_there h = acked_is ∙ cond-true (hears_version x from by (pending_with v state)) _ (unmoved s) h
 
-pub own_state : (space : Space) (s : ServerState) (from : Actor) (m : Message) → (message_step space s from m).state ≡ (own_step space s from m).state
-own_state space s from (a_message.Call epoch number op) = refl
-own_state space s from (a_message.Update epoch g u) = refl
-own_state space s from (a_message.Ack epoch g by key version) = refl
-own_state space s from (a_message.Ask epoch number g terms) = refl
-own_state space s from (a_message.Snap epoch g snapshot pending) = refl
-own_state space s from other = refl
-
--- ---- a step of a slot that is heard, and one that is dropped
-
-pub dropped_posts : (b : Bool) (step : SlotStep) (old : List Post) → b ≡ false → old ≡ old ++ posts_of (some_if b step)
-dropped_posts true step old e = absurd (false≢true (sym e))
-dropped_posts false step old e = sym (append-nil old)
-
-pub dropped_change : (b : Bool) (step : SlotStep) (g : RegionId) (s : KeyState) (key : List ℕ) → b ≡ false → IsMaybeChangeOf g s key (some_if b step) None
-dropped_change true step g s key e = absurd (false≢true (sym e))
-dropped_change false step g s key e = tt
-
-pub heard_posts : (b : Bool) (step : SlotStep) (old new : List Post) → b ≡ true → new ≡ old ++ step.posts → new ≡ old ++ posts_of (some_if b step)
-heard_posts true step old new e p = p
-heard_posts false step old new e p = absurd (false≢true e)
-
-pub heard_change : (b : Bool) (step : SlotStep) (g : RegionId) (s : KeyState) (key : List ℕ) (change : SlotChange) → b ≡ true
-    → IsChangeOf g s key step change → IsMaybeChangeOf g s key (some_if b step) (Some change)
-heard_change true step g s key change e h = h
-heard_change false step g s key change e h = absurd (false≢true e)
+    pub acked_nowhere : hears_version x from by (pending_with v state) ≡ false → acked space s from key v by (Some r) ≡ unmoved s
+    acked_nowhere h = acked_is ∙ cond-false (hears_version x from by (pending_with v state)) _ (unmoved s) h
 
 -- whether an update is heard, by the number of its place
 pub heard_there : (config : Config) (g : RegionId) (s : ServerId) (from : Actor) (u a b : Update) (place : ℕ) (found answer : Bool) → a ≡ u → b ≡ u
@@ -190,16 +126,3 @@ pub ack_heard_there : (config : Config) (g : RegionId) (s : ServerId) (from : Ac
 ack_heard_there config g s from by u a b place found answer first second at is so =
     ap (λ (n : ℕ). hears_ack config u n s from by) (sym (at ∙ ap (λ (x : Update). place_number g x.places) first))
     ∙ ap (λ (x : Update). hears_ack config x place s from by) (sym second) ∙ sym is ∙ so
-
--- neither is noted
-quiet_if : (b : Bool) (step : SlotStep) → step.notes ≡ [] → notes_of (some_if b step) ≡ []
-quiet_if true step e = e
-quiet_if false step e = refl
-
-pub quiet_update : (context : SlotContext) (s : KeyState) (from : Actor) (u : Update) → notes_of (update_heard context s from u) ≡ []
-quiet_update context s from u =
-    quiet_if (hears_update context.config u (place_number context.region u.places) context.server from) (update_step context s u)
-    (cond_both (nat_le u.version.0 (top_of s)) _ _ (λ (step : SlotStep). step.notes ≡ []) (λ e. refl) (λ e. refl))
-
-pub quiet_ack : (context : SlotContext) (s : KeyState) (from : Actor) (v : ℕ) (by : RegionId) → notes_of (ack_heard context s from v by) ≡ []
-quiet_ack context s from v by = quiet_if (hears_version context from by (pending_with v s)) (ack_step context s v) refl

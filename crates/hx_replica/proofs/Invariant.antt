@@ -6,10 +6,10 @@ use Rattle.std.specs.Option.{option_map}
 use Rattle.std.proofs.lemmas.Bool.{false≢true}
 use Rattle.std.proofs.lemmas.List.{get_or-map, length-map, map-set}
 use Rattle.std.proofs.lemmas.Option.{same_Some, slice_get-get_or, slice_get_within}
-use Rattle.hx_model.specs.Types.{Actor, Message, RegionId, Space}
+use Rattle.hx_model.specs.Types.{RegionId, Space}
 use Rattle.hx_types.specs.Subspaces.{is_key_region}
 use Rattle.hx_types.specs.Words.{same_text, when_some}
-use Rattle.hx_model.specs.ServerSteps.{Replica as ReplicaState, ServerState, SlotStep, replica_of, context_of, state_in, with_replica, with_slot}
+use Rattle.hx_model.specs.ServerSteps.{Replica as ReplicaState, ServerState, replica_of, state_in, with_replica, with_slot}
 use Rattle.hx_model.specs.Slots.{KeyState, new_state, state_among}
 use Rattle.hx_store.specs.Stores.{IsPlace, Room, has_slot, StoreState, after_step, key_at, spare_at, state_at}
 use Rattle.hx_law_folds.specs.Folding.{folded_server}
@@ -19,8 +19,8 @@ use Rattle.hx_replica.specs.declared.prepared.Change.TheVariants as a_change
 use Rattle.hx_replica.specs.declared.replicas.Replica.{Replica}
 use Rattle.hx_replica.specs.declared.servers.Server.TheInside.{Inside}
 use Rattle.hx_replica.specs.Invariant.{IsServer, value_of}
-use Rattle.hx_replica.specs.Outputs.{ChangeFits, HasRoomFor, IsSlotInput, key_in, room_of, stepped, slot_step_of}
-use Rattle.hx_replica.specs.Plans.{AtReplica, CanStep, HasRoomAt, IsChange, IsChangeOn, IsJoinOn, step_at}
+use Rattle.hx_replica.specs.Outputs.{ChangeFits, HasRoomFor, room_of, stepped}
+use Rattle.hx_replica.specs.Plans.{HasRoomAt, IsChange, IsChangeOn, IsJoinOn}
 use Rattle.hx_replica.specs.Replicas.{AreReplicas, IsReplicaIn, rooms_of, view_of, views_of}
 use Rattle.hx_replica.specs.Servers.{ServerValue}
 use Rattle.hx_replica.proofs.Asking.{AreMarked}
@@ -78,18 +78,11 @@ ok_both (Ok x) P Q R f p q = f x p q
 ok_both (Err e) P Q R f p q = tt
 
 -- the replica at a number, as contracts see it
-view_there : (i : Inside) (v : ServerValue) (number : ℕ) (y : Replica) → value_of i ≡ v → number < length i.replicas.items → y ≡ get_or i.replicas.items number y → slice_get v.state.replicas number ≡ Some (view_of y)
+pub view_there : (i : Inside) (v : ServerValue) (number : ℕ) (y : Replica) → value_of i ≡ v → number < length i.replicas.items → y ≡ get_or i.replicas.items number y → slice_get v.state.replicas number ≡ Some (view_of y)
 view_there i v number y seen l is =
     ap (λ (x : ServerValue). slice_get x.state.replicas number) (sym seen)
     ∙ slice_get-get_or (views_of i.replicas.items) number (view_of y) (let n = length-map i.replicas.items view_of in omega (arith, n))
     ∙ ap (λ (z : ReplicaState). Some z) (get_or-map view_of i.replicas.items number y (view_of y) l ∙ ap view_of (sym is))
-
--- a slot of it that was asked
-pub asked : (i : Inside) (v : ServerValue) (number : ℕ) (key : List ℕ) (from : Actor) (m : Message) (y : Replica) (state : KeyState) → value_of i ≡ v → CanStep v.space v.state number key from m
-    → number < length i.replicas.items → y ≡ get_or i.replicas.items number y → state ≡ state_in i.space (view_of y) key → IsSlotInput i.space y.region state from m
-asked i v number key from m y state seen can l is same =
-    subst (λ (s : KeyState). IsSlotInput i.space y.region s from m) (sym same)
-    (subst (λ (x : Space). IsSlotInput x y.region (state_in x (view_of y) key) from m) (ap (λ (x : ServerValue). x.space) (sym seen)) (can.asked (view_of y) (view_there i v number y seen l is)))
 
 -- the slot of the key at a place
 pub slot_state : (i : Inside) (y : Replica) (key : List ℕ) (place : ℕ) (state : KeyState) → IsReplicaIn i.space y → key_at y.store place ≡ key → state ≡ state_at y.store (key_at y.store place) → state ≡ state_in i.space (view_of y) key
@@ -105,20 +98,6 @@ placed_at i v number key n place y seen l is room =
     ∙ slice_get-get_or (rooms_of i.replicas.items) number y.store.rooms (let m = length-map i.replicas.items f in omega (arith, m))
     ∙ ap (λ (z : List Room). Some z) (get_or-map f i.replicas.items number y y.store.rooms l ∙ ap f (sym is)) in
     is_room_for y.store key n place (subst (λ (o : Option (List Room)). IsSomeAnd o (HasRoomFor key n place)) at room)
-
--- what its slot made
-pub made_at : (IsMade : RegionId → KeyState → Option SlotStep → Type 0) (i : Inside) (v : ServerValue) (number : ℕ) (key : List ℕ) (from : Actor) (m : Message)
-    (y : Replica) (state : KeyState)
-    → value_of i ≡ v → number < length i.replicas.items
-    → y ≡ get_or i.replicas.items number y → state ≡ state_in i.space (view_of y) key → key ≡ key_in m
-    → IsMade y.region state (slot_step_of (record { space = i.space; config = i.config; server = i.id; region = y.region }) state from m)
-    → AtReplica v number (λ (r : ReplicaState). IsMade r.region (state_in v.space r (key_in m)) (step_at v r from m))
-made_at IsMade i v number key from m y state seen l at is k h r e =
-    let So : ServerValue → ReplicaState → KeyState → Type 0 = λ x z s. IsMade z.region s (slot_step_of (context_of x.space x.state z.region) s from m) in
-    let same : view_of y ≡ r = same_Some (view_of y) r (sym (view_there i v number y seen l at) ∙ e) in
-    subst (λ (x : ServerValue). So x r (state_in x.space r (key_in m))) seen
-    (subst (λ (z : ReplicaState). So (value_of i) z (state_in i.space z (key_in m))) same
-    (subst (So (value_of i) (view_of y)) (is ∙ ap (state_in i.space (view_of y)) k) h))
 
 -- room that was made
 pub room_there : (i : Inside) (number : ℕ) (key : List ℕ) (n place : ℕ) (y : Replica) (store : StoreState) (is : IsServer i) (l : number < length i.replicas.items) (at : y ≡ get_or i.replicas.items number y) → IsPlace store place key → n ≤ spare_at store place

@@ -10,6 +10,7 @@ pub mod Finding
 pub mod Starting
 pub mod Hearing
 pub mod Planning
+pub mod Taking
 pub mod Asking
 pub mod Changing
 pub mod Invariant

@@ -1,27 +1,28 @@
 -- What a step makes, and what the step on a delivery makes.
-use Rattle.std.proofs.Common.{◌≡◌, ◌≤◌, ℕ, Bool, true, false, not, cond, nat_lt, List, [], ◌++◌, append-nil, append_assoc, Option, None, Some, Result, Ok, Err, IfOk, IsSomeAnd, arith, refl, ap, sym, ◌∙◌, subst}
+use Rattle.std.proofs.Common.{◌≡◌, ◌≤◌, ℕ, Bool, true, false, not, cond, nat_le, nat_lt, List, [], ◌∷◌, ◌++◌, append-nil, append_assoc, Option, None, Some, Result, Ok, Err, IfOk, IsSomeAnd, arith, refl, ap, sym, ◌∙◌, subst}
 use Rattle.std.specs.Prelude.{OnOk}
 use Rattle.std.specs.List.{slice_get}
 use Rattle.std.specs.Option.{option_map}
 use Rattle.std.proofs.lemmas.Bool.{cond-false}
 use Rattle.std.proofs.lemmas.Result.{on_ok_weaker}
-use Rattle.hx_model.specs.Types.{Actor, Deliver, Epoch, Input, Message, Note, Post, PostId, RegionId, Server, ServerId, Space, Term}
+use Rattle.hx_model.specs.Types.{Actor, Config, Deliver, Epoch, Input, Kept, Message, Note, Op, Post, PostId, RegionId, Server, ServerId, Space, Term, Update, Version}
 use Rattle.hx_types.specs.declared.messages.Message.TheVariants as a_message
-use Rattle.hx_model.specs.Hearing.{hears_snap}
-use Rattle.hx_model.specs.ServerSteps.{Replica, ServerState, ServerStep, SlotStep, asked, at_slot, if_installed, input_step, message_step, replica_for, server_step, snapped, state_in, unmoved, with_slot}
-use Rattle.hx_model.specs.Slots.{KeyState, Move, moved_all}
+use Rattle.hx_types.specs.Words.{provided}
+use Rattle.hx_model.specs.Hearing.{hears_ack, hears_snap, hears_update}
+use Rattle.hx_model.specs.Neighbours.{place_number}
+use Rattle.hx_model.specs.ServerSteps.{Replica, ServerState, ServerStep, SlotStep, acked, acked_of, asked, at_slot, input_step, install_at, meeting, message_step, pending_with, poll_post, server_step, snapped, state_in, unmoved, updated, with_slot}
+use Rattle.hx_model.specs.Slots.{KeyState, Move, moved_all, top_of}
 use Rattle.hx_store.specs.Stores.{Room}
 use Rattle.hx_law_folds.specs.Folding.{folded, folded_server}
 use Rattle.hx_law_folds.proofs.Lemmas.{found-lean, state-lean, with-slot-lean}
 use Rattle.hx_replica.specs.declared.outputs.SlotChange.TheVariants.{Open, Accept, Acknowledge}
 use Rattle.hx_replica.specs.declared.outputs.SlotChange.{SlotChange}
 use Rattle.hx_replica.specs.declared.prepared.Change.{Change}
+use Rattle.hx_replica.specs.declared.prepared.Change.TheVariants.{Nothing, Slot}
 use Rattle.hx_replica.specs.declared.prepared.Plan.{Plan}
-use Rattle.hx_replica.specs.Hearing.{IsOfOneSlot, addressed, met_posts, own_step}
-use Rattle.hx_replica.specs.Outputs.{HasRoomFor, IsChangeOf, IsMaybeChangeOf, key_in, moves_by, notes_of, posts_of, room_of, room_wanted, stepped}
-use Rattle.hx_replica.specs.Plans.{AtReplica, CanHear, CanStep, HasRoomAt, IsChange, IsChangeAt, IsPlanOn, slot_change, step_at}
+use Rattle.hx_replica.specs.Outputs.{HasRoomFor, IsChangeOf, moves_by, room_of, stepped}
+use Rattle.hx_replica.specs.Plans.{CanHear, HasRoomAt, IsChange, IsPlanOn}
 use Rattle.hx_replica.specs.Servers.{CanTake, ServerValue}
-use Rattle.hx_replica.proofs.Hearing.{message_nowhere, message_there, met_first, own_notes, own_state, slot_notes, slot_or_nothing, slot_posts}
 
 -- a replica that was found by its place
 pub record IsFound (rs : List Replica) (place : ℕ) (o : Option Replica) : Type 0 where
@@ -71,96 +72,33 @@ less_room number key n k v place l = at (slice_get v.rooms number)
     at None h = absurd h
     at (Some rooms) h = less_in key n k place rooms l h
 
--- it goes to a slot of the replica with this number, which makes this
-module _ (v : ServerValue) (from : Actor) (m : Message) (number : ℕ) (hears : CanHear v.space v.state from m)
-    (at : IsFound v.state.replicas number (addressed v.space v.state m)) where
-  abbrev r : Replica
-  r = at.replica
+-- an update needs room for one more, at most
+pub room_small : (change : SlotChange) → room_of change ≤ 1
+room_small Open = omega arith
+room_small (Accept u place tail_versions) = omega arith
+room_small (Acknowledge v) = omega arith
 
-  abbrev s : KeyState
-  s = state_in v.space r (key_in m)
-
-  step_is : own_step v.space v.state from m ≡ slot_or_nothing v.state r s (step_at v r from m)
-  step_is = message_there v.space v.state from (Server v.state.id) m r hears.can.input_to.sound.between at.is
-
-  moved_posts : (old new : List Post) → AtReplica v number (λ (x : Replica). new ≡ old ++ posts_of (step_at v x from m))
-      → new ≡ old ++ (own_step v.space v.state from m).posts
-  moved_posts old new is = is r at.at_place ∙ ap (λ (ps : List Post). old ++ ps) (slot_posts v.state r s (step_at v r from m) ∙ ap (λ (t : ServerStep). t.posts) (sym step_is))
-
-  moved_notes : (old new : List Note) → AtReplica v number (λ (x : Replica). new ≡ old ++ notes_of (step_at v x from m))
-      → new ≡ old ++ (own_step v.space v.state from m).notes
-  moved_notes old new is = is r at.at_place ∙ ap (λ (ns : List Note). old ++ ns) (slot_notes v.state r s (step_at v r from m) ∙ ap (λ (t : ServerStep). t.notes) (sym step_is))
-
-  -- the slot's step, if there is one
-  slot_moved : (n place : ℕ) (key : List ℕ) (change : Option SlotChange) → folded_server v.state ≡ v.state → (o : Option SlotStep)
-      → own_step v.space v.state from m ≡ slot_or_nothing v.state r s o → IsMaybeChangeOf r.region s (key_in m) o change
-      → room_wanted change ≤ n → HasRoomAt number key n v place → key ≡ key_in m
-      → IsChange v (own_step v.space v.state from m).state (slot_change number place change)
-  slot_moved n place key None bare None is so few room k = ap (λ (t : ServerStep). folded_server t.state) is ∙ bare
-  slot_moved n place key (Some change) bare None is so few room k = absurd so
-  slot_moved n place key None bare (Some step) is so few room k = absurd so
-  slot_moved n place key (Some change) bare (Some step) is so few room k =
+-- the slot of a key at the replica with this number, which stands so and makes this
+module _ (v : ServerValue) (number : ℕ) (r : Replica) (there : slice_get v.state.replicas number ≡ Some r) (key : List ℕ) (n place : ℕ) (g : RegionId) (s : KeyState) (made : SlotStep)
+    (change : SlotChange) (step : ServerStep) (bare : folded_server v.state ≡ v.state) (region : g ≡ r.region) (same : s ≡ state_in v.space r key) (so : IsChangeOf g s key made change)
+    (room : HasRoomAt number key n v place) (is : step ≡ at_slot v.state r s made) where
+  pub changed_so : room_of change ≤ n → IsChange v step.state (Slot number place change)
+  changed_so few =
+      let here = found-lean v.state number r bare there in
+      let fits : IsChangeOf r.region (state_in v.space r key) key made change =
+      subst (λ (h : RegionId). IsChangeOf h (state_in v.space r key) key made change) region (subst (λ (t : KeyState). IsChangeOf g t key made change) same so) in
       record {
-        key = key_in m;
+        key = key;
         replica = r;
-        found = at.at_place;
-        room = less_room number (key_in m) n (room_of change) v place few (subst (λ (x : List ℕ). HasRoomAt number x n v place) k room);
-        fits = so.fits;
-        state = ap (λ (t : ServerStep). folded_server t.state) is
-            ∙ ap (λ (moves : List Move). folded_server (with_slot v.state r (moved_all moves s))) (sym so.moves)
-            ∙ (let here = found-lean v.state number r bare at.at_place in with-slot-lean v.state r (moved_all (moves_by r.region s change) s)
-            (stepped change r.region s) bare here (stepped_lean change r.region s (state-lean v.space r (key_in m) here)));
+        found = there;
+        room = less_room number key n (room_of change) v place few room;
+        fits = fits.fits;
+        state = ap (λ (t : ServerStep). folded_server t.state) (is ∙ ap (λ (t : KeyState). at_slot v.state r t made) same)
+            ∙ ap (λ (moves : List Move). folded_server (with_slot v.state r (moved_all moves (state_in v.space r key)))) (sym fits.moves)
+            ∙ with-slot-lean v.state r (moved_all (moves_by r.region (state_in v.space r key) change) (state_in v.space r key))
+            (stepped change r.region (state_in v.space r key)) bare here
+            (stepped_lean change r.region (state_in v.space r key) (state-lean v.space r key here));
       }
-
-  moved_change : (n place : ℕ) (key : List ℕ) (change : Option SlotChange) → folded_server v.state ≡ v.state → IsChangeAt v number from m change
-      → room_wanted change ≤ n → HasRoomAt number key n v place → key ≡ key_in m
-      → IsChange v (own_step v.space v.state from m).state (slot_change number place change)
-  moved_change n place key change bare is = slot_moved n place key change bare (step_at v r from m) step_is (is r at.at_place)
-
--- it goes to no slot
-pub nothing_there : (v : ServerValue) (from : Actor) (m : Message) → IsOfOneSlot m → None ≡ option_map (λ (r : Replica). Some r) (addressed v.space v.state m)
-    → own_step v.space v.state from m ≡ unmoved v.state
-nothing_there v from m one none = message_nowhere v.space v.state from m one (found_nowhere (addressed v.space v.state m) none)
-
--- room was made since the message came
-module _ (old new : ServerValue) (from : Actor) (m : Message) (space : new.space ≡ old.space) (state : new.state ≡ old.state) where
-  goes_still : addressed old.space old.state m ≡ addressed new.space new.state m
-  goes_still = ap (λ (x : Space). addressed x old.state m) (sym space) ∙ ap (λ (x : ServerState). addressed new.space x m) (sym state)
-
-  -- the replica to which it goes
-  module _ (number : ℕ) (hears : CanHear old.space old.state from m)
-      (at : Some (slice_get old.state.replicas number) ≡ option_map (λ (r : Replica). Some r) (addressed old.space old.state m)) where
-    hears_still : CanHear new.space new.state from m
-    hears_still = subst (λ (x : ServerState). CanHear new.space x from m) (sym state) (subst (λ (x : Space). CanHear x old.state from m) (sym space) hears)
-
-    found_still : IsFound new.state.replicas number (addressed new.space new.state m)
-    found_still =
-        found_there new.state.replicas number (addressed new.space new.state m)
-        (ap (λ (x : ServerState). Some (slice_get x.replicas number)) state ∙ at ∙ ap (option_map (λ (r : Replica). Some r)) goes_still)
-
-    step_still : own_step new.space new.state from m ≡ own_step old.space old.state from m
-    step_still = ap (λ (x : Space). own_step x new.state from m) space ∙ ap (λ (x : ServerState). own_step old.space x from m) state
-
-    pub posts_moved : (before after : List Post) → AtReplica new number (λ (r : Replica). after ≡ before ++ posts_of (step_at new r from m))
-        → after ≡ before ++ (own_step old.space old.state from m).posts
-    posts_moved before after is = moved_posts new from m number hears_still found_still before after is ∙ ap (λ (t : ServerStep). before ++ t.posts) step_still
-
-    pub notes_moved : (before after : List Note) → AtReplica new number (λ (r : Replica). after ≡ before ++ notes_of (step_at new r from m))
-        → after ≡ before ++ (own_step old.space old.state from m).notes
-    notes_moved before after is = moved_notes new from m number hears_still found_still before after is ∙ ap (λ (t : ServerStep). before ++ t.notes) step_still
-
-    pub change_moved : (n place : ℕ) (key : List ℕ) (change : Option SlotChange) → folded_server old.state ≡ old.state → IsChangeAt new number from m change
-        → room_wanted change ≤ n → HasRoomAt number key n new place → key ≡ key_in m
-        → IsChange new (own_step old.space old.state from m).state (slot_change number place change)
-    change_moved n place key change bare is few room k =
-        subst (λ (t : ServerStep). IsChange new t.state (slot_change number place change)) step_still
-        (moved_change new from m number hears_still found_still n place key change (subst (λ (x : ServerState). folded_server x ≡ x) (sym state) bare) is few
-        room k)
-
-  -- what can be asked before can be asked now
-  pub can_step_still : (number : ℕ) (key : List ℕ) → CanStep old.space old.state number key from m → CanStep new.space new.state number key from m
-  can_step_still number key h =
-      subst (λ (x : ServerState). CanStep new.space x number key from m) (sym state) (subst (λ (x : Space). CanStep x old.state number key from m) (sym space) h)
 
 -- the plan of an input, and what its step makes
 pub made_planned : (v : ServerValue) (input : Input) (server : ServerId) (posts : List Post) (notes : List Note) (change : Change) (plan : Plan)
@@ -183,26 +121,6 @@ pub asked_state : (s : ServerState) (from : Actor) (epoch : Epoch) (number : ℕ
 asked_state s from epoch number terms None = refl
 asked_state s from epoch number terms (Some r) = refl
 
--- a message that goes to no slot is not noted
-quiet : (t : Bool) (a b : ServerStep) → a.notes ≡ [] → b.notes ≡ [] → (cond t a b).notes ≡ []
-quiet true a b p q = p
-quiet false a b p q = q
-
-other_notes : (space : Space) (s : ServerState) (from : Actor) (m : Message) → (IsOfOneSlot m → ⊥) → (own_step space s from m).notes ≡ []
-other_notes space s from (a_message.Ask epoch number g terms) h = by (if_installed (replica_for s g))
-  where
-    by : (o : Option Replica) → (asked s from epoch number terms o).notes ≡ []
-    by None = refl
-    by (Some r) = refl
-other_notes space s from (a_message.Install config) h = quiet (nat_lt s.config.epoch.0 config.epoch.0) _ (unmoved s) refl refl
-other_notes space s from a_message.Die h = refl
-other_notes space s from (a_message.Snap epoch g snapshot pending) h = by (replica_for s g)
-  where
-    by : (o : Option Replica) → (snapped space s from snapshot pending o).notes ≡ []
-    by None = refl
-    by (Some r) = quiet (not (hears_snap s.config r.region s.id from)) (unmoved s) _ refl (quiet r.installed _ _ refl refl)
-other_notes space s from other h = absurd (h tt)
-
 pub always : {T E Q : Type 0} (r : Result T E) → Q → OnOk r Q
 always (Ok x) q = q
 always (Err e) q = tt
@@ -211,41 +129,97 @@ always (Err e) q = tt
 pub nothing_more : {A : Type 0} (xs more : List A) → more ≡ [] → xs ≡ xs ++ more
 nothing_more xs more e = sym (append-nil xs) ∙ ap (λ (ys : List _). xs ++ ys) (sym e)
 
--- what a step posts, notes and changes on a message, by what the message is
-module _ (space : Space) (s : ServerState) (from : Actor) (m n : Message) where
-  pub message_notes : m ≡ n → (IsOfOneSlot n → ⊥) → (own_step space s from m).notes ≡ []
-  message_notes is other = ap (λ (x : Message). (own_step space s from x).notes) is ∙ other_notes space s from n other
+-- what a message makes, by what the message is
+module _ (v : ServerValue) (from : Actor) (m n : Message) (is : m ≡ n) where
+  step_of : message_step v.space v.state from n ≡ message_step v.space v.state from m
+  step_of = ap (message_step v.space v.state from) (sym is)
 
-  pub posts_on : {T E : Type 0} (r : Result T E) → m ≡ n → (old new : List Post) → OnOk r (new ≡ old ++ (own_step space s from n).posts)
-      → OnOk r (new ≡ old ++ (own_step space s from m).posts)
-  posts_on r is old new = subst (λ (x : Message). OnOk r (new ≡ old ++ (own_step space s from x).posts)) (sym is)
+  module _ {T E : Type 0} (r : Result T E) where
+    pub posts_made : (old new : List Post) → OnOk r (new ≡ old ++ (message_step v.space v.state from n).posts) → OnOk r (new ≡ old ++ (message_step v.space v.state from m).posts)
+    posts_made old new = subst (λ (t : ServerStep). OnOk r (new ≡ old ++ t.posts)) step_of
 
-  pub notes_on : {T E : Type 0} (r : Result T E) → m ≡ n → (notes : List Note) → (IsOfOneSlot n → ⊥)
-      → OnOk r (notes ≡ notes ++ (own_step space s from m).notes)
-  notes_on r is notes other = always r (nothing_more notes _ (message_notes is other))
+    pub notes_made : (old new : List Note) → OnOk r (new ≡ old ++ (message_step v.space v.state from n).notes) → OnOk r (new ≡ old ++ (message_step v.space v.state from m).notes)
+    notes_made old new = subst (λ (t : ServerStep). OnOk r (new ≡ old ++ t.notes)) step_of
 
-pub change_on : {E : Type 0} (v : ServerValue) (from : Actor) (m n : Message) (r : Result Change E) → m ≡ n
-    → IfOk r (IsChange v (own_step v.space v.state from n).state) → IfOk r (IsChange v (own_step v.space v.state from m).state)
-change_on v from m n r is = subst (λ (x : Message). IfOk r (IsChange v (own_step v.space v.state from x).state)) (sym is)
+    pub quiet_made : (notes : List Note) → (message_step v.space v.state from n).notes ≡ [] → OnOk r (notes ≡ notes ++ (message_step v.space v.state from m).notes)
+    quiet_made notes none = notes_made notes notes (always r (nothing_more notes _ none))
 
--- the newest configuration is asked for first, where it is
-module _ (v : ServerValue) (from : Actor) (m : Message) {T E : Type 0} (r : Result T E) where
-  pub posts_met : (old met new : List Post) → met ≡ old ++ met_posts v.state m → OnOk r (new ≡ met ++ (own_step v.space v.state from m).posts)
-      → OnOk r (new ≡ old ++ (message_step v.space v.state from m).posts)
-  posts_met old met new first =
-      on_ok_weaker r
-      (
-      λ e. e ∙ ap (λ (ps : List Post). ps ++ (own_step v.space v.state from m).posts) first
-      ∙ append_assoc old (met_posts v.state m) (own_step v.space v.state from m).posts
-      ∙ ap (λ (ps : List Post). old ++ ps) (sym (met_first v.space v.state from m))
-      )
+    -- the newest configuration is asked for first, where the epoch is higher
+    pub posts_met : (epoch : Epoch) (step : ServerStep) (old met new : List Post) → message_step v.space v.state from n ≡ meeting v.state epoch step
+        → met ≡ old ++ provided (nat_lt v.state.config.epoch.0 epoch.0) (poll_post v.state ∷ []) → OnOk r (new ≡ met ++ step.posts)
+        → OnOk r (new ≡ old ++ (message_step v.space v.state from m).posts)
+    posts_met epoch step old met new meets first last =
+        posts_made old new
+        (
+        on_ok_weaker r
+        (
+        λ e. e ∙ ap (λ (ps : List Post). ps ++ step.posts) first
+        ∙ append_assoc old (provided (nat_lt v.state.config.epoch.0 epoch.0) (poll_post v.state ∷ [])) step.posts
+        ∙ ap (λ (t : ServerStep). old ++ t.posts) (sym meets)
+        )
+        last
+        )
 
-  pub notes_met : (old new : List Note) → OnOk r (new ≡ old ++ (own_step v.space v.state from m).notes) → OnOk r (new ≡ old ++ (message_step v.space v.state from m).notes)
-  notes_met old new = subst (λ (ns : List Note). OnOk r (new ≡ old ++ ns)) (sym (own_notes v.space v.state from m))
+  pub change_made : {E : Type 0} (after : ServerValue) (r : Result Change E) → IfOk r (IsChange after (message_step v.space v.state from n).state)
+      → IfOk r (IsChange after (message_step v.space v.state from m).state)
+  change_made after r = subst (λ (t : ServerStep). IfOk r (IsChange after t.state)) step_of
 
-pub change_met : {E : Type 0} (v after : ServerValue) (from : Actor) (m : Message) (r : Result Change E)
-    → IfOk r (IsChange after (own_step v.space v.state from m).state) → IfOk r (IsChange after (message_step v.space v.state from m).state)
-change_met v after from m r = subst (λ (s : ServerState). IfOk r (IsChange after s)) (sym (own_state v.space v.state from m))
+-- no other message moves anything
+pub unmoved_by : (space : Space) (s : ServerState) (from : Actor) (m : Message)
+    → ((epoch : Epoch) (number : ℕ) (op : Op) → m ≡ a_message.Call epoch number op → ⊥)
+    → ((epoch : Epoch) (g : RegionId) (u : Update) → m ≡ a_message.Update epoch g u → ⊥)
+    → ((epoch : Epoch) (g by : RegionId) (key : List ℕ) (version : Version) → m ≡ a_message.Ack epoch g by key version → ⊥)
+    → ((epoch : Epoch) (number : ℕ) (g : RegionId) (terms : List Term) → m ≡ a_message.Ask epoch number g terms → ⊥)
+    → ((config : Config) → m ≡ a_message.Install config → ⊥)
+    → (m ≡ a_message.Die → ⊥)
+    → ((epoch : Epoch) (g : RegionId) (snapshot : List Kept) (pending : List Update) → m ≡ a_message.Snap epoch g snapshot pending → ⊥)
+    → message_step space s from m ≡ unmoved s
+unmoved_by space s from (a_message.Call epoch number op) call update ack ask install die snap = absurd (call epoch number op refl)
+unmoved_by space s from (a_message.Update epoch g u) call update ack ask install die snap = absurd (update epoch g u refl)
+unmoved_by space s from (a_message.Ack epoch g by key version) call update ack ask install die snap = absurd (ack epoch g by key version refl)
+unmoved_by space s from (a_message.Ask epoch number g terms) call update ack ask install die snap = absurd (ask epoch number g terms refl)
+unmoved_by space s from (a_message.Install config) call update ack ask install die snap = absurd (install config refl)
+unmoved_by space s from a_message.Die call update ack ask install die snap = absurd (die refl)
+unmoved_by space s from (a_message.Snap epoch g snapshot pending) call update ack ask install die snap = absurd (snap epoch g snapshot pending refl)
+unmoved_by space s from other call update ack ask install die snap = refl
+
+-- only of a call is something noted
+quiet : (t : Bool) (a b : ServerStep) → a.notes ≡ [] → b.notes ≡ [] → (cond t a b).notes ≡ []
+quiet true a b p q = p
+quiet false a b p q = q
+
+quiet_slot : (t : Bool) (a b : SlotStep) → a.notes ≡ [] → b.notes ≡ [] → (cond t a b).notes ≡ []
+quiet_slot true a b p q = p
+quiet_slot false a b p q = q
+
+pub updated_quiet : (space : Space) (s : ServerState) (from : Actor) (u : Update) (o : Option Replica) → (updated space s from u o).notes ≡ []
+updated_quiet space s from u None = refl
+updated_quiet space s from u (Some r) =
+    quiet (hears_update s.config u (place_number r.region u.places) s.id from) _ (unmoved s) (quiet_slot (nat_le u.version.0 (top_of (state_in space r u.key))) _ _ refl refl) refl
+
+pub acked_quiet : (space : Space) (s : ServerState) (from : Actor) (key : List ℕ) (v : ℕ) (by : RegionId) (o : Option Replica) → (acked space s from key v by o).notes ≡ []
+acked_quiet space s from key v by None = refl
+acked_quiet space s from key v by (Some r) = at (pending_with v (state_in space r key))
+  where
+    at : (o : Option Update) → (acked_of space s from by r (state_in space r key) v o).notes ≡ []
+    at None = refl
+    at (Some u) = quiet (hears_ack s.config u (place_number r.region u.places) s.id from by) _ (unmoved s) refl refl
+
+pub asked_quiet : (s : ServerState) (from : Actor) (epoch : Epoch) (number : ℕ) (terms : List Term) (o : Option Replica) → (asked s from epoch number terms o).notes ≡ []
+asked_quiet s from epoch number terms None = refl
+asked_quiet s from epoch number terms (Some r) = refl
+
+pub snapped_quiet : (space : Space) (s : ServerState) (from : Actor) (snapshot : List Kept) (pending : List Update) (o : Option Replica) → (snapped space s from snapshot pending o).notes ≡ []
+snapped_quiet space s from snapshot pending None = refl
+snapped_quiet space s from snapshot pending (Some r) =
+    quiet (not (hears_snap s.config r.region s.id from)) (unmoved s) _ refl (quiet r.installed _ _ refl refl)
+
+pub install_quiet : (space : Space) (s : ServerState) (config : Config) → (install_at space s config).notes ≡ []
+install_quiet space s config = quiet (nat_lt s.config.epoch.0 config.epoch.0) _ (unmoved s) refl refl
+
+-- what changes nothing of a server that has no past
+pub unchanged : (v : ServerValue) (step : ServerStep) → folded_server v.state ≡ v.state → step ≡ unmoved v.state → IsChange v step.state Nothing
+unchanged v step bare e = stays v step bare (ap (λ (t : ServerStep). t.state) e)
 
 -- a post of a message that can be taken
 pub can_hear : (space : Space) (s : ServerState) (input : Input) (id : PostId) (from : Actor) (m : Message) → CanTake space s input

@@ -1,13 +1,13 @@
 -- A step of a server that is ready to be made.
-use Rattle.std.specs.Prelude.{◌≡◌, ℕ, zero, suc, ◌<◌, ⊤, true, List, [], ◌∷◌, IsSomeAnd, Option, None, Some, length, map, slice_get}
+use Rattle.std.specs.Prelude.{◌≡◌, ℕ, zero, suc, ⊤, true, List, [], ◌∷◌, IsSomeAnd, Some, map, slice_get}
 use Rattle.hx_model.specs.Types.{Actor, Config, Deliver, Message, PostId, Space}
-use Rattle.hx_model.specs.ServerSteps.{Replica as ReplicaState, ServerState, SlotStep, listed_regions, server_step, context_of, state_in, with_replica, with_slot}
+use Rattle.hx_model.specs.ServerSteps.{Replica as ReplicaState, ServerState, listed_regions, server_step, state_in, with_replica, with_slot}
 use Rattle.hx_law_folds.specs.Folding.{folded_server}
 use Rattle.hx_replica.specs.declared.outputs.SlotChange.{SlotChange}
 use Rattle.hx_replica.specs.declared.prepared.Change.{Change}
 use Rattle.hx_replica.specs.declared.prepared.Change.TheVariants.{Nothing, Halt, Adopt, Join, Slot}
 use Rattle.hx_replica.specs.declared.prepared.Plan.{Plan}
-use Rattle.hx_replica.specs.Outputs.{ChangeFits, HasRoomFor, IsMaybeChangeOf, IsSlotInput, key_in, room_of, slot_step_of, stepped}
+use Rattle.hx_replica.specs.Outputs.{ChangeFits, HasRoomFor, room_of, stepped}
 use Rattle.hx_replica.specs.declared.replicas.Replica.{Replica}
 use Rattle.hx_replica.specs.Adopting.{lean_with_config}
 use Rattle.hx_store.specs.Stores.{KeepsRooms, Room, UsesRoom}
@@ -23,29 +23,9 @@ pub record CanHear (space : Space) (s : ServerState) (from : Actor) (m : Message
   pub id : PostId
   pub can : CanTake space s (Deliver id from m)
 
--- the replica at the place hears the message, and its slot can be asked
-pub record CanStep (space : Space) (s : ServerState) (place : ℕ) (key : List ℕ) (from : Actor) (m : Message) : Type 0 where
-  pub key_is : key ≡ key_in m
-  pub asked : (r : ReplicaState) → slice_get s.replicas place ≡ Some r → IsSlotInput space r.region (state_in space r key) from m
-  pub within : place < length s.replicas
-
--- the step of the slot to which a message goes, at a replica; none where the replica doesn't hear it
-abbrev pub step_at : ServerValue → ReplicaState → Actor → Message → Option SlotStep
-step_at s r from m = slot_step_of (context_of s.space s.state r.region) (state_in s.space r (key_in m)) from m
-
 -- what is so of the replica at the place
 abbrev pub AtReplica : ServerValue → ℕ → (ReplicaState → Type 0) → Type 0
 AtReplica s place IsSo = (r : ReplicaState) → slice_get s.state.replicas place ≡ Some r → IsSo r
-
--- the change is that of the slot's step at the replica of the place
-abbrev pub IsChangeAt : ServerValue → ℕ → Actor → Message → Option SlotChange → Type 0
-IsChangeAt s place from m change =
-    AtReplica s place (λ (r : ReplicaState). IsMaybeChangeOf r.region (state_in s.space r (key_in m)) (key_in m) (step_at s r from m) change)
-
--- the slot at the place of the replica with this number changes so, or nothing does
-abbrev pub slot_change : ℕ → ℕ → Option SlotChange → Change
-slot_change number place None = Nothing
-slot_change number place (Some change) = Slot number place change
 
 -- the slot at the place of the replica with this number can make the change, and the server is then as after the step, without its past
 pub record IsChangeOn (s : ServerValue) (after : ServerState) (number place : ℕ) (change : SlotChange) : Type 0 where

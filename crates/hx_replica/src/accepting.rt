@@ -15,7 +15,7 @@ use std::alloc::Global;
 
 /// A slot is offered an update above its top, with this place in the region of the context: the
 /// update and each early one whose turn then comes go to the next replica or end here, and what can
-/// be committed is told of. The versions whose chain ends here are the result.
+/// be committed is told of. The versions whose chain ends here go into the list, which is empty before.
 #[inline(always)]
 pub fn accepted(
     alloc: Global,
@@ -24,15 +24,17 @@ pub fn accepted(
     update: &Shared<Update>,
     place: u32,
     posts: &mut Posts,
-) -> Result<Vec<Version>, Memory>
+    tail_versions: &mut Vec<Version>,
+) -> Result<(), Memory>
     requires coming { IsComing context.now.region slot.now.state update.now }
     requires place { place ≡ place_number context.now.region update.now.places }
     requires region { slot.now.region ≡ context.now.region }
+    requires none { tail_versions.old.items ≡ [] }
     ensures posts { OnOk result (posts.new ≡ posts.old ++ accepting_posts (context_seen context.now) slot.now.state update.now) }
-    ensures ends { IfOk result (λ ends. AreEnds (context_seen context.now) slot.now.state update.now ends.items) }
+    ensures ends { OnOk result (AreEnds (context_seen context.now) slot.now.state update.now tail_versions.new.items) }
 {
     if slot.early_count() == 0 && slot.pending_count() == 0 {
-        return accepted_alone(alloc, context, slot, update, place, posts);
+        return accepted_alone(alloc, context, slot, update, place, posts, tail_versions);
     }
     let taken = taken_by(alloc, context, slot, update, place)?;
     let line = line_of(alloc, slot, taken.as_slice())?;
@@ -44,6 +46,7 @@ pub fn accepted(
         taken.as_slice(),
         line.as_slice(),
         posts,
+        tail_versions,
     )
 }
 
@@ -56,28 +59,29 @@ fn accepted_alone(
     update: &Shared<Update>,
     place: u32,
     posts: &mut Posts,
-) -> Result<Vec<Version>, Memory>
+    tail_versions: &mut Vec<Version>,
+) -> Result<(), Memory>
     requires coming { IsComing context.now.region slot.now.state update.now }
     requires place { place ≡ place_number context.now.region update.now.places }
     requires region { slot.now.region ≡ context.now.region }
     requires early { slot.now.state.early ≡ [] }
     requires pending { pending_of slot.now.state ≡ [] }
+    requires none { tail_versions.old.items ≡ [] }
     ensures posts { OnOk result (posts.new ≡ posts.old ++ accepting_posts (context_seen context.now) slot.now.state update.now) }
-    ensures ends { IfOk result (λ ends. AreEnds (context_seen context.now) slot.now.state update.now ends.items) }
+    ensures ends { OnOk result (AreEnds (context_seen context.now) slot.now.state update.now tail_versions.new.items) }
 {
-    let mut tail_versions = Vec::new(alloc);
     if !is_in_turn(context, slot, update, place) {
-        return Ok(tail_versions);
+        return Ok(());
     }
-    post_update_at(alloc, context, update, place, posts, &mut tail_versions)?;
+    post_update_at(alloc, context, update, place, posts, tail_versions)?;
     if is_settled(slot, tail_versions.as_slice(), update.version) {
         post_commit_at(alloc, context, update, place, posts)?;
     }
-    Ok(tail_versions)
+    Ok(())
 }
 
-/// What is posted where a slot takes these updates, behind which stands its line, and the versions
-/// whose chain ends here.
+/// What is posted where a slot takes these updates, behind which stands its line; the versions whose
+/// chain ends here go into the list.
 fn take_all(
     alloc: Global,
     context: &SlotContext,
@@ -86,22 +90,22 @@ fn take_all(
     updates: &[&Shared<Update>],
     line: &[&Shared<Update>],
     posts: &mut Posts,
-) -> Result<Vec<Version>, Memory>
+    tail_versions: &mut Vec<Version>,
+) -> Result<(), Memory>
     requires coming { IsComing context.now.region slot.now.state update.now }
     requires region { slot.now.region ≡ context.now.region }
     requires taken { seen updates.now ≡ taken (offered context.now.region slot.now.state update.now) }
     requires new { All (IsNew context.now.region slot.now.state.floor) updates.now }
     requires line { seen line.now ≡ pending_of slot.now.state ++ seen updates.now }
     requires here { All (IsHere context.now.region) line.now }
+    requires none { tail_versions.old.items ≡ [] }
     ensures posts { OnOk result (posts.new ≡ posts.old ++ accepting_posts (context_seen context.now) slot.now.state update.now) }
-    ensures ends { IfOk result (λ ends. AreEnds (context_seen context.now) slot.now.state update.now ends.items) }
+    ensures ends { OnOk result (AreEnds (context_seen context.now) slot.now.state update.now tail_versions.new.items) }
 {
     // The contract alone speaks of the update that is offered.
     let _ = update;
-    let mut tail_versions = Vec::new(alloc);
-    post_updates(alloc, context, updates, posts, &mut tail_versions)?;
-    post_commits(alloc, context, slot, line, tail_versions.as_slice(), posts)?;
-    Ok(tail_versions)
+    post_updates(alloc, context, updates, posts, tail_versions)?;
+    post_commits(alloc, context, slot, line, tail_versions.as_slice(), posts)
 }
 
 /// The updates that the slot takes with this one, in order; none where its turn hasn't come.

@@ -108,6 +108,7 @@ fn post_slots(
     for i in 0..store.len() {
         match store.nth(i) {
             Some(slot) => post_resumed(alloc, context, slot, posts)?,
+            // The store has a slot at each number below its length.
             None => unreachable!(),
         }
     }

@@ -35,6 +35,7 @@ pub fn place_at(context: &SlotContext, update: &Update) -> u32
 {
     match place_number(update, context.region) {
         Some(place) => place,
+        // The update has a place in the region.
         None => unreachable!(),
     }
 }

@@ -46,6 +46,7 @@ fn doubt_from(
     for i in committed..slot.pending_count() {
         match slot.pending(i) {
             Some(update) => doubt_one(context, update, first, region, posts)?,
+            // The number is below how many are pending.
             None => unreachable!(),
         }
     }

@@ -1,9 +1,7 @@
 ghost use Rattle.std.specs.Prelude.{◌≡◌, ◌++◌, [], ◌∷◌, IfOk, OnOk};
-ghost use Rattle.hx_replica.specs.Hearing.{epoch_in};
-ghost use Rattle.hx_replica.specs.Outputs.{room_by};
 ghost use Rattle.hx_replica.specs.declared.outputs.SlotChange.TheVariants.{Open};
 
-use hx_types::{Epoch, Memory, Message, Post, Posts, Shared, Update, Version};
+use hx_types::{Memory, Post, Posts, Shared, Update, Version};
 
 /// How a slot makes its part of a step.
 #[derive(Drop)]
@@ -20,32 +18,6 @@ pub enum SlotChange {
     Acknowledge {
         version: Version,
     },
-}
-
-/// The epoch of which a message to a replica tells its server.
-#[inline]
-pub fn epoch_in(message: &Message) -> Option<Epoch>
-    ensures { result ≡ epoch_in message.now }
-{
-    match message {
-        Message::Call { epoch, .. } => Some(*epoch),
-        Message::Update { epoch, .. } => Some(*epoch),
-        Message::Ack { epoch, .. } => Some(*epoch),
-        Message::Ask { epoch, .. } => Some(*epoch),
-        Message::Snap { epoch, .. } => Some(*epoch),
-        _ => None,
-    }
-}
-
-/// For how many updates a slot needs room where a message comes: an acknowledgement brings none.
-#[inline]
-pub fn room_by(message: &Message) -> u32
-    ensures { result ≡ room_by message.now }
-{
-    match message {
-        Message::Ack { .. } => 0,
-        _ => 1,
-    }
 }
 
 /// The slot stays, and this is its only post.

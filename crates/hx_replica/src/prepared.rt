@@ -2,7 +2,6 @@ ghost use Rattle.std.specs.Prelude.{◌≡◌, ◌++◌, [], ◌∷◌, OnOk};
 ghost use Rattle.hx_types.specs.declared.ids.Actor.TheVariants as an_actor;
 ghost use Rattle.hx_types.specs.Words.{post};
 ghost use Rattle.hx_model.specs.ServerSteps.{poll_post};
-ghost use Rattle.hx_replica.specs.Plans.{slot_change};
 ghost use Rattle.hx_replica.specs.Ticking.{standing};
 
 use crate::outputs::SlotChange;
@@ -48,22 +47,6 @@ impl Plan {
         ensures { result.now ≡ self.now.entry }
     {
         &self.entry
-    }
-}
-
-/// What a server changes of which the slot at a place of a replica makes its part; nothing where the
-/// slot has none.
-#[inline]
-pub fn slot_change(replica: usize, place: usize, change: Option<SlotChange>) -> Change
-    ensures { result ≡ slot_change replica place change }
-{
-    match change {
-        Some(change) => Change::Slot {
-            replica,
-            place,
-            change,
-        },
-        None => Change::Nothing,
     }
 }
 

@@ -1,46 +1,47 @@
-ghost use Rattle.std.specs.Prelude.{◌≡◌, ◌<◌, ◌≤◌, IfOk, IfNone, IfSome, IsSomeAnd, OnOk, Some, None, false, is_some, length, map, slice_get, ℕ, ◌+◌, ◌++◌};
+ghost use Rattle.std.specs.Prelude.{◌≡◌, ℕ, ◌<◌, ◌≤◌, List, IfOk, IfNone, IfSome, IsSomeAnd, OnOk, Some, false, is_some, length, map, nat_lt, slice_get, ◌+◌, ◌++◌, [], ◌∷◌};
 ghost use Rattle.std.specs.List.{All};
 ghost use Rattle.std.specs.Option.{option_map};
-ghost use Rattle.hx_model.specs.Types.{Deliver, Input as Taken, PostId};
+ghost use Rattle.hx_model.specs.Types.{Deliver, Input as Taken, Place, PostId};
 ghost use Rattle.hx_types.specs.Configs.{first_config};
-ghost use Rattle.hx_types.specs.Effects.{key_of};
 ghost use Rattle.hx_types.specs.Posted.{NameOnly};
 ghost use Rattle.hx_types.specs.Posts.{IsSoundPost};
 ghost use Rattle.hx_types.specs.Spaces.{IsConfigOf, IsServerOf, IsSpace};
 ghost use Rattle.hx_types.specs.Subspaces.{is_key_region};
-ghost use Rattle.hx_types.specs.Words.{when_some};
+ghost use Rattle.hx_types.specs.Words.{provided, when_some};
 ghost use Rattle.hx_law_folds.specs.Folding.{folded_server};
-ghost use Rattle.hx_model.specs.ServerSteps.{Replica as ReplicaState, ServerState, asked, halting, if_installed, install_at, listed_regions, message_step, replica_for, replica_of, server_at_start, server_step, snapped, state_in, tick_step};
+ghost use Rattle.hx_model.specs.ServerSteps.{Replica as ReplicaState, ServerState, acked, asked, called_by, context_of, halting, if_installed, install_at, listed_regions, message_step, poll_post, replica_for, replica_of, server_at_start, server_step, snapped, state_in, tick_step, updated};
 ghost use Rattle.hx_model.specs.Slots.{found_in, new_state};
-ghost use Rattle.hx_replica.specs.Hearing.{IsOfOneSlot, addressed, leading, met_posts, own_step};
+ghost use Rattle.hx_slot.specs.States.{IsPlacedIn};
+ghost use Rattle.hx_replica.specs.Hearing.{leading};
 ghost use Rattle.hx_replica.specs.Installing.{IsSnapshot};
 ghost use Rattle.hx_replica.specs.Adopting.{lean_with_config};
-ghost use Rattle.hx_replica.specs.Outputs.{key_in, notes_of, posts_of, room_by, room_wanted};
+ghost use Rattle.hx_replica.specs.Outputs.{context_seen};
 ghost use Rattle.hx_replica.specs.Named.{known_to};
 ghost use Rattle.hx_replica.specs.Replicas.{KeepAllRooms, KeepRegionRooms, first_replica, new_replica};
 ghost use Rattle.hx_replica.specs.Sound.{IsSoundInput, IsSoundServer};
 ghost use Rattle.hx_store.specs.Stores.{has_slot};
-ghost use Rattle.hx_replica.specs.Plans.{AreRoomsAfter, AtReplica, CanHear, CanMake, CanStep, HasRoomAt, IsChange, IsChangeAt, IsPlanOn, slot_change, step_at};
-ghost use Rattle.hx_replica.specs.Servers.{CanTake};
+ghost use Rattle.hx_replica.specs.Plans.{AreRoomsAfter, AtReplica, CanHear, CanMake, HasRoomAt, IsChange, IsPlanOn};
+ghost use Rattle.hx_replica.specs.Servers.{CanTake, HasSmallVersions};
 
 use crate::adopting::post_adoption;
-use crate::contexts::SlotContext;
+use crate::contexts::{SlotContext, place_at};
 use crate::installing::installed;
 use crate::keeping::keep_all;
-use crate::outputs::{SlotChange, epoch_in, room_by};
-use crate::prepared::{Change, Plan, ask_newest, post_to_coordinator, slot_change};
+use crate::outputs::SlotChange;
+use crate::prepared::{Change, Plan, ask_newest, post_to_coordinator};
 use crate::replicas::{
     Replica, change_slot, first_replicas, joined_replica, new_replicas, place_of, put_replica,
     sort_orders,
 };
-use crate::slot_steps::step_slot;
+use crate::slot_steps::{call, offer, settle};
 use crate::ticking::{post_ready, post_tick};
-use hx_chain::hears_snap;
+use hx_chain::{hears_snap, hears_update};
 use hx_region::RegionMap;
 use hx_slot::Slot;
 use hx_types::{
-    Actor, Config, Entry, Epoch, Exact, Input, Memory, Message, Notes, Op, Post, Posts, RegionId,
-    Rows, ServerId, Shared, Snapshot, Space, Terms, Text, Updates, first_shared_config,
+    Actor, Caller, Config, Entry, Epoch, Exact, Input, Memory, Message, Notes, Op, Post, Posts,
+    RegionId, Rows, ServerId, Shared, Snapshot, Space, Terms, Text, Update, Updates, Version,
+    first_shared_config,
 };
 use std::alloc::Global;
 use std::marker::Model;
@@ -81,14 +82,6 @@ impl Model for Server {
     ghost view = { value_of };
 
     ghost invariant = { IsServer };
-}
-
-/// The replica to whose slot a message goes, by its place among the server's, and the key of the
-/// message.
-#[derive(Drop)]
-struct Addressee<'a> {
-    replica: usize,
-    key: &'a Text,
 }
 
 impl Server {
@@ -225,25 +218,11 @@ impl Server {
         ensures state { self.new.state ≡ self.old.state }
     {
         let _ = &self.id;
-        self.meet(message, posts)?;
         self.answer(alloc, from, message, posts, notes)
     }
 
-    /// Where a message tells of an epoch above the server's own, the coordinator is asked for the
-    /// newest configuration.
-    #[inline]
-    fn meet(&self, message: &Message, posts: &mut Posts) -> Result<(), Memory>
-        ensures { OnOk result (posts.new ≡ posts.old ++ met_posts self.now.state message.now) }
-    {
-        match epoch_in(message) {
-            Some(epoch) if epoch.0 > self.config.epoch.0 => {
-                ask_newest(self.id, &self.config, posts)
-            }
-            _ => Ok(()),
-        }
-    }
-
-    /// Posts and notes what a message makes but for that, and gives what it changes.
+    /// Posts and notes what a message makes, and gives what it changes. Where it tells of an epoch
+    /// above the server's own, the coordinator is asked for the newest configuration first.
     #[inline]
     #[tactic(auto, using(crate::proofs::Roomy::all_same))]
     fn answer(
@@ -255,34 +234,196 @@ impl Server {
         notes: &mut Notes,
     ) -> Result<Change, Memory>
         requires { CanHear self.old.space self.old.state from message.now }
-        ensures posts { OnOk result (posts.new ≡ posts.old ++ (own_step self.old.space self.old.state from message.now).posts) }
-        ensures notes { OnOk result (notes.new ≡ notes.old ++ (own_step self.old.space self.old.state from message.now).notes) }
-        ensures change { IfOk result (IsChange self.new (own_step self.old.space self.old.state from message.now).state) }
+        ensures posts { OnOk result (posts.new ≡ posts.old ++ (message_step self.old.space self.old.state from message.now).posts) }
+        ensures notes { OnOk result (notes.new ≡ notes.old ++ (message_step self.old.space self.old.state from message.now).notes) }
+        ensures change { IfOk result (IsChange self.new (message_step self.old.space self.old.state from message.now).state) }
         ensures rooms { KeepAllRooms self.old.rooms self.new.rooms }
         ensures space { self.new.space ≡ self.old.space }
         ensures state { self.new.state ≡ self.old.state }
     {
         let _ = &self.id;
         match message {
+            Message::Call { epoch, number, op } => {
+                self.meet(*epoch, posts)?;
+                self.on_call(alloc, from, *number, op, posts, notes)
+            }
+            Message::Update {
+                epoch,
+                region,
+                update,
+            } => {
+                self.meet(*epoch, posts)?;
+                self.on_update(alloc, from, *region, update, posts)
+            }
+            Message::Ack {
+                epoch,
+                region,
+                by,
+                key,
+                version,
+            } => {
+                self.meet(*epoch, posts)?;
+                self.on_ack(alloc, from, *region, *by, key, *version, posts)
+            }
             Message::Ask {
                 epoch,
                 number,
                 region,
                 terms,
             } => {
-                self.post_found(alloc, from, *epoch, *number, *region, terms, posts)?;
-                Ok(Change::Nothing)
+                self.meet(*epoch, posts)?;
+                self.on_ask(alloc, from, *epoch, *number, *region, terms, posts)
             }
-            Message::Install { config } => self.install(alloc, config, posts),
-            Message::Die => self.halt(posts),
             Message::Snap {
+                epoch,
                 region,
                 snapshot,
                 pending,
-                ..
-            } => self.join(alloc, from, *region, snapshot, pending, posts),
-            _ => self.take(alloc, from, message, posts, notes),
+            } => {
+                self.meet(*epoch, posts)?;
+                self.on_snapshot(alloc, from, *region, snapshot, pending, posts)
+            }
+            Message::Install { config } => self.on_install(alloc, config, posts),
+            Message::Die => self.halt(posts),
+            _ => Ok(Change::Nothing),
         }
+    }
+
+    /// Where an epoch is above the server's own, the coordinator is asked for the newest
+    /// configuration.
+    #[inline]
+    fn meet(&self, epoch: Epoch, posts: &mut Posts) -> Result<(), Memory>
+        ensures { OnOk result (posts.new ≡ posts.old ++ provided (nat_lt self.now.state.config.epoch.0 epoch.0) (poll_post self.now.state ∷ [])) }
+    {
+        if epoch.0 > self.config.epoch.0 {
+            return ask_newest(self.id, &self.config, posts);
+        }
+        Ok(())
+    }
+
+    /// A call goes to the slot of its key, where this server leads the key's region.
+    #[inline]
+    #[tactic(auto, using(crate::proofs::Roomy::all_same))]
+    fn on_call(
+        &mut self,
+        alloc: Global,
+        from: Actor,
+        number: u32,
+        op: &Op,
+        posts: &mut Posts,
+        notes: &mut Notes,
+    ) -> Result<Change, Memory>
+        requires bare { folded_server self.old.state ≡ self.old.state }
+        requires small { HasSmallVersions self.old.state }
+        ensures posts { OnOk result (posts.new ≡ posts.old ++ (called_by self.old.space self.old.state from number op.now).posts) }
+        ensures notes { OnOk result (notes.new ≡ notes.old ++ (called_by self.old.space self.old.state from number op.now).notes) }
+        ensures change { IfOk result (IsChange self.new (called_by self.old.space self.old.state from number op.now).state) }
+        ensures rooms { KeepAllRooms self.old.rooms self.new.rooms }
+        ensures space { self.new.space ≡ self.old.space }
+        ensures state { self.new.state ≡ self.old.state }
+    {
+        // What the invariant says of the slots is known from here on.
+        let _ = &self.id;
+        let Actor::Session(session) = from else {
+            return Ok(Change::Nothing);
+        };
+        let Some(key) = op.key() else {
+            return Ok(Change::Nothing);
+        };
+        let Some(replica) = self.leading(key) else {
+            return Ok(Change::Nothing);
+        };
+        let place = self.reserve(alloc, replica, key, 1)?;
+        let context = self.context_at(replica);
+        let slot = self.slot_at(replica, place);
+        let caller = Caller { session, number };
+        let Ok(change) = call(alloc, &context, slot, caller, op, posts, notes) else {
+            return Err(Memory);
+        };
+        Ok(Change::Slot {
+            replica,
+            place,
+            change,
+        })
+    }
+
+    /// An update goes to the slot of its key at the replica of its region. It is dropped where that
+    /// isn't installed, and where it doesn't hear the update.
+    #[inline]
+    #[tactic(auto, using(crate::proofs::Roomy::all_same))]
+    fn on_update(
+        &mut self,
+        alloc: Global,
+        from: Actor,
+        region: RegionId,
+        update: &Shared<Update>,
+        posts: &mut Posts,
+    ) -> Result<Change, Memory>
+        requires bare { folded_server self.old.state ≡ self.old.state }
+        requires placed { IsPlacedIn region update.now }
+        requires few { length update.now.places ≤ 17 }
+        requires after { All (λ (p : Place). p.after.0 < update.now.version.0) update.now.places }
+        ensures posts { OnOk result (posts.new ≡ posts.old ++ (updated self.old.space self.old.state from update.now (if_installed (replica_for self.old.state region))).posts) }
+        ensures change { IfOk result (IsChange self.new (updated self.old.space self.old.state from update.now (if_installed (replica_for self.old.state region))).state) }
+        ensures rooms { KeepAllRooms self.old.rooms self.new.rooms }
+        ensures space { self.new.space ≡ self.old.space }
+        ensures state { self.new.state ≡ self.old.state }
+    {
+        let Some(replica) = self.installed_at(region) else {
+            return Ok(Change::Nothing);
+        };
+        let place = self.reserve(alloc, replica, &update.key, 1)?;
+        let context = self.context_at(replica);
+        let slot = self.slot_at(replica, place);
+        let number = place_at(&context, update);
+        if !hears_update(context.config, update, number, context.server, from) {
+            return Ok(Change::Nothing);
+        }
+        let Ok(change) = offer(alloc, &context, slot, update, number, posts) else {
+            return Err(Memory);
+        };
+        Ok(Change::Slot {
+            replica,
+            place,
+            change,
+        })
+    }
+
+    /// An acknowledgement goes to the slot of its key at the replica of its region. It is dropped
+    /// where that isn't installed, and where it doesn't hear the acknowledgement.
+    #[inline]
+    #[tactic(auto, using(crate::proofs::Roomy::all_same))]
+    fn on_ack(
+        &mut self,
+        alloc: Global,
+        from: Actor,
+        region: RegionId,
+        by: RegionId,
+        key: &Text,
+        version: Version,
+        posts: &mut Posts,
+    ) -> Result<Change, Memory>
+        requires bare { folded_server self.old.state ≡ self.old.state }
+        ensures posts { OnOk result (posts.new ≡ posts.old ++ (acked self.old.space self.old.state from key.now version.0 by (if_installed (replica_for self.old.state region))).posts) }
+        ensures change { IfOk result (IsChange self.new (acked self.old.space self.old.state from key.now version.0 by (if_installed (replica_for self.old.state region))).state) }
+        ensures rooms { KeepAllRooms self.old.rooms self.new.rooms }
+        ensures space { self.new.space ≡ self.old.space }
+        ensures state { self.new.state ≡ self.old.state }
+    {
+        let Some(replica) = self.installed_at(region) else {
+            return Ok(Change::Nothing);
+        };
+        let place = self.reserve(alloc, replica, key, 0)?;
+        let context = self.context_at(replica);
+        let slot = self.slot_at(replica, place);
+        if !settle(alloc, &context, slot, from, version, by, posts)? {
+            return Ok(Change::Nothing);
+        }
+        Ok(Change::Slot {
+            replica,
+            place,
+            change: SlotChange::Acknowledge { version },
+        })
     }
 
     /// Makes a prepared step, and gives its entry. It takes no memory. Where all that the server
@@ -427,7 +568,7 @@ impl Server {
     /// is nothing to it.
     #[cold]
     #[inline(never)]
-    fn install(
+    fn on_install(
         &mut self,
         alloc: Global,
         config: &Shared<Config>,
@@ -462,7 +603,7 @@ impl Server {
     /// ready. A snapshot that isn't heard is dropped.
     #[cold]
     #[inline(never)]
-    fn join(
+    fn on_snapshot(
         &self,
         alloc: Global,
         from: Actor,
@@ -502,9 +643,30 @@ impl Server {
         Ok(Change::Join { number, replica })
     }
 
+    /// A search of a region is answered where this server is a ready member of it. All of the server
+    /// stays: only the index of the region's store is brought up to date.
+    #[inline(never)]
+    fn on_ask(
+        &mut self,
+        alloc: Global,
+        from: Actor,
+        epoch: Epoch,
+        number: u32,
+        region: RegionId,
+        terms: &Terms,
+        posts: &mut Posts,
+    ) -> Result<Change, Memory>
+        requires bare { folded_server self.old.state ≡ self.old.state }
+        ensures posts { OnOk result (posts.new ≡ posts.old ++ (asked self.old.state from epoch number terms.now (if_installed (replica_for self.old.state region))).posts) }
+        ensures change { IfOk result (IsChange self.new (asked self.old.state from epoch number terms.now (if_installed (replica_for self.old.state region))).state) }
+        ensures stays { self.new ≡ self.old }
+    {
+        self.post_found(alloc, from, epoch, number, region, terms, posts)?;
+        Ok(Change::Nothing)
+    }
+
     /// Posts what a search finds in a region, where this server is a ready member of it. All of the
     /// server stays, whatever comes: only the index of the region's store is brought up to date.
-    #[inline(never)]
     fn post_found(
         &mut self,
         alloc: Global,
@@ -549,75 +711,15 @@ impl Server {
         replica.store.find(alloc, terms, &mut looks)
     }
 
-    /// What the slot makes to which a message goes; where there is none, or its replica doesn't hear
-    /// the message, nothing moves.
-    #[tactic(auto, using(crate::proofs::Roomy::all_same))]
-    fn take(
-        &mut self,
-        alloc: Global,
-        from: Actor,
-        message: &Message,
-        posts: &mut Posts,
-        notes: &mut Notes,
-    ) -> Result<Change, Memory>
-        requires can { CanHear self.old.space self.old.state from message.now }
-        requires bare { folded_server self.old.state ≡ self.old.state }
-        requires slot { IsOfOneSlot message.now }
-        ensures posts { OnOk result (posts.new ≡ posts.old ++ (own_step self.old.space self.old.state from message.now).posts) }
-        ensures notes { OnOk result (notes.new ≡ notes.old ++ (own_step self.old.space self.old.state from message.now).notes) }
-        ensures change { IfOk result (IsChange self.new (own_step self.old.space self.old.state from message.now).state) }
-        ensures rooms { KeepAllRooms self.old.rooms self.new.rooms }
-        ensures space { self.new.space ≡ self.old.space }
-        ensures state { self.new.state ≡ self.old.state }
+    /// The place of the replica of a key's region, where this server leads it.
+    fn leading(&self, key: &Text) -> Option<usize>
+        ensures { option_map (slice_get self.now.state.replicas) result ≡ option_map Some (leading self.now.space self.now.state key.now) }
     {
-        // What the invariant says of the slots is known from here on.
-        let _ = &self.id;
-        let Some(addressee) = self.addressee_of(message) else {
-            return Ok(Change::Nothing);
-        };
-        let place = self.reserve(alloc, &addressee, room_by(message))?;
-        let Ok(change) = self.step(alloc, &addressee, place, from, message, posts, notes) else {
-            return Err(Memory);
-        };
-        Ok(slot_change(addressee.replica, place, change))
-    }
-
-    /// The replica to whose slot a message on a key goes, if there is one.
-    #[inline]
-    fn addressee_of<'a>(&self, message: &'a Message) -> Option<Addressee<'a>>
-        ensures replica { option_map (λ h. slice_get self.now.state.replicas h.replica) result ≡ option_map Some (addressed self.now.space self.now.state message.now) }
-        ensures key { IfSome result (λ h. h.key.now ≡ key_in message.now) }
-    {
-        match message {
-            Message::Call { op, .. } => self.leading(op),
-            Message::Update { region, update, .. } => self.installed(*region, &update.key),
-            Message::Ack { region, key, .. } => self.installed(*region, key),
-            _ => None,
-        }
-    }
-
-    /// The replica of the key of a call, where this server leads its region.
-    fn leading<'a>(&self, op: &'a Op) -> Option<Addressee<'a>>
-        ensures replica { option_map (λ h. slice_get self.now.state.replicas h.replica) result ≡ option_map Some (when_some (key_of op.now) None (leading self.now.space self.now.state)) }
-        ensures key { IfSome result (λ h. Some h.key.now ≡ key_of op.now) }
-    {
-        let key = op.key()?;
         let region = self.map.of_key(key);
         if !self.config.leads(&self.space, self.id, region) {
             return None;
         }
-        let replica = self.replica_for(region)?;
-        Some(Addressee { replica, key })
-    }
-
-    /// The replica of a region, where it is installed.
-    #[inline]
-    fn installed<'a>(&self, region: RegionId, key: &'a Text) -> Option<Addressee<'a>>
-        ensures replica { option_map (λ h. slice_get self.now.state.replicas h.replica) result ≡ option_map Some (if_installed (replica_for self.now.state region)) }
-        ensures key { IfSome result (λ h. h.key.now ≡ key.now) }
-    {
-        let replica = self.installed_at(region)?;
-        Some(Addressee { replica, key })
+        self.replica_for(region)
     }
 
     /// The place of the replica of a region, where it is installed.
@@ -645,54 +747,49 @@ impl Server {
         place_of(self.replicas.as_slice(), region)
     }
 
-    /// Makes room for n updates more at the slot to which a message goes, and gives the place of its
+    /// Makes room for n updates more at the slot of a key at a replica, and gives the place of the
     /// key in the replica's store.
-    fn reserve(&mut self, alloc: Global, addressee: &Addressee, n: u32) -> Result<usize, Memory>
-        requires { addressee.now.replica < length self.old.state.replicas }
-        ensures room { IfOk result (HasRoomAt addressee.now.replica addressee.now.key.now n self.new) }
+    fn reserve(
+        &mut self,
+        alloc: Global,
+        replica: usize,
+        key: &Text,
+        n: u32,
+    ) -> Result<usize, Memory>
+        requires { replica < length self.old.state.replicas }
+        ensures room { IfOk result (HasRoomAt replica key.now n self.new) }
         ensures rooms { KeepAllRooms self.old.rooms self.new.rooms }
         ensures space { self.new.space ≡ self.old.space }
         ensures state { self.new.state ≡ self.old.state }
     {
-        let replica = &mut self.replicas[addressee.replica];
-        replica.store.reserve(alloc, addressee.key, n)
+        self.replicas[replica].store.reserve(alloc, key, n)
     }
 
-    /// What a message makes of the slot to which it goes; nothing where the slot's replica doesn't
-    /// hear it.
-    fn step(
-        &self,
-        alloc: Global,
-        addressee: &Addressee,
-        place: usize,
-        from: Actor,
-        message: &Message,
-        posts: &mut Posts,
-        notes: &mut Notes,
-    ) -> Result<Option<SlotChange>, Memory>
-        requires can { CanStep self.now.space self.now.state addressee.now.replica addressee.now.key.now from message.now }
-        requires room { HasRoomAt addressee.now.replica addressee.now.key.now (room_by message.now) self.now place }
-        ensures posts { OnOk result (AtReplica self.now addressee.now.replica (λ (r : ReplicaState). posts.new ≡ posts.old ++ posts_of (step_at self.now r from message.now))) }
-        ensures notes { OnOk result (AtReplica self.now addressee.now.replica (λ (r : ReplicaState). notes.new ≡ notes.old ++ notes_of (step_at self.now r from message.now))) }
-        ensures change { IfOk result (IsChangeAt self.now addressee.now.replica from message.now) }
-        ensures room { IfOk result (λ change. room_wanted change ≤ room_by message.now) }
+    /// Where the slots of a replica stand.
+    #[inline]
+    fn context_at(&self, replica: usize) -> SlotContext<'_>
+        requires { replica < length self.now.state.replicas }
+        ensures map { result.map.now ≡ result.space.now }
+        ensures space { IsSpace result.space.now }
+        ensures seen { AtReplica self.now replica (λ (r : ReplicaState). context_seen result ≡ context_of self.now.space self.now.state r.region) }
     {
-        let replica = &self.replicas[addressee.replica];
-        let context = SlotContext {
+        SlotContext {
             space: &self.space,
             map: &self.map,
             config: &self.config,
             server: self.id,
-            region: replica.region,
-        };
-        step_slot(
-            alloc,
-            &context,
-            replica.store.slot_at(place),
-            from,
-            message,
-            posts,
-            notes,
-        )
+            region: self.replicas[replica].region,
+        }
+    }
+
+    /// The slot at a place of a replica.
+    #[inline]
+    fn slot_at(&self, replica: usize, place: usize) -> &Slot
+        requires within { replica < length self.now.state.replicas }
+        requires place { (key : List ℕ) × (n : ℕ) × HasRoomAt replica key n self.now place }
+        ensures region { AtReplica self.now replica (λ (r : ReplicaState). result.now.region ≡ r.region) }
+        ensures state { (key : List ℕ) (n : ℕ) → HasRoomAt replica key n self.now place → AtReplica self.now replica (λ (r : ReplicaState). result.now.state ≡ state_in self.now.space r key) }
+    {
+        self.replicas[replica].store.slot_at(place)
     }
 }

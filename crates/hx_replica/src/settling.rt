@@ -100,6 +100,7 @@ pub fn post_pending(
     for i in 0..slot.pending_count() {
         match slot.pending(i) {
             Some(update) => post_update(alloc, context, update, posts, tail_versions)?,
+            // The number is below how many are pending.
             None => unreachable!(),
         }
     }
@@ -118,6 +119,7 @@ pub fn ended_count(slot: &Slot, tail_versions: &[Version]) -> u32
                     return i;
                 }
             }
+            // The number is below how many are pending.
             None => unreachable!(),
         }
     }
@@ -139,6 +141,7 @@ pub fn post_lowest_commits(
     for i in 0..count {
         match slot.pending(i) {
             Some(update) => post_commit(alloc, context, update, posts)?,
+            // The number is below how many are pending.
             None => unreachable!(),
         }
     }
@@ -154,6 +157,7 @@ pub fn pending_line<'a>(alloc: Global, slot: &'a Slot) -> Result<Vec<&'a Shared<
     for i in 0..slot.pending_count() {
         match slot.pending(i) {
             Some(update) => line.push(update)?,
+            // The number is below how many are pending.
             None => unreachable!(),
         }
     }

@@ -2,6 +2,7 @@ ghost use Rattle.std.specs.Prelude.{◌≡◌, ◌≤◌, ◌<◌, ◌^◌, ◌+
 ghost use Rattle.std.specs.List.{All};
 ghost use Rattle.std.specs.Option.{option_copied};
 ghost use Rattle.hx_types.specs.Spaces.{IsSpace};
+ghost use Rattle.hx_types.specs.Words.{provided};
 ghost use Rattle.hx_model.specs.Types.{Place};
 ghost use Rattle.hx_types.specs.declared.outcomes.Decision.TheVariants as a_decision;
 ghost use Rattle.hx_model.specs.Leading.{decide, stuck_of};
@@ -11,77 +12,22 @@ ghost use Rattle.hx_model.specs.ServerSteps.{ack_step, call_step, decided, get_s
 ghost use Rattle.hx_model.specs.Slots.{top_of};
 ghost use Rattle.hx_slot.specs.States.{HasFewPlaces, IsPlacedIn};
 ghost use Rattle.hx_replica.specs.declared.outputs.SlotChange.TheVariants.{Open};
-ghost use Rattle.hx_replica.specs.Outputs.{IsChangeOf, IsComing, IsLeading, IsMaybeChangeOf, IsSlotInput, accept_step, ack_heard, context_seen, key_in, notes_of, posts_of, room_by, room_of, room_wanted, session_in, slot_step_of, update_heard};
+ghost use Rattle.hx_replica.specs.Outputs.{IsChangeOf, IsComing, IsLeading, accept_step, context_seen, hears_version};
 
 use crate::accepting::accepted;
 use crate::contexts::{SlotContext, doubt, place_at, post_ack, post_commit_at, reply};
 use crate::outputs::{SlotChange, slot_replies};
 use crate::settling::post_lowest_commits;
-use hx_chain::{decide, hears_ack, hears_update, stuck};
+use hx_chain::{decide, hears_ack, stuck};
 use hx_slot::Slot;
 use hx_types::{
-    Actor, Answer, Caller, Decision, Exact, Memory, Message, Note, Notes, Op, Posts, RegionId,
-    SessionId, Shared, Update, Version,
+    Actor, Answer, Caller, Decision, Exact, Memory, Note, Notes, Op, Posts, RegionId, Shared,
+    Update, Version,
 };
 use std::alloc::Global;
 
-/// What a step makes of the slot to which a message goes; nothing where its replica doesn't hear
-/// the message.
-#[inline(always)]
-pub fn step_slot(
-    alloc: Global,
-    context: &SlotContext,
-    slot: &Slot,
-    from: Actor,
-    message: &Message,
-    posts: &mut Posts,
-    notes: &mut Notes,
-) -> Result<Option<SlotChange>, Memory>
-    requires map { context.now.map.now ≡ context.now.space.now }
-    requires space { IsSpace context.now.space.now }
-    requires region { slot.now.region ≡ context.now.region }
-    requires input { IsSlotInput context.now.space.now context.now.region slot.now.state from message.now }
-    ensures posts { OnOk result (posts.new ≡ posts.old ++ posts_of (slot_step_of (context_seen context.now) slot.now.state from message.now)) }
-    ensures notes { OnOk result (notes.new ≡ notes.old ++ notes_of (slot_step_of (context_seen context.now) slot.now.state from message.now)) }
-    ensures change { IfOk result (IsMaybeChangeOf context.now.region slot.now.state (key_in message.now) (slot_step_of (context_seen context.now) slot.now.state from message.now)) }
-    ensures room { IfOk result (λ change. room_wanted change ≤ room_by message.now) }
-{
-    match message {
-        Message::Call { number, op, .. } => {
-            let caller = caller_of(from, *number);
-            let change = call(alloc, context, slot, caller, op, posts, notes)?;
-            Ok(Some(change))
-        }
-        Message::Update { update, .. } => take(alloc, context, slot, from, update, posts),
-        Message::Ack { version, by, .. } => {
-            settle(alloc, context, slot, from, *version, *by, posts)
-        }
-        _ => unreachable!(),
-    }
-}
-
-#[inline]
-fn caller_of(from: Actor, number: u32) -> Caller
-    ensures { result ≡ record { session = session_in from; number = number } }
-{
-    Caller {
-        session: session_in(from),
-        number,
-    }
-}
-
-#[inline]
-fn session_in(from: Actor) -> SessionId
-    ensures { result ≡ session_in from }
-{
-    match from {
-        Actor::Session(session) => session,
-        Actor::Coordinator | Actor::Server(_) => SessionId(0),
-    }
-}
-
 /// A call is a get, or a write on which the leader decides.
-fn call(
+pub fn call(
     alloc: Global,
     context: &SlotContext,
     slot: &Slot,
@@ -207,34 +153,9 @@ fn assign(
     accept(alloc, context, slot, update, place, posts)
 }
 
-/// An update that is heard is known, accepted or early; one that isn't heard is dropped.
-#[inline(always)]
-fn take(
-    alloc: Global,
-    context: &SlotContext,
-    slot: &Slot,
-    from: Actor,
-    update: &Shared<Update>,
-    posts: &mut Posts,
-) -> Result<Option<SlotChange>, Memory>
-    requires placed { IsPlacedIn context.now.region update.now }
-    requires few { length update.now.places ≤ 17 }
-    requires after { All (λ (p : Place). p.after.0 < update.now.version.0) update.now.places }
-    requires region { slot.now.region ≡ context.now.region }
-    ensures posts { OnOk result (posts.new ≡ posts.old ++ posts_of (update_heard (context_seen context.now) slot.now.state from update.now)) }
-    ensures change { IfOk result (IsMaybeChangeOf context.now.region slot.now.state update.now.key (update_heard (context_seen context.now) slot.now.state from update.now)) }
-{
-    let place = place_at(context, update);
-    if !hears_update(context.config, update, place, context.server, from) {
-        return Ok(None);
-    }
-    let change = offer(alloc, context, slot, update, place, posts)?;
-    Ok(Some(change))
-}
-
 /// An update with this place in the region of the context is known, accepted or early.
 #[inline(always)]
-fn offer(
+pub fn offer(
     alloc: Global,
     context: &SlotContext,
     slot: &Slot,
@@ -291,7 +212,16 @@ fn accept(
     ensures posts { OnOk result (posts.new ≡ posts.old ++ (accept_step (context_seen context.now) slot.now.state update).posts) }
     ensures change { IfOk result (IsChangeOf context.now.region slot.now.state update.key (accept_step (context_seen context.now) slot.now.state update)) }
 {
-    let tail_versions = accepted(alloc, context, slot, &update, place, posts)?;
+    let mut tail_versions = Vec::new(alloc);
+    accepted(
+        alloc,
+        context,
+        slot,
+        &update,
+        place,
+        posts,
+        &mut tail_versions,
+    )?;
     Ok(SlotChange::Accept {
         update,
         place,
@@ -299,10 +229,10 @@ fn accept(
     })
 }
 
-/// An acknowledgement is dropped where its version isn't pending, and where it isn't heard for the
-/// pending update of that version.
+/// Whether an acknowledgement is heard: its version is pending, and it is heard for the pending update
+/// of that version. What can then be committed is told of.
 #[inline(always)]
-fn settle(
+pub fn settle(
     alloc: Global,
     context: &SlotContext,
     slot: &Slot,
@@ -310,25 +240,24 @@ fn settle(
     version: Version,
     by: RegionId,
     posts: &mut Posts,
-) -> Result<Option<SlotChange>, Memory>
+) -> Result<bool, Memory>
     requires { slot.now.region ≡ context.now.region }
-    ensures posts { OnOk result (posts.new ≡ posts.old ++ posts_of (ack_heard (context_seen context.now) slot.now.state from version.0 by)) }
-    ensures change { IfOk result (IsMaybeChangeOf context.now.region slot.now.state slot.now.state.base.key (ack_heard (context_seen context.now) slot.now.state from version.0 by)) }
-    ensures room { IfOk result (λ change. room_wanted change ≡ 0) }
+    ensures heard { IfOk result (λ heard. heard ≡ hears_version (context_seen context.now) from by (pending_with version.0 slot.now.state)) }
+    ensures posts { IfOk result (λ heard. posts.new ≡ posts.old ++ provided heard (ack_step (context_seen context.now) slot.now.state version.0).posts) }
 {
     let Some(update) = pending_with(slot, version) else {
-        return Ok(None);
+        return Ok(false);
     };
     let place = place_at(context, update);
     if !hears_ack(context.config, update, place, context.server, from, by) {
-        return Ok(None);
+        return Ok(false);
     }
-    let change = acknowledge(alloc, context, slot, version, update, place, posts)?;
-    Ok(Some(change))
+    acknowledge(alloc, context, slot, version, update, place, posts)?;
+    Ok(true)
 }
 
-/// A version is acknowledged, of which this is the pending update, with this place in the region of
-/// the context; and what can be committed is told of.
+/// Tells of what can be committed once a version is acknowledged, of which this is the pending
+/// update, with this place in the region of the context.
 #[inline(always)]
 fn acknowledge(
     alloc: Global,
@@ -338,20 +267,16 @@ fn acknowledge(
     update: &Update,
     place: u32,
     posts: &mut Posts,
-) -> Result<SlotChange, Memory>
+) -> Result<(), Memory>
     requires region { slot.now.region ≡ context.now.region }
     requires pending { pending_with version.0 slot.now.state ≡ Some update.now }
     requires place { place ≡ place_number context.now.region update.now.places }
-    ensures posts { OnOk result (posts.new ≡ posts.old ++ (ack_step (context_seen context.now) slot.now.state version.0).posts) }
-    ensures change { IfOk result (IsChangeOf context.now.region slot.now.state slot.now.state.base.key (ack_step (context_seen context.now) slot.now.state version.0)) }
-    ensures room { IfOk result (λ change. room_of change ≡ 0) }
+    ensures { OnOk result (posts.new ≡ posts.old ++ (ack_step (context_seen context.now) slot.now.state version.0).posts) }
 {
     if slot.pending_count() == 1 {
-        post_commit_at(alloc, context, update, place, posts)?;
-        return Ok(SlotChange::Acknowledge { version });
+        return post_commit_at(alloc, context, update, place, posts);
     }
-    post_lowest_commits(alloc, context, slot, slot.would_commit(version), posts)?;
-    Ok(SlotChange::Acknowledge { version })
+    post_lowest_commits(alloc, context, slot, slot.would_commit(version), posts)
 }
 
 /// The pending update of a version.
@@ -368,6 +293,7 @@ fn pending_with<'a>(slot: &'a Slot, version: Version) -> Option<&'a Shared<Updat
                     return Some(update);
                 }
             }
+            // The number is below how many are pending.
             None => unreachable!(),
         }
     }

@@ -144,6 +144,7 @@ fn send_pending(
     for i in 0..store.len() {
         match store.nth(i) {
             Some(slot) => send_slot(alloc, context, slot, posts)?,
+            // The store has a slot at each number below its length.
             None => unreachable!(),
         }
     }

@@ -1,7 +1,7 @@
 use Rattle.std.proofs.Common.{ap, sym, ◌∙◌, arith}
 use Rattle.std.proofs.lemmas.Bool.{eq-eqb, ne_eqb}
 use Rattle.hx_model.specs.Slots.{pending_of}
-use Rattle.hx_replica.proofs.Acked.{found_at, found_later, found_none, has_number}
+use Rattle.hx_replica.proofs.Acked.{found_at, found_later, has_number}
 use Rattle.hx_replica.proofs.Walking.{none_within}
 use Rattle.hx_replica.proofs.slot_steps.pending_with.Goals as goal
 

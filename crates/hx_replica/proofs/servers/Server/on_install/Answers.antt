@@ -12,7 +12,7 @@ use Rattle.hx_replica.specs.Ticking.{standing}
 use Rattle.hx_replica.proofs.Bareness.{bare_same}
 use Rattle.hx_replica.proofs.Installed.{adoption_change, adoption_posts}
 use Rattle.hx_replica.proofs.Ordered.{are_in_order, ordered_are, ordered_value, ordered_views}
-use Rattle.hx_replica.proofs.servers.Server.install.Goals as goal
+use Rattle.hx_replica.proofs.servers.Server.on_install.Goals as goal
 
 pub returns-clause-posts : goal.returns-clause-posts
 returns-clause-posts c =

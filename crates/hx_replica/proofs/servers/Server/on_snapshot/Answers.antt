@@ -11,7 +11,7 @@ use Rattle.hx_replica.specs.Servers.{ServerValue}
 use Rattle.hx_replica.specs.Ticking.{standing}
 use Rattle.hx_replica.proofs.Planning.{nothing_more, stays}
 use Rattle.hx_replica.proofs.Snapped.{IsTakenBy, join_change, join_posts, ready_step, taken_by, unheard, unheard_step}
-use Rattle.hx_replica.proofs.servers.Server.join.Goals as goal
+use Rattle.hx_replica.proofs.servers.Server.on_snapshot.Goals as goal
 
 pub returns-then-index-clause-posts : goal.returns-then-index-clause-posts
 returns-then-index-clause-posts c =
