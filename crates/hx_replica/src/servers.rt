@@ -218,30 +218,6 @@ impl Server {
         ensures state { self.new.state ≡ self.old.state }
     {
         let _ = &self.id;
-        self.answer(alloc, from, message, posts, notes)
-    }
-
-    /// Posts and notes what a message makes, and gives what it changes. Where it tells of an epoch
-    /// above the server's own, the coordinator is asked for the newest configuration first.
-    #[inline]
-    #[tactic(auto, using(crate::proofs::Roomy::all_same))]
-    fn answer(
-        &mut self,
-        alloc: Global,
-        from: Actor,
-        message: &Message,
-        posts: &mut Posts,
-        notes: &mut Notes,
-    ) -> Result<Change, Memory>
-        requires { CanHear self.old.space self.old.state from message.now }
-        ensures posts { OnOk result (posts.new ≡ posts.old ++ (message_step self.old.space self.old.state from message.now).posts) }
-        ensures notes { OnOk result (notes.new ≡ notes.old ++ (message_step self.old.space self.old.state from message.now).notes) }
-        ensures change { IfOk result (IsChange self.new (message_step self.old.space self.old.state from message.now).state) }
-        ensures rooms { KeepAllRooms self.old.rooms self.new.rooms }
-        ensures space { self.new.space ≡ self.old.space }
-        ensures state { self.new.state ≡ self.old.state }
-    {
-        let _ = &self.id;
         match message {
             Message::Call { epoch, number, op } => {
                 self.meet(*epoch, posts)?;

@@ -132,34 +132,43 @@ pub returns-in_default-key-clause-posts : goal.returns-in_default-key-clause-pos
 returns-in_default-key-clause-posts c =
     let v = c.args.self.now in
     nothing_more c.args.posts.now _ (ap (λ (t : ServerStep). t.posts)
-    (ap (λ (a : Actor). called_by v.space v.state a c.args.number c.args.op.now) c.in-Session.is ∙ ap (called v.space v.state (record { session = c.in-Session.session; number = c.args.number }) c.args.op.now) (sym c.in_default-key.ensures)))
+    (ap (λ (a : Actor). called_by v.space v.state a c.args.number c.args.op.now) c.in-Session.is
+    ∙ ap (called v.space v.state (record { session = c.in-Session.session; number = c.args.number }) c.args.op.now) (sym c.in_default-key.ensures)))
 
 pub returns-in_default-key-clause-notes : goal.returns-in_default-key-clause-notes
 returns-in_default-key-clause-notes c =
     let v = c.args.self.now in
     nothing_more c.args.notes.now _ (ap (λ (t : ServerStep). t.notes)
-    (ap (λ (a : Actor). called_by v.space v.state a c.args.number c.args.op.now) c.in-Session.is ∙ ap (called v.space v.state (record { session = c.in-Session.session; number = c.args.number }) c.args.op.now) (sym c.in_default-key.ensures)))
+    (ap (λ (a : Actor). called_by v.space v.state a c.args.number c.args.op.now) c.in-Session.is
+    ∙ ap (called v.space v.state (record { session = c.in-Session.session; number = c.args.number }) c.args.op.now) (sym c.in_default-key.ensures)))
 
 pub returns-in_default-key-clause-change : goal.returns-in_default-key-clause-change
 returns-in_default-key-clause-change c =
     let v = c.args.self.now in
     unchanged v _ c.requires.bare
-    (ap (λ (a : Actor). called_by v.space v.state a c.args.number c.args.op.now) c.in-Session.is ∙ ap (called v.space v.state (record { session = c.in-Session.session; number = c.args.number }) c.args.op.now) (sym c.in_default-key.ensures))
+    (ap (λ (a : Actor). called_by v.space v.state a c.args.number c.args.op.now) c.in-Session.is
+    ∙ ap (called v.space v.state (record { session = c.in-Session.session; number = c.args.number }) c.args.op.now) (sym c.in_default-key.ensures))
 
 pub returns-in_default-leading-clause-posts : goal.returns-in_default-leading-clause-posts
 returns-in_default-leading-clause-posts c =
     let v = c.args.self.now in
     nothing_more c.args.posts.now _ (ap (λ (t : ServerStep). t.posts)
-    (ap (λ (a : Actor). called_by v.space v.state a c.args.number c.args.op.now) c.in-Session.is ∙ ap (called v.space v.state (record { session = c.in-Session.session; number = c.args.number }) c.args.op.now) (sym c.in-Some.ensures) ∙ called_nowhere v.space v.state (record { session = c.in-Session.session; number = c.args.number }) c.args.op.now c.in-Some.key.now (found_nowhere (leading v.space v.state c.in-Some.key.now) c.in_default-leading.ensures)))
+    (ap (λ (a : Actor). called_by v.space v.state a c.args.number c.args.op.now) c.in-Session.is
+    ∙ ap (called v.space v.state (record { session = c.in-Session.session; number = c.args.number }) c.args.op.now) (sym c.in-Some.ensures)
+    ∙ called_nowhere v.space v.state (record { session = c.in-Session.session; number = c.args.number }) c.args.op.now c.in-Some.key.now (found_nowhere (leading v.space v.state c.in-Some.key.now) c.in_default-leading.ensures)))
 
 pub returns-in_default-leading-clause-notes : goal.returns-in_default-leading-clause-notes
 returns-in_default-leading-clause-notes c =
     let v = c.args.self.now in
     nothing_more c.args.notes.now _ (ap (λ (t : ServerStep). t.notes)
-    (ap (λ (a : Actor). called_by v.space v.state a c.args.number c.args.op.now) c.in-Session.is ∙ ap (called v.space v.state (record { session = c.in-Session.session; number = c.args.number }) c.args.op.now) (sym c.in-Some.ensures) ∙ called_nowhere v.space v.state (record { session = c.in-Session.session; number = c.args.number }) c.args.op.now c.in-Some.key.now (found_nowhere (leading v.space v.state c.in-Some.key.now) c.in_default-leading.ensures)))
+    (ap (λ (a : Actor). called_by v.space v.state a c.args.number c.args.op.now) c.in-Session.is
+    ∙ ap (called v.space v.state (record { session = c.in-Session.session; number = c.args.number }) c.args.op.now) (sym c.in-Some.ensures)
+    ∙ called_nowhere v.space v.state (record { session = c.in-Session.session; number = c.args.number }) c.args.op.now c.in-Some.key.now (found_nowhere (leading v.space v.state c.in-Some.key.now) c.in_default-leading.ensures)))
 
 pub returns-in_default-leading-clause-change : goal.returns-in_default-leading-clause-change
 returns-in_default-leading-clause-change c =
     let v = c.args.self.now in
     unchanged v _ c.requires.bare
-    (ap (λ (a : Actor). called_by v.space v.state a c.args.number c.args.op.now) c.in-Session.is ∙ ap (called v.space v.state (record { session = c.in-Session.session; number = c.args.number }) c.args.op.now) (sym c.in-Some.ensures) ∙ called_nowhere v.space v.state (record { session = c.in-Session.session; number = c.args.number }) c.args.op.now c.in-Some.key.now (found_nowhere (leading v.space v.state c.in-Some.key.now) c.in_default-leading.ensures))
+    (ap (λ (a : Actor). called_by v.space v.state a c.args.number c.args.op.now) c.in-Session.is
+    ∙ ap (called v.space v.state (record { session = c.in-Session.session; number = c.args.number }) c.args.op.now) (sym c.in-Some.ensures)
+    ∙ called_nowhere v.space v.state (record { session = c.in-Session.session; number = c.args.number }) c.args.op.now c.in-Some.key.now (found_nowhere (leading v.space v.state c.in-Some.key.now) c.in_default-leading.ensures))
