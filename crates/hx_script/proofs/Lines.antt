@@ -1,12 +1,38 @@
 -- A text, a line at a time.
-use Rattle.std.proofs.Common.{◌≡◌, ℕ, suc, ◌+◌, ◌<◌, ◌≤◌, Bool, true, false, cond, not, eqb, List, [], ◌∷◌, length, take, drop, Ok, Err, refl, sym, ap, ◌∙◌, arith}
+use Rattle.std.proofs.Common.{◌≡◌, ℕ, zero, suc, ◌+◌, ◌<◌, ◌≤◌, Bool, true, false, cond, not, eqb, List, [], ◌∷◌, length, take, drop, Ok, Err, refl, sym, ap, ◌∙◌, inl, inr, arith}
+use Rattle.std.specs.Prelude.{◌⊎◌}
+use Rattle.std.proofs.lemmas.Bool.{false_from_ne_true}
 use Rattle.std.proofs.lemmas.List.{nil_from_length, drop-drop, length-take}
 use Rattle.std.proofs.lemmas.List.Folds.{length-prefix_len}
+use Rattle.memchr.specs.Find.{NoneBefore, Nowhere, Passes, is_byte}
 use Rattle.hx_script.specs.declared.errors.Reason.{Reason}
 use Rattle.hx_script.specs.declared.errors.ScriptError.TheVariants as errors
 use Rattle.hx_script.specs.declared.draft.Draft.{Draft}
 use Rattle.hx_script.specs.Grammar.{line_of}
 use Rattle.hx_script.specs.Texts.{line_len, onto_first, lines_of, read_lines, finished}
+
+-- a line ends at the first newline, or with the text
+until : (bs : List ℕ) (k : ℕ) → k ≤ length bs → ((i : ℕ) → 0 ≤ i → i < k → ¬ Passes (is_byte 10) bs i) → (k ≡ length bs) ⊎ Passes (is_byte 10) bs k → line_len bs ≡ k
+until [] k within none stop = omega (arith, within)
+until (b ∷ bs) zero within none stop =
+    elim stop [
+      | inl e ↦ absurd (omega (arith, e))
+      | inr e ↦ rw e refl
+    ]
+until (b ∷ bs) (suc k) within none stop =
+    let here : eqb b 10 ≡ false = false_from_ne_true (eqb b 10) (none 0 (omega arith) (omega arith)) in
+    let rest = until bs k (omega (arith, within)) (λ i low lt. none (suc i) (omega arith) (omega (arith, lt)))
+    (elim stop [
+      | inl e ↦ inl (omega (arith, e))
+      | inr e ↦ inr e
+    ]) in
+    rw (here, rest) (omega arith)
+
+pub newline_at : (bs : List ℕ) (k : ℕ) → NoneBefore (Passes (is_byte 10) bs) 0 (length bs) k → Passes (is_byte 10) bs k → line_len bs ≡ k
+newline_at bs k first here = until bs k (omega (arith, first.high)) first.before (inr here)
+
+pub no_newline : (bs : List ℕ) → Nowhere (Passes (is_byte 10) bs) 0 (length bs) → line_len bs ≡ length bs
+no_newline bs none = until bs (length bs) (omega arith) none (inl refl)
 
 join : (b k : ℕ) (xs : List ℕ) → lines_of xs ≡ take k xs ∷ lines_of (drop (k + 1) xs) → onto_first b (lines_of xs) ≡ take (1 + k) (b ∷ xs) ∷ lines_of (drop (1 + k + 1) (b ∷ xs))
 join b k xs e =

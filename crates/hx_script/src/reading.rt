@@ -6,15 +6,19 @@ ghost use Rattle.hx_script.specs.Texts.{line_len, lines_of, script_of, at_stop, 
 use crate::draft::Draft;
 use crate::errors::{ScriptError, Stop};
 use hx_types::Script;
+use memchr::memchr;
 use std::alloc::Global;
 
 /// How many bytes stand before the first newline.
-#[tactic(auto, using(crate::proofs::Lines::line_len_le))]
+#[tactic(auto, using(crate::proofs::Lines::line_len_le, crate::proofs::Lines::newline_at, crate::proofs::Lines::no_newline))]
 fn line_len(text: &[u8]) -> usize
     ensures value { result ≡ line_len text.now }
     ensures within { result ≤ length text.now }
 {
-    text.iter().take_while(|b| **b != b'\n').count()
+    match memchr(b'\n', text) {
+        Some(len) => len,
+        None => text.len(),
+    }
 }
 
 /// The first line without its newline, and the text after it.
