@@ -1,24 +1,26 @@
 -- The first post that waits is delivered.
-use Rattle.std.proofs.Common.{◌≡◌, true, false, not, List, length, Option, None, Some, refl, sym, ap, ◌∙◌, subst}
+use Rattle.std.proofs.Common.{◌≡◌, ℕ, Bool, true, false, not, List, length, Option, None, Some, refl, sym, ap, ◌∙◌, subst}
 use Rattle.std.proofs.lemmas.Bool.{false≢true}
 use Rattle.std.specs.Borrow.{Bor}
 use Rattle.std.specs.Option.{option_map}
-use Rattle.std.specs.Prelude.{IfNone, IfSome, is_some, reverse, slice_get}
-use Rattle.hx_model.specs.Types.{Deliver, Entry, Input, Post, PostId, Script, Step}
+use Rattle.std.specs.Prelude.{IfNone, IfSome, Ok, is_some, reverse, slice_get}
+use Rattle.hx_model.specs.Types.{Actor, Deliver, Entry, Input, Post, PostId, Script, Session}
 use Rattle.hx_types.specs.declared.traces.Step.TheVariants as a_step
 use Rattle.hx_types.specs.Words.{below, first_some, when_some}
-use Rattle.hx_model.specs.Runs.{has_halted}
-use Rattle.hx_model.specs.Schedule.{Next, delivery_of, entry_by, idle_among, next_input, with_entry}
-use Rattle.hx_world.specs.declared.ends.StepError.{StepError}
-use Rattle.hx_world.specs.Idle.{IsNextStep, IsPostedFirst, IsRunningPost, RefusesDelivery, RefusesNext}
-use Rattle.hx_world.specs.Invariant.{IsQueue}
+use Rattle.hx_model.specs.Runs.{does_something, has_halted, is_actor, made_of, post_named, session_of}
+use Rattle.hx_model.specs.Schedule.{Next, delivery_of, entry_by, idle_among, is_idle, is_worn, next_input, with_entry}
+use Rattle.hx_world.specs.declared.ends.DrainError.{DrainError}
+use Rattle.hx_world.specs.declared.ends.DrainError.TheVariants.{Memory, Worn}
+use Rattle.hx_world.specs.declared.sessions.CountedSession.{CountedSession}
+use Rattle.hx_world.specs.Idle.{IsFirstIdle, IsNoneIdle, IsPostedFirst, IsRunningPost}
+use Rattle.hx_world.specs.Invariant.{AreAt, IsQueue, IsSessionAt, session_at}
 use Rattle.hx_world.specs.Names.{can_receive}
-use Rattle.hx_world.specs.Nexts.{DeliversNext}
-use Rattle.hx_world.specs.Turns.{HasNoTurn, HasTurn}
-use Rattle.hx_world.specs.Worlds.{Advances, Refuses, Steps}
+use Rattle.hx_world.specs.Nexts.{DeliversNext, FailsAt, Makes, delivery_in, tick_of}
+use Rattle.hx_world.specs.Turns.{FailsTurn, HasTurn, IsTurn}
+use Rattle.hx_world.specs.Worlds.{Advances, Fails, Steps}
 use Rattle.hx_world.proofs.Queueing.{lowest_posted}
-use Rattle.hx_world.proofs.Scheduling.{advanced, delivery_next}
-use Rattle.hx_world.proofs.Stepping.{delivered, not_delivered}
+use Rattle.hx_world.proofs.Scheduling.{first_next, first_there, idle_first, made_advances, next_fails, none_next, rested, some_same}
+use Rattle.hx_world.proofs.Stepping.{delivered}
 
 -- a post whose receiver hasn't halted can be received
 pub receives : (script : Script) (t : List Entry) (id : PostId) (p : Post) → IsRunningPost script t id p → can_receive script t id ≡ true
@@ -39,14 +41,7 @@ module _ (script other : Script) (trace before : List Entry) (waiting : List Pos
   pub posted : IsPostedFirst other (reverse before) id
   posted = lowest_posted script other trace before waiting id q same earlier first (receives script (reverse trace) id p r)
 
-  -- its delivery is the next step
-  pub running_next : IsNextStep other (reverse before) (a_step.Deliver id)
-  running_next = delivery_next other (reverse before) id posted
-
-  here : IsNextStep script (reverse trace) (a_step.Deliver id)
-  here = delivery_next script (reverse trace) id (lowest_posted script script trace trace waiting id q refl refl first (receives script (reverse trace) id p r))
-
-  -- which was made
+  -- its delivery was made
   pub made_next : (input : Input) (new : List Entry) → input ≡ Deliver id p.from p.message → HasTurn script (reverse trace) new p.to input → DeliversNext other (reverse before) new true
   made_next input new is h =
       let o = posted in
@@ -59,37 +54,65 @@ module _ (script other : Script) (trace before : List Entry) (waiting : List Pos
         made.trace ∙ ap (λ (x : Option Post). with_entry (reverse before) (option_map (entry_by other (reverse before)) (option_map (delivery_of id) x))) o.named,
       )
 
-  -- or not
-  pub refused_next : (input : Input) (e : StepError) → input ≡ Deliver id p.from p.message → HasNoTurn script (reverse trace) p.to input e → RefusesDelivery other (reverse before) e
-  refused_next input e is h =
-      subst (λ (l : List Entry). RefusesDelivery other (reverse l) e) earlier
-      (subst (λ (x : Script). RefusesDelivery x (reverse trace) e) same (
-        id,
-        lowest_posted script script trace trace waiting id q refl refl first (receives script (reverse trace) id p r),
-        not_delivered script (reverse trace) id p r.named e (subst (λ (x : Input). HasNoTurn script (reverse trace) p.to x e) is h),
-      ))
+  -- or not: only a worn receiver stands in its way
+  pub failed_next : (input : Input) (e : DrainError) → FailsTurn script (reverse trace) p.to input e → FailsAt (reverse before) (delivery_in other (reverse before)) e
+  failed_next input Memory h = tt
+  failed_next input (Worn b) h =
+      let o = posted in
+      let sent : post_named id (reverse before) ≡ Some p = subst (λ (l : List Entry). post_named id (reverse l) ≡ Some p) earlier r.named in (
+        delivery_of id o.sent,
+        o.first,
+        ap (λ (x : Post). x.to) (some_same (sym o.named ∙ sent)) ∙ sym h.actor,
+        subst (λ (l : List Entry). is_worn b (reverse l) ≡ true) earlier (subst (λ (x : Actor). is_worn x (reverse trace) ≡ true) (sym h.actor) h.worn),
+      )
+
+-- a delivery to an actor makes an entry
+pub delivers_copy : (script : Script) (old new : List Entry) (a : Actor) (id : PostId) (p : Post) (input other : Input) (made : Bool) → input ≡ Deliver id p.from p.message → input ≡ other
+    → IsTurn script old new a input (Ok made) → HasTurn script old new a other
+delivers_copy script old new a id p input other true is same h = subst (HasTurn script old new a) same h
+delivers_copy script old new a id p input other false is same h =
+    absurd (false≢true (sym (subst (λ (x : Input). does_something x (made_of script old a x) ≡ false) is h.nothing)))
 
 -- the first delivery is the next entry
+first_is_next : (script : Script) (t : List Entry) (next : Next) → delivery_in script t ≡ Some next → next_input script t ≡ Some next
+first_is_next script t next first = ap (λ (o : Option Next). first_some o (idle_among script t (below (length script.sessions)))) first
+
 pub delivers_next : (script : Script) (old new : List Entry) → DeliversNext script old new true → Advances script old new true
-delivers_next script old new (next, first, made) =
-    let is : next_input script old ≡ Some next = ap (λ (o : Option Next). first_some o (idle_among script old (below (length script.sessions)))) first in
-    record {
-      trace = made ∙ sym (ap (λ (o : Option Next). with_entry old (option_map (entry_by script old) o)) is);
-      told = sym (ap (λ (o : Option Next). is_some (option_map (entry_by script old) o)) is);
-    }
+delivers_next script old new (next, first, made) = made_advances script old new next (first_is_next script old next first) made
 
-pub refuses_next : (script : Script) (t : List Entry) (e : StepError) → RefusesDelivery script t e → RefusesNext script t e
-refuses_next script t e (id, first, why) = (a_step.Deliver id, delivery_next script t id first, why)
+pub fails_next : (script : Script) (t : List Entry) (e : DrainError) → FailsAt t (delivery_in script t) e → Fails script t e
+fails_next script t Memory h = tt
+fails_next script t (Worn a) (next, first, actor, worn) = next_fails script t next (Worn a) (first_is_next script t next first) (next, refl, actor, worn)
 
--- the step after a look at the queue was made
-pub made_after : (script after : Script) (trace later : List Entry) (new : List Entry) (step : Step) → after ≡ script → later ≡ trace
-    → IsNextStep script (reverse trace) step → Steps after (reverse later) new step → Advances script (reverse trace) new true
-made_after script after trace later new step same earlier n s =
-    advanced script (reverse trace) new step n
-    (subst (λ (l : List Entry). Steps script (reverse l) new step) earlier (subst (λ (x : Script). Steps x (reverse later) new step) same s))
+-- no post is delivered, and the queue was looked at
+module _ (script after : Script) (trace later : List Entry) (sessions : List CountedSession) (same : after ≡ script) (earlier : later ≡ trace)
+    (none : delivery_in script (reverse trace) ≡ None) (are : AreAt (length after.sessions) (IsSessionAt after (reverse later)) sessions) where
+  none_after : delivery_in after (reverse later) ≡ None
+  none_after =
+      subst (λ (l : List Entry). delivery_in after (reverse l) ≡ None) (sym earlier)
+      (subst (λ (x : Script). delivery_in x (reverse trace) ≡ None) (sym same) none)
 
--- or not
-pub refused_after : (script after : Script) (trace later : List Entry) (step : Step) (e : StepError) → after ≡ script → later ≡ trace
-    → IsNextStep script (reverse trace) step → Refuses after (reverse later) step e → RefusesNext script (reverse trace) e
-refused_after script after trace later step e same earlier n r =
-    (step, n, subst (λ (l : List Entry). Refuses script (reverse l) step e) earlier (subst (λ (x : Script). Refuses x (reverse later) step e) same r))
+  before : (P : Script → List Entry → Type 0) → P after (reverse later) → P script (reverse trace)
+  before P h = subst (λ (l : List Entry). P script (reverse l)) earlier (subst (λ (x : Script). P x (reverse later)) same h)
+
+  -- nor is a session idle
+  pub rests_after : IsNoneIdle sessions → Advances script (reverse trace) (reverse later) false
+  rests_after idle = before (λ x t. Advances x t (reverse later) false) (rested after (reverse later) (none_next after (reverse later) sessions are none_after idle))
+
+  -- the lowest idle session begins its next call
+  module _ (place : ℕ) (first : IsFirstIdle sessions place) where
+    pub begin_there : is_actor after (Session (session_at place)) ≡ true
+    begin_there = first_there after (reverse later) sessions are none_after place first
+
+    pub begin_idle : is_idle (session_of after (session_at place) (reverse later)) ≡ true
+    begin_idle = idle_first after (reverse later) sessions are none_after place first
+
+    pub begun_next : (new : List Entry) → Makes after (reverse later) new (tick_of (session_at place)) → Advances script (reverse trace) new true
+    begun_next new made =
+        before (λ x t. Advances x t new true)
+        (made_advances after (reverse later) new (tick_of (session_at place)) (first_next after (reverse later) sessions are none_after place first) made)
+
+    pub begin_fails_next : (e : DrainError) → FailsAt (reverse later) (Some (tick_of (session_at place))) e → Fails script (reverse trace) e
+    begin_fails_next e h =
+        before (λ x t. Fails x t e)
+        (next_fails after (reverse later) (tick_of (session_at place)) e (first_next after (reverse later) sessions are none_after place first) h)

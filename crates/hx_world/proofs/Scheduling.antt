@@ -1,25 +1,24 @@
 -- Which step the schedule takes next.
-use Rattle.std.proofs.Common.{◌≡◌, ℕ, zero, suc, ◌+◌, ◌<◌, inl, inr, Bool, true, false, not, ◌&&◌, List, [], ◌∷◌, ◌++◌, length, Option, Some, None, refl, sym, ap, ◌∙◌, subst, arith, cond, ltb, leb, add-one}
-use Rattle.std.specs.Prelude.{⊤, reverse, is_some, IsSomeAnd, MatchOption}
+use Rattle.std.proofs.Common.{◌≡◌, ℕ, zero, suc, ◌+◌, ◌<◌, inl, inr, Bool, true, false, not, ◌&&◌, List, [], ◌∷◌, ◌++◌, length, Option, Some, None, refl, sym, ap, ◌∙◌, subst, arith, ltb, leb, add-one}
+use Rattle.std.specs.Prelude.{Ok, reverse, is_some, IsSomeAnd, MatchOption}
 use Rattle.std.specs.Option.{option_map}
-use Rattle.std.proofs.lemmas.Bool.{cond-true, cond-false, cases_eq, and_from, and_parts, and_right, le-leb, lt-ltb, ltb-true, not-true}
+use Rattle.std.proofs.lemmas.Bool.{cond-true, cond-false, cases_eq, and_from, and_parts, and_right, false≢true, le-leb, lt-ltb, ltb-true, not-true}
 use Rattle.hx_model.specs.Types.{Actor, Entry, Op, Post, PostId, Script, Session, SessionId, Space, Step, Tick}
 use Rattle.hx_types.specs.declared.traces.Step.TheVariants as a_step
 use Rattle.hx_types.specs.Fitting.{numbered}
 use Rattle.hx_types.specs.Words.{below, first_some, when_some}
-use Rattle.hx_model.specs.Runs.{is_empty, does_something, session_of}
-use Rattle.hx_model.specs.Schedule as model
-use Rattle.hx_model.specs.Schedule.{Next, StepFault, delivery_of, entry_by, fault_of, first_delivery, idle_among, is_idle, is_worn, next_entry, next_input, step_input, undelivered, with_entry, worn_fault}
+use Rattle.hx_model.specs.Runs.{does_something, is_actor, is_empty, session_of}
+use Rattle.hx_model.specs.Schedule.{Next, StepFault, delivery_of, entry_by, first_delivery, idle_among, is_idle, is_worn, next_entry, next_input, undelivered, with_entry, worn_fault}
 use Rattle.hx_model.specs.SessionSteps.{SessionState, SessionStep, begin, session_step, session_tick, staying}
 use Rattle.hx_world.specs.declared.ends.DrainError.{DrainError}
-use Rattle.hx_world.specs.declared.ends.StepError.{StepError}
-use Rattle.hx_world.specs.declared.ends.StepError.TheVariants as an_error
+use Rattle.hx_world.specs.declared.ends.DrainError.TheVariants.{Memory, Worn}
 use Rattle.hx_world.specs.declared.sessions.CountedSession.{CountedSession}
 use Rattle.hx_world.specs.Idle.{IsFirstIdle, IsNextStep, IsNoneIdle, IsPostedFirst, is_idle_at}
 use Rattle.hx_world.specs.Invariant.{AreAt, IsSessionAt, session_at}
 use Rattle.hx_world.specs.Nexts as nexts
-use Rattle.hx_world.specs.Nexts.{FailsAt}
-use Rattle.hx_world.specs.Worlds.{Advances, IsWornOut, Refuses, Steps, drain_error}
+use Rattle.hx_world.specs.Nexts.{FailsAt, Makes}
+use Rattle.hx_world.specs.Turns.{FailsTurn, IsTurn}
+use Rattle.hx_world.specs.Worlds.{Advances, Fails}
 use Rattle.hx_world.proofs.Seating.{item_at}
 use Rattle.hx_world.proofs.Stepping.{delivery_fault, not_idle, tick_fault}
 
@@ -102,22 +101,35 @@ module _ (script : Script) (t : List Entry) (sessions : List CountedSession) (ar
       ap (λ (o : Option Next). first_some o (idle_among script t (below (length script.sessions)))) none
       ∙ ap (λ n. idle_among script t (below n)) (sym are.count)
 
-  -- else the lowest idle session begins its next call
-  pub tick_next : (place : ℕ) → IsFirstIdle sessions place → IsNextStep script t (a_step.Tick (Session (session_at place)))
-  tick_next place first =
-      let within = first.within in
-      let count = are.count in
-      let is_idle_here : is_idle (session_of script (session_at place) t) ≡ true = idle_is place first.within ∙ first.idle in
-      let enough = idle_makes script.space (session_of script (session_at place) t) is_idle_here in
-      record {
-        next = tick_of place;
-        is_next = idles_next ∙ first_below script t (length sessions) place first.within is_idle_here (λ j l. idle_is j (omega (arith, l, within)) ∙ first.lowest j l);
-        input = refl;
-        taken = and_from (ltb 0 (place + 1)) (leb (place + 1) (length script.sessions)) (lt-ltb 0 (place + 1) (omega arith)) (le-leb (place + 1) (length script.sessions) (omega (arith, within, count)));
-        fault =
-            tick_fault script t (Session (session_at place)) refl
-            ∙ ap (λ (o : Option StepFault). first_some o (worn_fault t (Session (session_at place)))) (not_idle script t (Session (session_at place)) enough);
-      }
+  module _ (place : ℕ) (first : IsFirstIdle sessions place) where
+    -- the lowest idle session can begin a call
+    pub idle_first : is_idle (session_of script (session_at place) t) ≡ true
+    idle_first = idle_is place first.within ∙ first.idle
+
+    pub first_there : is_actor script (Session (session_at place)) ≡ true
+    first_there =
+        let within = first.within in
+        let count = are.count in
+        and_from (ltb 0 (place + 1)) (leb (place + 1) (length script.sessions)) (lt-ltb 0 (place + 1) (omega arith)) (le-leb (place + 1) (length script.sessions) (omega (arith, within, count)))
+
+    -- else that is next
+    pub first_next : next_input script t ≡ Some (tick_of place)
+    first_next =
+        let within = first.within in
+        idles_next ∙ first_below script t (length sessions) place first.within idle_first (λ j l. idle_is j (omega (arith, l, within)) ∙ first.lowest j l)
+
+    pub tick_next : IsNextStep script t (a_step.Tick (Session (session_at place)))
+    tick_next =
+        let enough = idle_makes script.space (session_of script (session_at place) t) idle_first in
+        record {
+          next = tick_of place;
+          is_next = first_next;
+          input = refl;
+          taken = first_there;
+          fault =
+              tick_fault script t (Session (session_at place)) refl
+              ∙ ap (λ (o : Option StepFault). first_some o (worn_fault t (Session (session_at place)))) (not_idle script t (Session (session_at place)) enough);
+        }
 
   -- else there is no next step
   pub none_next : IsNoneIdle sessions → next_input script t ≡ None
@@ -130,11 +142,11 @@ sessions_still script after trace later sessions same earlier are =
     subst (λ (l : List Entry). AreAt (length script.sessions) (IsSessionAt script (reverse l)) sessions) earlier
     (subst (λ (x : Script). AreAt (length x.sessions) (IsSessionAt x (reverse later)) sessions) same are)
 
--- the next step was made
-pub advanced : (script : Script) (old new : List Entry) (step : Step) → IsNextStep script old step → Steps script old new step → Advances script old new true
-advanced script old new step n s = record {
-  trace = s.trace ∙ ap (λ (o : Option Next). with_entry old (option_map (entry_by script old) o)) (n.input ∙ sym n.is_next);
-  told = sym (ap (λ (o : Option Next). is_some (option_map (entry_by script old) o)) n.is_next);
+-- the next entry was made
+pub made_advances : (script : Script) (old new : List Entry) (next : Next) → next_input script old ≡ Some next → Makes script old new next → Advances script old new true
+made_advances script old new next is made = record {
+  trace = made ∙ sym (ap (λ (o : Option Next). with_entry old (option_map (entry_by script old) o)) is);
+  told = sym (ap (λ (o : Option Next). is_some (option_map (entry_by script old) o)) is);
 }
 
 -- there was none
@@ -144,39 +156,19 @@ rested script t none = record {
   told = sym (ap (λ (o : Option Next). is_some (option_map (entry_by script t) o)) none);
 }
 
-worn_by : (b : Bool) (a x : Actor) → cond b (Some (model.Worn a)) None ≡ Some (model.Worn x) → (b ≡ true) × (a ≡ x)
-worn_by true a x e = (refl, cc)
-worn_by false a x e = cc
+pub some_same : {A : Type 0} {x y : A} → Some x ≡ Some y → x ≡ y
+some_same {A} {x} {y} h = ap (λ (o : Option A). from o) h where
+  from : Option A → A
+  from None = x
+  from (Some z) = z
 
--- only a worn actor stands in its way
-pub worn_out : (script : Script) (t : List Entry) (step : Step) (a : Actor) → IsNextStep script t step → Refuses script t step (an_error.Worn a) → IsWornOut script t a
-worn_out script t step a n r =
-    let h = worn_by (is_worn n.next.actor t) n.next.actor a (sym n.fault ∙ r) in
-    record {
-      next = subst (λ (o : Option Next). IsSomeAnd (option_map (entry_by script t) o) (λ (x : Entry). x.actor ≡ a)) (sym n.is_next) h.1;
-      worn = subst (λ (x : Actor). is_worn x t ≡ true) h.1 h.0;
-    }
-
--- no other error comes
-abbrev pub IsOther : StepError → Type 0
-IsOther an_error.Memory = ⊥
-IsOther an_error.Unsent = ⊤
-IsOther an_error.Halted = ⊤
-IsOther an_error.NotServer = ⊤
-IsOther an_error.Idle = ⊤
-IsOther (an_error.Worn a) = ⊥
-
-no_fault : (b : Bool) (a : Actor) (f : StepFault) → ((x : Actor) → f ≡ model.Worn x → ⊥) → cond b (Some (model.Worn a)) None ≡ Some f → ⊥
-no_fault true a f other e = other a (let same : f ≡ model.Worn a = cc in same)
-no_fault false a f other e = cc
-
-pub no_other : (script : Script) (t : List Entry) (step : Step) (e : StepError) → IsNextStep script t step → Refuses script t step e → IsOther e → ⊥
-no_other script t step an_error.Memory n r o = o
-no_other script t step an_error.Unsent n r o = no_fault (is_worn n.next.actor t) n.next.actor model.Unsent (λ x e. cc) (sym n.fault ∙ r)
-no_other script t step an_error.Halted n r o = no_fault (is_worn n.next.actor t) n.next.actor model.Halted (λ x e. cc) (sym n.fault ∙ r)
-no_other script t step an_error.NotServer n r o = no_fault (is_worn n.next.actor t) n.next.actor model.NotServer (λ x e. cc) (sym n.fault ∙ r)
-no_other script t step an_error.Idle n r o = no_fault (is_worn n.next.actor t) n.next.actor model.Idle (λ x e. cc) (sym n.fault ∙ r)
-no_other script t step (an_error.Worn a) n r o = o
+-- or not
+pub next_fails : (script : Script) (t : List Entry) (next : Next) (e : DrainError) → next_input script t ≡ Some next → FailsAt t (Some next) e → Fails script t e
+next_fails script t next Memory is h = tt
+next_fails script t next (Worn a) is (n, same, actor, worn) = record {
+  next = subst (λ (o : Option Next). IsSomeAnd (option_map (entry_by script t) o) (λ (x : Entry). x.actor ≡ a)) (sym is) (ap (λ (x : Next). x.actor) (some_same same) ∙ actor);
+  worn = worn;
+}
 
 -- whether there is a next entry
 pub next_told : (script : Script) (t : List Entry) (step : Option Step) → MatchOption step (next_input script t ≡ None) (IsNextStep script t) → is_some step ≡ is_some (next_entry script t)
@@ -185,43 +177,13 @@ next_told script t (Some step) n = sym (ap (λ (o : Option Next). is_some (optio
 
 -- ---- a session that is told to begin
 
-some_same : {A : Type 0} {x y : A} → Some x ≡ Some y → x ≡ y
-some_same {A} {x} {y} h = ap (λ (o : Option A). from o) h where
-  from : Option A → A
-  from None = x
-  from (Some z) = z
-
--- an error that ends no drain
-pub other_told : (e : StepError) → drain_error e ≡ None → IsOther e
-other_told an_error.Memory h = cc
-other_told an_error.Unsent h = tt
-other_told an_error.Halted h = tt
-other_told an_error.NotServer h = tt
-other_told an_error.Idle h = tt
-other_told (an_error.Worn a) h = cc
-
-module _ (script : Script) (t : List Entry) (u : SessionId) (idle : is_idle (session_of script u t) ≡ true) where
-  begin_fault : fault_of script t (a_step.Tick (Session u)) ≡ worn_fault t (Session u)
-  begin_fault =
-      tick_fault script t (Session u) refl
-      ∙ ap (λ (o : Option StepFault). first_some o (worn_fault t (Session u))) (not_idle script t (Session u) (idle_makes script.space (session_of script u t) idle))
+module _ (script : Script) (t : List Entry) (u : SessionId) where
+  -- an idle session makes an entry
+  pub begins : (new : List Entry) (made : Bool) → is_idle (session_of script u t) ≡ true → IsTurn script t new (Session u) Tick (Ok made) → Makes script t new (nexts.tick_of u)
+  begins new true idle h = h.trace
+  begins new false idle h = absurd (false≢true (sym h.nothing ∙ idle_makes script.space (session_of script u t) idle))
 
   -- only a worn session can't
-  pub begin_fails : (e : StepError) (f : DrainError) → Refuses script t (a_step.Tick (Session u)) e → drain_error e ≡ Some f → FailsAt t (Some (nexts.tick_of u)) f
-  begin_fails an_error.Memory f r h = subst (FailsAt t (Some (nexts.tick_of u))) (some_same h) tt
-  begin_fails (an_error.Worn a) f r h =
-      let w = worn_by (is_worn (Session u) t) (Session u) a (sym begin_fault ∙ r) in
-      subst (FailsAt t (Some (nexts.tick_of u))) (some_same h) (nexts.tick_of u, refl, w.1, subst (λ (x : Actor). is_worn x t ≡ true) w.1 w.0)
-  begin_fails an_error.Unsent f r h = cc
-  begin_fails an_error.Halted f r h = cc
-  begin_fails an_error.NotServer f r h = cc
-  begin_fails an_error.Idle f r h = cc
-
-  -- no other error comes
-  pub begin_no_other : (e : StepError) → Refuses script t (a_step.Tick (Session u)) e → IsOther e → ⊥
-  begin_no_other an_error.Memory r o = o
-  begin_no_other an_error.Unsent r o = no_fault (is_worn (Session u) t) (Session u) model.Unsent (λ x e. cc) (sym begin_fault ∙ r)
-  begin_no_other an_error.Halted r o = no_fault (is_worn (Session u) t) (Session u) model.Halted (λ x e. cc) (sym begin_fault ∙ r)
-  begin_no_other an_error.NotServer r o = no_fault (is_worn (Session u) t) (Session u) model.NotServer (λ x e. cc) (sym begin_fault ∙ r)
-  begin_no_other an_error.Idle r o = no_fault (is_worn (Session u) t) (Session u) model.Idle (λ x e. cc) (sym begin_fault ∙ r)
-  begin_no_other (an_error.Worn a) r o = o
+  pub begin_fails : (e : DrainError) → FailsTurn script t (Session u) Tick e → FailsAt t (Some (nexts.tick_of u)) e
+  begin_fails Memory h = tt
+  begin_fails (Worn a) h = (nexts.tick_of u, refl, sym h.actor, subst (λ (x : Actor). is_worn x t ≡ true) (sym h.actor) h.worn)

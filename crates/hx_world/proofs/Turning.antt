@@ -1,6 +1,6 @@
 -- An actor of a world is given an input, in terms of the world's fields; traces of worlds stand oldest first.
 use Rattle.std.proofs.Common.{◌≡◌, ℕ, ◌+◌, ◌-◌, ◌<◌, ◌≤◌, true, false, List, [], ◌∷◌, ◌++◌, length, set, refl, sym, ap, ◌∙◌, subst, arith, get_or, vec_len}
-use Rattle.std.specs.Prelude.{reverse}
+use Rattle.std.specs.Prelude.{Bool, Err, Ok, Result, reverse, ⊤}
 use Rattle.std.proofs.lemmas.Bool.{le-leb, lt-leb}
 use Rattle.std.proofs.lemmas.List.{reverse-append, length-reverse}
 use Rattle.hx_model.specs.Types.{Actor, Coordinator, Entry, Input, PostId, Script, Server, ServerId, Session, SessionId, Space}
@@ -18,8 +18,8 @@ use Rattle.hx_world.specs.Coordinators as counted_coordinator
 use Rattle.hx_world.specs.declared.coordinators.CountedCoordinator.{CountedCoordinator}
 use Rattle.hx_law_folds.specs.Folding.{IsServerOf as AreInOrder, folded_server}
 use Rattle.hx_world.specs.declared.actors.Actors.{Actors}
-use Rattle.hx_world.specs.declared.ends.StepError.{StepError}
-use Rattle.hx_world.specs.declared.ends.StepError.TheVariants.{Memory, Unsent, Halted, NotServer, Idle, Worn}
+use Rattle.hx_world.specs.declared.ends.DrainError.{DrainError}
+use Rattle.hx_world.specs.declared.ends.DrainError.TheVariants.{Memory, Worn}
 use Rattle.hx_world.specs.declared.servers.CountedServer.{CountedServer}
 use Rattle.hx_world.specs.declared.logs.Log.{Log}
 use Rattle.hx_world.specs.declared.sessions.CountedSession.{CountedSession}
@@ -28,7 +28,7 @@ use Rattle.hx_world.specs.Servers as counted_server
 use Rattle.hx_world.specs.Sessions as counted_session
 use Rattle.hx_world.specs.Invariant.{AreAt, IsCoordinatorAfter, IsServerAt, IsSessionAt, IsWorldOf, IsWorldOn, server_at, session_at}
 use Rattle.hx_world.specs.Names.{AreAscending}
-use Rattle.hx_world.specs.Turns.{HasNoTurn, HasTurn, IsAdmitted, IsBarred, entry_does_something}
+use Rattle.hx_world.specs.Turns.{FailsTurn, HasTurn, IfMade, IsAdmitted, IsBarred, IsDecided, IsIdleActor, IsTurn, entry_does_something}
 use Rattle.hx_world.specs.Worlds.{most_entries}
 use Rattle.hx_world.proofs.Advancing.{IsGiven, attended_entry, attended_world, coordinated_entry, coordinated_world, given, served_entry, served_world}
 use Rattle.hx_world.proofs.Seating.{at_set, item_read}
@@ -46,6 +46,12 @@ ascending script actors log w = w.queue.ascending
 pub record Goes (script : Script) (old : Log) (a : Actor) (input : Input) (actors : Actors) (new : Log) : Type 0 where
   pub world : IsWorldOn script actors new
   pub turn : HasTurn script (reverse old.trace) (reverse new.trace) a input
+
+-- what became of an input: an entry was filed, or the world is as before
+pub record Came (script : Script) (old : Log) (a : Actor) (input : Input) (actors : Actors) (new : Log) (result : Result Bool DrainError) : Type 0 where
+  pub world : IsWorldOn script actors new
+  pub turn : IsTurn script (reverse old.trace) (reverse new.trace) a input result
+  pub same : IfMade result ⊤ (new.trace ≡ old.trace)
 
 reverse_push : (trace : List Entry) (e : Entry) → reverse (trace ++ e ∷ []) ≡ e ∷ reverse trace
 reverse_push trace e = reverse-append trace (e ∷ [])
@@ -70,13 +76,9 @@ goes script old new a input actors e is files running enough fresh w =
     }
 
 -- an entry that is barred is no turn
-no_turn : (script : Script) (t : List Entry) (a : Actor) (input : Input) (e : Entry) (n : ℕ) (error : StepError) → e ≡ entry_by script t (given a input) → n ≡ entries_of a t → has_halted script t a ≡ false
-    → IsBarred e n error → HasNoTurn script t a input error
+no_turn : (script : Script) (t : List Entry) (a : Actor) (input : Input) (e : Entry) (n : ℕ) (error : DrainError) → e ≡ entry_by script t (given a input) → n ≡ entries_of a t → has_halted script t a ≡ false
+    → IsBarred e n error → FailsTurn script t a input error
 no_turn script t a input e n Memory is count running b = tt
-no_turn script t a input e n Unsent is count running b = b
-no_turn script t a input e n Halted is count running b = absurd b
-no_turn script t a input e n NotServer is count running b = b
-no_turn script t a input e n Idle is count running b = record { running = running; nothing = ap entry_does_something (sym is) ∙ b }
 no_turn script t a input e n (Worn x) is count running b =
     let many = b.many in
     record {
@@ -85,6 +87,11 @@ no_turn script t a input e n (Worn x) is count running b =
       worn = le-leb 1048576 (entries_of a t) (omega (arith, many, count));
       actor = b.actor ∙ ap (λ (y : Entry). y.actor) is;
     }
+
+-- nor is an entry with nothing in it
+idle_turn : (script : Script) (t : List Entry) (a : Actor) (input : Input) (e : Entry) → e ≡ entry_by script t (given a input) → has_halted script t a ≡ false
+    → entry_does_something e ≡ false → IsIdleActor script t a input
+idle_turn script t a input e is running nothing = record { running = running; nothing = ap entry_does_something (sym is) ∙ nothing }
 
 -- the same log with other actors
 world_with : (script : Script) (actors after : Actors) (log same : Log) → IsWorldOn script actors log → IsSameLog log same
@@ -111,7 +118,7 @@ module _ (script : Script) (actors : Actors) (log : Log) (w : IsWorldOn script a
     coordinated_is = coordinated_entry script t actors.servers.items actors.sessions.items actors.coordinator log.waiting.items w input
 
     -- it took the input
-    pub coordinated : (actors_after : Actors) (after : Log) → MayTake t Coordinator input → Files log after (coordinator.coordinator_entry actors.coordinator.coordinator input)
+    coordinated : (actors_after : Actors) (after : Log) → MayTake t Coordinator input → Files log after (coordinator.coordinator_entry actors.coordinator.coordinator input)
         → IsAdmitted (coordinator.coordinator_entry actors.coordinator.coordinator input) actors.coordinator.entries
         → counted_coordinator.HasTaken actors.coordinator actors_after.coordinator input → actors_after.servers.items ≡ actors.servers.items → actors_after.sessions.items ≡ actors.sessions.items
         → Goes script log Coordinator input actors_after after
@@ -128,17 +135,34 @@ module _ (script : Script) (actors : Actors) (log : Log) (w : IsWorldOn script a
         )
 
     -- it may not make the entry
-    pub not_coordinated : (error : StepError) → IsBarred (coordinator.coordinator_entry actors.coordinator.coordinator input) actors.coordinator.entries error → HasNoTurn script t Coordinator input error
+    not_coordinated : (error : DrainError) → IsBarred (coordinator.coordinator_entry actors.coordinator.coordinator input) actors.coordinator.entries error → FailsTurn script t Coordinator input error
     not_coordinated error b = no_turn script t Coordinator input (coordinator.coordinator_entry actors.coordinator.coordinator input) actors.coordinator.entries error coordinated_is w.coordinator_is.entries refl b
 
     -- it is as before
-    pub uncoordinated : (after : Actors) (same : Log) → IsSameLog log same → counted_coordinator.IsSameCoordinator actors.coordinator after.coordinator
+    uncoordinated : (after : Actors) (same : Log) → IsSameLog log same → counted_coordinator.IsSameCoordinator actors.coordinator after.coordinator
         → after.servers.items ≡ actors.servers.items → after.sessions.items ≡ actors.sessions.items → IsWorldOn script after same
     uncoordinated after same logs kept servers sessions =
         world_with script actors after log same w logs
         (subst (λ (l : List CountedServer). AreAt script.space.servers (IsServerAt script t) l) (sym servers) w.servers_are)
         (subst (λ (l : List CountedSession). AreAt (length script.sessions) (IsSessionAt script t) l) (sym sessions) w.sessions_are)
         (record { state = kept.state ∙ w.coordinator_is.state; entries = kept.entries ∙ w.coordinator_is.entries })
+
+    -- what became of the input
+    pub came_to_coordinator : (after : Actors) (new : Log) (result : Result Bool DrainError) → MayTake t Coordinator input
+        → IsDecided (coordinator.coordinator_entry actors.coordinator.coordinator input) actors.coordinator.entries result
+        → IfMade result (Files log new (coordinator.coordinator_entry actors.coordinator.coordinator input)) (IsSameLog log new)
+        → IfMade result (counted_coordinator.HasTaken actors.coordinator after.coordinator input) (counted_coordinator.IsSameCoordinator actors.coordinator after.coordinator)
+        → after.servers.items ≡ actors.servers.items → after.sessions.items ≡ actors.sessions.items → Came script log Coordinator input after new result
+    came_to_coordinator after new (Ok true) may d files takes servers sessions =
+        let g = coordinated after new may files d takes servers sessions in
+        record { world = g.world; turn = g.turn; same = tt }
+    came_to_coordinator after new (Ok false) may d logs kept servers sessions = record {
+      world = uncoordinated after new logs kept servers sessions;
+      turn = idle_turn script t Coordinator input (coordinator.coordinator_entry actors.coordinator.coordinator input) coordinated_is refl d;
+      same = logs.trace;
+    }
+    came_to_coordinator after new (Err error) may d logs kept servers sessions =
+        record { world = uncoordinated after new logs kept servers sessions; turn = not_coordinated error d; same = logs.trace }
 
   -- a server
   module _ (s : ServerId) (actor : is_actor script (Server s) ≡ true) where
@@ -215,9 +239,9 @@ module _ (script : Script) (actors : Actors) (log : Log) (w : IsWorldOn script a
           )
 
       -- it may not make the entry
-      pub not_served : (error : StepError) → IsBarred (server.server_entry h.server.space h.server.state input) h.entries error → HasNoTurn script t (Server s) input error
+      pub not_served : (error : DrainError) → IsBarred (server.server_entry h.server.space h.server.state input) h.entries error → FailsTurn script t (Server s) input error
       not_served error b =
-          subst (λ (x : ServerId). HasNoTurn script t (Server x) input error) place_is
+          subst (λ (x : ServerId). FailsTurn script t (Server x) input error) place_is
           (no_turn script t (Server (server_at (s.0 - 1))) input (server.server_entry h.server.space h.server.state input) h.entries error served_is (server_here h read).entries running_at b)
 
       -- it is as before
@@ -234,6 +258,25 @@ module _ (script : Script) (actors : Actors) (log : Log) (w : IsWorldOn script a
           )
           (subst (λ (l : List CountedSession). AreAt (length script.sessions) (IsSessionAt script t) l) (sym sessions) w.sessions_are)
           (subst (IsCoordinatorAfter script t) (sym coordinator) w.coordinator_is)
+
+      -- what became of the input
+      pub came_to_server : (after_server : CountedServer) (after : Actors) (new : Log) (result : Result Bool DrainError) → IsDecided (server.server_entry h.server.space h.server.state input) h.entries result
+          → IfMade result (Files log new (server.server_entry h.server.space h.server.state input)) (IsSameLog log new)
+          → IfMade result (counted_server.HasTaken h after_server input) (counted_server.IsSameServer h after_server)
+          → after.coordinator ≡ actors.coordinator → after.servers.items ≡ set actors.servers.items (s.0 - 1) after_server → after.sessions.items ≡ actors.sessions.items
+          → Came script log (Server s) input after new result
+      came_to_server after_server after new (Ok true) d files takes coordinator servers sessions =
+          let g = served after_server after new files takes d coordinator servers sessions in
+          record { world = g.world; turn = g.turn; same = tt }
+      came_to_server after_server after new (Ok false) d logs kept coordinator servers sessions = record {
+        world = unserved after_server after new kept logs coordinator servers sessions;
+        turn =
+            subst (λ (x : ServerId). IsIdleActor script t (Server x) input) place_is
+            (idle_turn script t (Server (server_at (s.0 - 1))) input (server.server_entry h.server.space h.server.state input) served_is running_at d);
+        same = logs.trace;
+      }
+      came_to_server after_server after new (Err error) d logs kept coordinator servers sessions =
+          record { world = unserved after_server after new kept logs coordinator servers sessions; turn = not_served error d; same = logs.trace }
 
   -- a session
   module _ (u : SessionId) (actor : is_actor script (Session u) ≡ true) where
@@ -323,7 +366,27 @@ module _ (script : Script) (actors : Actors) (log : Log) (w : IsWorldOn script a
           )
 
       -- it may not make the entry
-      pub not_attended : (error : StepError) → IsBarred (session.session_entry x.session.space x.session.state input) x.entries error → HasNoTurn script t (Session u) input error
+      pub not_attended : (error : DrainError) → IsBarred (session.session_entry x.session.space x.session.state input) x.entries error → FailsTurn script t (Session u) input error
       not_attended error b =
-          subst (λ (v : SessionId). HasNoTurn script t (Session v) input error) session_is
+          subst (λ (v : SessionId). FailsTurn script t (Session v) input error) session_is
           (no_turn script t (Session (session_at (u.0 - 1))) input (session.session_entry x.session.space x.session.state input) x.entries error attended_is (session_here x read).entries refl b)
+
+      -- what became of the input
+      pub came_to_session : (after_session : CountedSession) (after : Actors) (new : Log) (result : Result Bool DrainError) → MayTake t (Session u) input
+          → IsDecided (session.session_entry x.session.space x.session.state input) x.entries result
+          → IfMade result (Files log new (session.session_entry x.session.space x.session.state input)) (IsSameLog log new)
+          → IfMade result (counted_session.HasTaken x after_session input) (counted_session.IsSameSession x after_session)
+          → after.coordinator ≡ actors.coordinator → after.servers.items ≡ actors.servers.items → after.sessions.items ≡ set actors.sessions.items (u.0 - 1) after_session
+          → Came script log (Session u) input after new result
+      came_to_session after_session after new (Ok true) may d files takes coordinator servers sessions =
+          let g = attended after_session after new may files takes d coordinator servers sessions in
+          record { world = g.world; turn = g.turn; same = tt }
+      came_to_session after_session after new (Ok false) may d logs kept coordinator servers sessions = record {
+        world = unattended x read after_session after new kept logs coordinator servers sessions;
+        turn =
+            subst (λ (v : SessionId). IsIdleActor script t (Session v) input) session_is
+            (idle_turn script t (Session (session_at (u.0 - 1))) input (session.session_entry x.session.space x.session.state input) attended_is refl d);
+        same = logs.trace;
+      }
+      came_to_session after_session after new (Err error) may d logs kept coordinator servers sessions =
+          record { world = unattended x read after_session after new kept logs coordinator servers sessions; turn = not_attended error d; same = logs.trace }

@@ -1,13 +1,11 @@
 -- Which session begins its next call, and which step the schedule takes next.
 use Rattle.std.specs.Prelude.{◌≡◌, ℕ, ◌<◌, Bool, true, false, List, length, slice_get, Some}
 use Rattle.hx_model.specs.Types.{Entry, Post, PostId, Script, Step}
-use Rattle.hx_types.specs.declared.traces.Step.TheVariants as a_step
 use Rattle.hx_types.specs.Words.{when_some}
 use Rattle.hx_model.specs.Runs.{has_halted, post_named}
 use Rattle.hx_model.specs.Schedule.{Next, delivery_of, fault_of, first_delivery, is_idle, next_input, step_input, undelivered, worn_fault}
 use Rattle.hx_world.specs.declared.sessions.CountedSession.{CountedSession}
-use Rattle.hx_world.specs.declared.ends.StepError.{StepError}
-use Rattle.hx_world.specs.Worlds.{IsStepOf, Refuses}
+use Rattle.hx_world.specs.Worlds.{IsStepOf}
 
 -- the session of this place has a call left and none under way
 abbrev pub is_idle_at : List CountedSession → ℕ → Bool
@@ -41,11 +39,3 @@ pub record IsPostedFirst (script : Script) (t : List Entry) (id : PostId) : Type
 pub record IsRunningPost (script : Script) (t : List Entry) (id : PostId) (p : Post) : Type 0 where
   pub named : post_named id t ≡ Some p
   pub running : has_halted script t p.to ≡ false
-
--- why the next step wasn't made
-abbrev pub RefusesNext : Script → List Entry → StepError → Type 0
-RefusesNext script t e = (step : Step) × IsNextStep script t step × Refuses script t step e
-
--- why the first delivery wasn't made
-abbrev pub RefusesDelivery : Script → List Entry → StepError → Type 0
-RefusesDelivery script t e = (id : PostId) × IsPostedFirst script t id × Refuses script t (a_step.Deliver id) e

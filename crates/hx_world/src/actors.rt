@@ -1,13 +1,13 @@
-ghost use Rattle.std.specs.Prelude.{◌≡◌, true, false, OnOk, OnErr, IfErr, reverse};
+ghost use Rattle.std.specs.Prelude.{◌≡◌, true, false, OnOk, OnErr, IfErr, reverse, ⊤};
 ghost use Rattle.hx_types.specs.declared.ids.Actor.TheVariants as an_actor;
 ghost use Rattle.hx_types.specs.declared.traces.Input.TheVariants as an_input;
 ghost use Rattle.hx_model.specs.Runs.{MayTake, has_halted, is_actor, session_of};
 ghost use Rattle.hx_model.specs.Schedule.{is_idle};
 ghost use Rattle.hx_world.specs.Invariant.{IsWorld};
-ghost use Rattle.hx_world.specs.Turns.{HasNoTurn, HasTurn};
+ghost use Rattle.hx_world.specs.Turns.{HasNoTurn, HasTurn, IfMade, IsTurn};
 
 use crate::coordinators::{CountedCoordinator, coordinator_takes};
-use crate::ends::StepError;
+use crate::ends::{DrainError, StepError};
 use crate::inside::Inside;
 use crate::servers::{CountedServer, server_takes};
 use crate::sessions::{CountedSession, session_takes, session_ticks};
@@ -85,25 +85,28 @@ pub fn actor_takes(
     if has_halted(inside, actor) {
         return Err(StepError::Halted);
     }
-    running_takes(alloc, inside, actor, input)
+    if !running_takes(alloc, inside, actor, input)? {
+        return Err(StepError::Idle);
+    }
+    Ok(())
 }
 
-/// An actor that hasn't halted takes an input, if the entry that it makes of it may be made.
+/// An actor that hasn't halted takes an input, if the entry that it makes of it may be made, and
+/// tells whether it made one: a tick may make nothing.
 pub fn running_takes(
     alloc: Global,
     inside: &mut Inside,
     actor: Actor,
     input: Input,
-) -> Result<(), StepError>
+) -> Result<bool, DrainError>
     requires world { IsWorld inside.old }
     requires actor { is_actor inside.old.script actor ≡ true }
     requires running { has_halted inside.old.script (reverse inside.old.log.trace) actor ≡ false }
     requires may { MayTake (reverse inside.old.log.trace) actor input }
     ensures world { IsWorld inside.new }
     ensures script { inside.new.script ≡ inside.old.script }
-    ensures ok { OnOk result (HasTurn inside.old.script (reverse inside.old.log.trace) (reverse inside.new.log.trace) actor input) }
-    ensures err { IfErr result (HasNoTurn inside.old.script (reverse inside.old.log.trace) actor input) }
-    ensures same { OnErr result (inside.new.log.trace ≡ inside.old.log.trace) }
+    ensures turn { IsTurn inside.old.script (reverse inside.old.log.trace) (reverse inside.new.log.trace) actor input result }
+    ensures same { IfMade result ⊤ (inside.new.log.trace ≡ inside.old.log.trace) }
 {
     match actor {
         Actor::Coordinator => to_coordinator(alloc, inside, input),
@@ -112,80 +115,78 @@ pub fn running_takes(
     }
 }
 
-/// Gives an input to the coordinator.
+/// Gives an input to the coordinator, and tells whether it made an entry of it.
 #[inline(never)]
-fn to_coordinator(alloc: Global, inside: &mut Inside, input: Input) -> Result<(), StepError>
+fn to_coordinator(alloc: Global, inside: &mut Inside, input: Input) -> Result<bool, DrainError>
     requires world { IsWorld inside.old }
     requires may { MayTake (reverse inside.old.log.trace) an_actor.Coordinator input }
     ensures world { IsWorld inside.new }
     ensures script { inside.new.script ≡ inside.old.script }
-    ensures ok { OnOk result (HasTurn inside.old.script (reverse inside.old.log.trace) (reverse inside.new.log.trace) an_actor.Coordinator input) }
-    ensures err { IfErr result (HasNoTurn inside.old.script (reverse inside.old.log.trace) an_actor.Coordinator input) }
-    ensures same { OnErr result (inside.new.log.trace ≡ inside.old.log.trace) }
+    ensures turn { IsTurn inside.old.script (reverse inside.old.log.trace) (reverse inside.new.log.trace) an_actor.Coordinator input result }
+    ensures same { IfMade result ⊤ (inside.new.log.trace ≡ inside.old.log.trace) }
 {
     coordinator_takes(
         alloc,
         &mut inside.actors.coordinator,
         &mut inside.log,
         input,
-    )?;
-    Ok(())
+    )
 }
 
-/// Gives an input to a server that hasn't halted.
+/// Gives an input to a server that hasn't halted, and tells whether it made an entry of it.
 fn to_server(
     alloc: Global,
     inside: &mut Inside,
     server: ServerId,
     input: Input,
-) -> Result<(), StepError>
+) -> Result<bool, DrainError>
     requires world { IsWorld inside.old }
     requires actor { is_actor inside.old.script (an_actor.Server server) ≡ true }
     requires running { has_halted inside.old.script (reverse inside.old.log.trace) (an_actor.Server server) ≡ false }
     requires may { MayTake (reverse inside.old.log.trace) (an_actor.Server server) input }
     ensures world { IsWorld inside.new }
     ensures script { inside.new.script ≡ inside.old.script }
-    ensures ok { OnOk result (HasTurn inside.old.script (reverse inside.old.log.trace) (reverse inside.new.log.trace) (an_actor.Server server) input) }
-    ensures err { IfErr result (HasNoTurn inside.old.script (reverse inside.old.log.trace) (an_actor.Server server) input) }
-    ensures same { OnErr result (inside.new.log.trace ≡ inside.old.log.trace) }
+    ensures turn { IsTurn inside.old.script (reverse inside.old.log.trace) (reverse inside.new.log.trace) (an_actor.Server server) input result }
+    ensures same { IfMade result ⊤ (inside.new.log.trace ≡ inside.old.log.trace) }
 {
     let counted = &mut inside.actors.servers[server.0 as usize - 1];
-    server_takes(alloc, counted, &mut inside.log, input)?;
-    Ok(())
+    server_takes(alloc, counted, &mut inside.log, input)
 }
 
-/// Gives an input to a session.
+/// Gives an input to a session, and tells whether it made an entry of it.
 fn to_session(
     alloc: Global,
     inside: &mut Inside,
     session: SessionId,
     input: Input,
-) -> Result<(), StepError>
+) -> Result<bool, DrainError>
     requires world { IsWorld inside.old }
     requires actor { is_actor inside.old.script (an_actor.Session session) ≡ true }
     requires may { MayTake (reverse inside.old.log.trace) (an_actor.Session session) input }
     ensures world { IsWorld inside.new }
     ensures script { inside.new.script ≡ inside.old.script }
-    ensures ok { OnOk result (HasTurn inside.old.script (reverse inside.old.log.trace) (reverse inside.new.log.trace) (an_actor.Session session) input) }
-    ensures err { IfErr result (HasNoTurn inside.old.script (reverse inside.old.log.trace) (an_actor.Session session) input) }
-    ensures same { OnErr result (inside.new.log.trace ≡ inside.old.log.trace) }
+    ensures turn { IsTurn inside.old.script (reverse inside.old.log.trace) (reverse inside.new.log.trace) (an_actor.Session session) input result }
+    ensures same { IfMade result ⊤ (inside.new.log.trace ≡ inside.old.log.trace) }
 {
     let counted = &mut inside.actors.sessions[session.0 as usize - 1];
-    session_takes(alloc, counted, &mut inside.log, input)?;
-    Ok(())
+    session_takes(alloc, counted, &mut inside.log, input)
 }
 
-/// A session has its own turn, if the entry that it makes of it may be made.
-pub fn session_turn(alloc: Global, inside: &mut Inside, session: SessionId) -> Result<(), StepError>
+/// A session has its own turn, if the entry that it makes of it may be made, and tells whether it
+/// made one.
+#[inline(never)]
+pub fn session_turn(
+    alloc: Global,
+    inside: &mut Inside,
+    session: SessionId,
+) -> Result<bool, DrainError>
     requires world { IsWorld inside.old }
     requires actor { is_actor inside.old.script (an_actor.Session session) ≡ true }
     ensures world { IsWorld inside.new }
     ensures script { inside.new.script ≡ inside.old.script }
-    ensures ok { OnOk result (HasTurn inside.old.script (reverse inside.old.log.trace) (reverse inside.new.log.trace) (an_actor.Session session) an_input.Tick) }
-    ensures err { IfErr result (HasNoTurn inside.old.script (reverse inside.old.log.trace) (an_actor.Session session) an_input.Tick) }
-    ensures same { OnErr result (inside.new.log.trace ≡ inside.old.log.trace) }
+    ensures turn { IsTurn inside.old.script (reverse inside.old.log.trace) (reverse inside.new.log.trace) (an_actor.Session session) an_input.Tick result }
+    ensures same { IfMade result ⊤ (inside.new.log.trace ≡ inside.old.log.trace) }
 {
     let counted = &mut inside.actors.sessions[session.0 as usize - 1];
-    session_ticks(alloc, counted, &mut inside.log, session)?;
-    Ok(())
+    session_ticks(alloc, counted, &mut inside.log, session)
 }

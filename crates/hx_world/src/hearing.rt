@@ -3,10 +3,10 @@ ghost use Rattle.hx_types.specs.declared.ids.Actor.TheVariants as an_actor;
 ghost use Rattle.hx_model.specs.Runs.{MayTake, has_halted, is_actor, post_named};
 ghost use Rattle.hx_world.specs.Filing.{heard};
 ghost use Rattle.hx_world.specs.Invariant.{IsWorld};
-ghost use Rattle.hx_world.specs.Turns.{HasNoTurn, HasTurn};
+ghost use Rattle.hx_world.specs.Turns.{FailsTurn, HasTurn};
 
 use crate::actors::running_takes;
-use crate::ends::StepError;
+use crate::ends::DrainError;
 use crate::inside::Inside;
 use crate::logs::sent_post;
 use crate::servers::server_hears;
@@ -23,7 +23,7 @@ pub fn running_hears(
     inside: &mut Inside,
     actor: Actor,
     id: PostId,
-) -> Result<(), StepError>
+) -> Result<(), DrainError>
     requires world { IsWorld inside.old }
     requires actor { is_actor inside.old.script actor ≡ true }
     requires running { has_halted inside.old.script (reverse inside.old.log.trace) actor ≡ false }
@@ -32,7 +32,7 @@ pub fn running_hears(
     ensures world { IsWorld inside.new }
     ensures script { inside.new.script ≡ inside.old.script }
     ensures ok { OnOk result (HasTurn inside.old.script (reverse inside.old.log.trace) (reverse inside.new.log.trace) actor (heard id inside.old.log.trace)) }
-    ensures err { IfErr result (HasNoTurn inside.old.script (reverse inside.old.log.trace) actor (heard id inside.old.log.trace)) }
+    ensures err { IfErr result (FailsTurn inside.old.script (reverse inside.old.log.trace) actor (heard id inside.old.log.trace)) }
     ensures same { OnErr result (inside.new.log.trace ≡ inside.old.log.trace) }
 {
     match actor {
@@ -50,7 +50,7 @@ fn to_server(
     inside: &mut Inside,
     server: ServerId,
     id: PostId,
-) -> Result<(), StepError>
+) -> Result<(), DrainError>
     requires world { IsWorld inside.old }
     requires actor { is_actor inside.old.script (an_actor.Server server) ≡ true }
     requires running { has_halted inside.old.script (reverse inside.old.log.trace) (an_actor.Server server) ≡ false }
@@ -59,7 +59,7 @@ fn to_server(
     ensures world { IsWorld inside.new }
     ensures script { inside.new.script ≡ inside.old.script }
     ensures ok { OnOk result (HasTurn inside.old.script (reverse inside.old.log.trace) (reverse inside.new.log.trace) (an_actor.Server server) (heard id inside.old.log.trace)) }
-    ensures err { IfErr result (HasNoTurn inside.old.script (reverse inside.old.log.trace) (an_actor.Server server) (heard id inside.old.log.trace)) }
+    ensures err { IfErr result (FailsTurn inside.old.script (reverse inside.old.log.trace) (an_actor.Server server) (heard id inside.old.log.trace)) }
     ensures same { OnErr result (inside.new.log.trace ≡ inside.old.log.trace) }
 {
     let trace = inside.log.trace.growing();
@@ -87,7 +87,7 @@ fn to_session(
     inside: &mut Inside,
     session: SessionId,
     id: PostId,
-) -> Result<(), StepError>
+) -> Result<(), DrainError>
     requires world { IsWorld inside.old }
     requires actor { is_actor inside.old.script (an_actor.Session session) ≡ true }
     requires sent { IsSome (post_named id (reverse inside.old.log.trace)) }
@@ -95,7 +95,7 @@ fn to_session(
     ensures world { IsWorld inside.new }
     ensures script { inside.new.script ≡ inside.old.script }
     ensures ok { OnOk result (HasTurn inside.old.script (reverse inside.old.log.trace) (reverse inside.new.log.trace) (an_actor.Session session) (heard id inside.old.log.trace)) }
-    ensures err { IfErr result (HasNoTurn inside.old.script (reverse inside.old.log.trace) (an_actor.Session session) (heard id inside.old.log.trace)) }
+    ensures err { IfErr result (FailsTurn inside.old.script (reverse inside.old.log.trace) (an_actor.Session session) (heard id inside.old.log.trace)) }
     ensures same { OnErr result (inside.new.log.trace ≡ inside.old.log.trace) }
 {
     let trace = inside.log.trace.growing();
@@ -115,9 +115,14 @@ fn to_session(
     Ok(())
 }
 
-/// An actor that hasn't halted takes a copy of a post of the trace.
+/// An actor that hasn't halted takes a copy of a post of the trace. It makes an entry of any delivery.
 #[inline(never)]
-fn takes_copy(alloc: Global, inside: &mut Inside, actor: Actor, id: PostId) -> Result<(), StepError>
+fn takes_copy(
+    alloc: Global,
+    inside: &mut Inside,
+    actor: Actor,
+    id: PostId,
+) -> Result<(), DrainError>
     requires world { IsWorld inside.old }
     requires actor { is_actor inside.old.script actor ≡ true }
     requires running { has_halted inside.old.script (reverse inside.old.log.trace) actor ≡ false }
@@ -126,15 +131,14 @@ fn takes_copy(alloc: Global, inside: &mut Inside, actor: Actor, id: PostId) -> R
     ensures world { IsWorld inside.new }
     ensures script { inside.new.script ≡ inside.old.script }
     ensures ok { OnOk result (HasTurn inside.old.script (reverse inside.old.log.trace) (reverse inside.new.log.trace) actor (heard id inside.old.log.trace)) }
-    ensures err { IfErr result (HasNoTurn inside.old.script (reverse inside.old.log.trace) actor (heard id inside.old.log.trace)) }
+    ensures err { IfErr result (FailsTurn inside.old.script (reverse inside.old.log.trace) actor (heard id inside.old.log.trace)) }
     ensures same { OnErr result (inside.new.log.trace ≡ inside.old.log.trace) }
 {
     let Some(post) = sent_post(&inside.log, id) else {
         // The post is one of the trace.
         unreachable!()
     };
-    let Ok(input) = delivery(alloc, id, post) else {
-        return Err(StepError::Memory);
-    };
-    running_takes(alloc, inside, actor, input)
+    let input = delivery(alloc, id, post)?;
+    running_takes(alloc, inside, actor, input)?;
+    Ok(())
 }

@@ -5,6 +5,7 @@
 #![tactic(auto)]
 
 mod actors;
+mod admission;
 mod coordinators;
 mod ends;
 mod hearing;
@@ -17,7 +18,6 @@ mod sessions;
 mod starting;
 mod steps;
 mod submitting;
-mod turns;
 mod waiting;
 mod worlds;
 

@@ -2,25 +2,25 @@ ghost use Rattle.std.specs.Prelude.{◌≡◌, None, Some, true, false, IfOk, On
 ghost use Rattle.hx_types.specs.declared.ids.Actor.TheVariants as an_actor;
 ghost use Rattle.hx_model.specs.Runs.{is_actor, session_of};
 ghost use Rattle.hx_model.specs.Schedule.{first_delivery, is_idle, next_entry, next_input, undelivered};
-ghost use Rattle.hx_world.specs.Idle.{IsFirstIdle, IsNextStep, IsNoneIdle, IsPostedFirst, IsRunningPost, RefusesDelivery, RefusesNext};
+ghost use Rattle.hx_world.specs.Idle.{IsFirstIdle, IsNextStep, IsNoneIdle, IsPostedFirst, IsRunningPost};
 ghost use Rattle.hx_world.specs.Invariant.{IsWorld};
 ghost use Rattle.hx_world.specs.Names.{can_receive};
 ghost use Rattle.hx_world.specs.Nexts.{DeliversNext, FailsAt, Makes, delivery_in, tick_of};
-ghost use Rattle.hx_world.specs.Worlds.{Advances, Fails, drain_error};
+ghost use Rattle.hx_world.specs.Worlds.{Advances, Fails};
 
-use crate::actors::has_halted;
-use crate::ends::{DrainError, StepError};
+use crate::actors::{has_halted, session_turn};
+use crate::ends::DrainError;
 use crate::hearing::running_hears;
 use crate::inside::Inside;
 use crate::logs::sent_post;
 use crate::sessions::CountedSession;
-use crate::steps::tick;
 use hx_types::{Actor, Post, PostId, SessionId, Step};
 use std::alloc::Global;
 
-/// Makes the next entry, if there is one.
+/// Makes the next entry, if there is one: the delivery of the lowest post that waits for an actor that
+/// hasn't halted, else a tick of the lowest idle session.
 #[inline(always)]
-pub fn advance(alloc: Global, inside: &mut Inside) -> Result<bool, DrainError>
+pub fn make_next(alloc: Global, inside: &mut Inside) -> Result<bool, DrainError>
     requires world { IsWorld inside.old }
     ensures world { IsWorld inside.new }
     ensures script { inside.new.script ≡ inside.old.script }
@@ -28,87 +28,26 @@ pub fn advance(alloc: Global, inside: &mut Inside) -> Result<bool, DrainError>
     ensures fails { IfErr result (Fails inside.old.script (reverse inside.old.log.trace)) }
     ensures err { OnErr result (inside.new.log.trace ≡ inside.old.log.trace) }
 {
-    match make_next(alloc, inside) {
-        Ok(made) => Ok(made),
-        Err(error) => match drain_error(error) {
-            Some(error) => Err(error),
-            // A step of the schedule fails for want of memory or a worn actor alone.
-            None => unreachable!(),
-        },
-    }
-}
-
-/// Delivers the lowest post that waits for an actor that hasn't halted, if there is one.
-pub fn deliver_first(alloc: Global, inside: &mut Inside) -> Result<bool, DrainError>
-    requires world { IsWorld inside.old }
-    ensures world { IsWorld inside.new }
-    ensures script { inside.new.script ≡ inside.old.script }
-    ensures delivers { IfOk result (DeliversNext inside.old.script (reverse inside.old.log.trace) (reverse inside.new.log.trace)) }
-    ensures fails { IfErr result (FailsAt (reverse inside.old.log.trace) (delivery_in inside.old.script (reverse inside.old.log.trace))) }
-    ensures err { OnErr result (inside.new.log.trace ≡ inside.old.log.trace) }
-{
-    match deliver_next(alloc, inside) {
-        Ok(made) => Ok(made),
-        Err(error) => match drain_error(error) {
-            Some(error) => Err(error),
-            // A step of the schedule fails for want of memory or a worn actor alone.
-            None => unreachable!(),
-        },
-    }
-}
-
-/// An idle session begins its next call.
-pub fn begin(alloc: Global, inside: &mut Inside, session: SessionId) -> Result<(), DrainError>
-    requires world { IsWorld inside.old }
-    requires session { is_actor inside.old.script (an_actor.Session session) ≡ true }
-    requires idle { is_idle (session_of inside.old.script session (reverse inside.old.log.trace)) ≡ true }
-    ensures world { IsWorld inside.new }
-    ensures script { inside.new.script ≡ inside.old.script }
-    ensures begins { OnOk result (Makes inside.old.script (reverse inside.old.log.trace) (reverse inside.new.log.trace) (tick_of session)) }
-    ensures fails { IfErr result (FailsAt (reverse inside.old.log.trace) (Some (tick_of session))) }
-    ensures err { OnErr result (inside.new.log.trace ≡ inside.old.log.trace) }
-{
-    match tick(alloc, inside, Actor::Session(session)) {
-        Ok(()) => Ok(()),
-        Err(error) => match drain_error(error) {
-            Some(error) => Err(error),
-            // A step of the schedule fails for want of memory or a worn actor alone.
-            None => unreachable!(),
-        },
-    }
-}
-
-/// Makes the next entry, if there is one: the delivery of the lowest post that waits for an actor that
-/// hasn't halted, else a tick of the lowest idle session.
-#[inline(always)]
-fn make_next(alloc: Global, inside: &mut Inside) -> Result<bool, StepError>
-    requires world { IsWorld inside.old }
-    ensures world { IsWorld inside.new }
-    ensures script { inside.new.script ≡ inside.old.script }
-    ensures advances { IfOk result (Advances inside.old.script (reverse inside.old.log.trace) (reverse inside.new.log.trace)) }
-    ensures refused { IfErr result (RefusesNext inside.old.script (reverse inside.old.log.trace)) }
-    ensures err { OnErr result (inside.new.log.trace ≡ inside.old.log.trace) }
-{
-    if deliver_next(alloc, inside)? {
+    if deliver_first(alloc, inside)? {
         return Ok(true);
     }
     let Some(place) = first_idle(inside.actors.sessions.as_slice()) else {
         return Ok(false);
     };
-    tick(alloc, inside, Actor::Session(SessionId(place as u32 + 1)))?;
+    begin(alloc, inside, SessionId(place as u32 + 1))?;
     Ok(true)
 }
 
 /// Delivers the lowest post that waits for an actor that hasn't halted, if there is one. The names before it
 /// go: who has halted takes no post any more.
 #[inline(always)]
-fn deliver_next(alloc: Global, inside: &mut Inside) -> Result<bool, StepError>
+pub fn deliver_first(alloc: Global, inside: &mut Inside) -> Result<bool, DrainError>
     requires world { IsWorld inside.old }
     ensures world { IsWorld inside.new }
     ensures script { inside.new.script ≡ inside.old.script }
     ensures delivers { IfOk result (DeliversNext inside.old.script (reverse inside.old.log.trace) (reverse inside.new.log.trace)) }
     ensures rests { IfOk result (λ made. made ≡ false → inside.new.log.trace ≡ inside.old.log.trace) }
-    ensures refused { IfErr result (RefusesDelivery inside.old.script (reverse inside.old.log.trace)) }
+    ensures fails { IfErr result (FailsAt (reverse inside.old.log.trace) (delivery_in inside.old.script (reverse inside.old.log.trace))) }
     ensures err { OnErr result (inside.new.log.trace ≡ inside.old.log.trace) }
 {
     while let Some(id) = inside.log.waiting.lowest() {
@@ -122,6 +61,22 @@ fn deliver_next(alloc: Global, inside: &mut Inside) -> Result<bool, StepError>
     Ok(false)
 }
 
+/// An idle session begins its next call. Its tick makes an entry, since it has a call left.
+#[inline(always)]
+pub fn begin(alloc: Global, inside: &mut Inside, session: SessionId) -> Result<(), DrainError>
+    requires world { IsWorld inside.old }
+    requires session { is_actor inside.old.script (an_actor.Session session) ≡ true }
+    requires idle { is_idle (session_of inside.old.script session (reverse inside.old.log.trace)) ≡ true }
+    ensures world { IsWorld inside.new }
+    ensures script { inside.new.script ≡ inside.old.script }
+    ensures begins { OnOk result (Makes inside.old.script (reverse inside.old.log.trace) (reverse inside.new.log.trace) (tick_of session)) }
+    ensures fails { IfErr result (FailsAt (reverse inside.old.log.trace) (Some (tick_of session))) }
+    ensures err { OnErr result (inside.new.log.trace ≡ inside.old.log.trace) }
+{
+    session_turn(alloc, inside, session)?;
+    Ok(())
+}
+
 /// The post of a name, if its receiver hasn't halted.
 fn running_post(inside: &Inside, id: PostId) -> Option<&Post>
     requires world { IsWorld inside.now }
@@ -130,18 +85,6 @@ fn running_post(inside: &Inside, id: PostId) -> Option<&Post>
 {
     match sent_post(&inside.log, id) {
         Some(post) if !has_halted(inside, post.to) => Some(post),
-        _ => None,
-    }
-}
-
-/// The error of a drain whose next step failed so: a step of the schedule fails for want of memory,
-/// or since its actor is worn.
-fn drain_error(error: StepError) -> Option<DrainError>
-    ensures { result ≡ drain_error error }
-{
-    match error {
-        StepError::Memory => Some(DrainError::Memory),
-        StepError::Worn(actor) => Some(DrainError::Worn(actor)),
         _ => None,
     }
 }

@@ -6,16 +6,16 @@ ghost use Rattle.hx_trace.specs.Rooms.{LiesAt};
 ghost use Rattle.hx_world.specs.Filing.{Files, IsFiled, IsSameLog, heard};
 ghost use Rattle.hx_world.specs.Names.{AreAscending};
 ghost use Rattle.hx_world.specs.Servers.{HasTaken, IsSameServer};
-ghost use Rattle.hx_world.specs.Turns.{IsAdmitted, IsBarred};
+ghost use Rattle.hx_world.specs.Turns.{IfMade, IsAdmitted, IsBarred, IsDecided};
 
-use crate::ends::StepError;
+use crate::admission::{makes_nothing, refuse_worn};
+use crate::ends::DrainError;
 use crate::lending::{Lent, forget, forget_change};
 use crate::logs::{Log, append_delivery, append_entry, reserve_entry, reserve_lists};
-use crate::turns::admit;
 use crate::waiting::Queue;
 use hx_replica::Server;
 use hx_trace::GrowingTrace;
-use hx_types::{Input, MOST_ENTRIES, PostId};
+use hx_types::{Input, PostId};
 use std::alloc::Global;
 
 /// A server, and how many entries it has made.
@@ -33,36 +33,32 @@ impl Drop for CountedServer {
     }
 }
 
-/// The server takes an input, if the entry that it makes of it may be made. All memory is taken
-/// before anything changes.
+/// The server takes an input, if the entry that it makes of it may be made, and tells whether it
+/// made one. All memory is taken before anything changes.
 pub fn server_takes(
     alloc: Global,
     counted: &mut CountedServer,
     log: &mut Log,
     input: Input,
-) -> Result<(), StepError>
+) -> Result<bool, DrainError>
     requires can { CanTake counted.old.server.space counted.old.server.state input }
     requires may { MayTake (reverse log.old.trace) (an_actor.Server counted.old.server.state.id) input }
     requires ascending { AreAscending log.old.waiting.items }
-    ensures log { OnOk result (Files log.old log.new (server_entry counted.old.server.space counted.old.server.state input)) }
-    ensures taken { OnOk result (HasTaken counted.old counted.new input) }
-    ensures admitted { OnOk result (IsAdmitted (server_entry counted.old.server.space counted.old.server.state input) counted.old.entries) }
-    ensures barred { IfErr result (IsBarred (server_entry counted.old.server.space counted.old.server.state input) counted.old.entries) }
-    ensures same_log { OnErr result (IsSameLog log.old log.new) }
-    ensures same { OnErr result (IsSameServer counted.old counted.new) }
+    ensures decided { IsDecided (server_entry counted.old.server.space counted.old.server.state input) counted.old.entries result }
+    ensures log { IfMade result (Files log.old log.new (server_entry counted.old.server.space counted.old.server.state input)) (IsSameLog log.old log.new) }
+    ensures taken { IfMade result (HasTaken counted.old counted.new input) (IsSameServer counted.old counted.new) }
 {
-    let Ok(plan) = counted.server.prepare(alloc, input) else {
-        return Err(StepError::Memory);
-    };
-    admit(plan.entry(), counted.entries)?;
-    let trace = log.trace.growing();
-    if reserve_entry(trace, &mut log.waiting, plan.entry()).is_err() {
-        return Err(StepError::Memory);
+    let plan = counted.server.prepare(alloc, input)?;
+    if makes_nothing(plan.entry()) {
+        return Ok(false);
     }
+    refuse_worn(plan.entry().actor, counted.entries)?;
+    let trace = log.trace.growing();
+    reserve_entry(trace, &mut log.waiting, plan.entry())?;
     let entry = counted.server.apply(plan);
     append_entry(trace, &mut log.waiting, entry);
     counted.entries += 1;
-    Ok(())
+    Ok(true)
 }
 
 /// The server takes a post of the trace, by the place where it lies, if the entry that it makes of
@@ -77,7 +73,7 @@ pub fn server_hears(
     lent: &mut Lent,
     id: PostId,
     at: usize,
-) -> Result<(), StepError>
+) -> Result<(), DrainError>
     requires can { CanTake counted.old.server.space counted.old.server.state (heard id trace.old.entries) }
     requires may { MayTake (reverse trace.old.entries) (an_actor.Server counted.old.server.state.id) (heard id trace.old.entries) }
     requires lies { LiesAt trace.old id at }
@@ -92,9 +88,7 @@ pub fn server_hears(
 {
     let post = trace.post(at);
     let actor = post.to;
-    if counted.entries >= MOST_ENTRIES {
-        return Err(StepError::Worn(actor));
-    }
+    refuse_worn(actor, counted.entries)?;
     let heard = counted.server.hear(
         alloc,
         post.from,
@@ -104,11 +98,11 @@ pub fn server_hears(
     );
     let Ok(change) = heard else {
         forget(&mut lent.posts, &mut lent.notes);
-        return Err(StepError::Memory);
+        return Err(DrainError::Memory);
     };
     if reserve_lists(trace, waiting, &lent.posts, &lent.notes).is_err() {
         forget_change(change, &mut lent.posts, &mut lent.notes);
-        return Err(StepError::Memory);
+        return Err(DrainError::Memory);
     }
     counted.server.make(change);
     append_delivery(

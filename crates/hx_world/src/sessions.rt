@@ -7,16 +7,16 @@ ghost use Rattle.hx_trace.specs.Rooms.{LiesAt};
 ghost use Rattle.hx_world.specs.Filing.{Files, IsFiled, IsSameLog, heard};
 ghost use Rattle.hx_world.specs.Names.{AreAscending};
 ghost use Rattle.hx_world.specs.Sessions.{HasTaken, IsSameSession};
-ghost use Rattle.hx_world.specs.Turns.{IsAdmitted, IsBarred};
+ghost use Rattle.hx_world.specs.Turns.{IfMade, IsAdmitted, IsBarred, IsDecided};
 
-use crate::ends::StepError;
+use crate::admission::{makes_nothing, refuse_worn};
+use crate::ends::DrainError;
 use crate::lending::{Lent, forget, forget_change};
 use crate::logs::{Log, append_delivery, append_entry, append_tick, reserve_entry, reserve_lists};
-use crate::turns::admit;
 use crate::waiting::Queue;
 use hx_session::Session;
 use hx_trace::GrowingTrace;
-use hx_types::{Actor, Input, MOST_ENTRIES, PostId, SessionId};
+use hx_types::{Actor, Input, PostId, SessionId};
 use std::alloc::Global;
 
 /// A session, and how many entries it has made.
@@ -34,36 +34,32 @@ impl Drop for CountedSession {
     }
 }
 
-/// The session takes an input, if the entry that it makes of it may be made. All memory is taken
-/// before anything changes.
+/// The session takes an input, if the entry that it makes of it may be made, and tells whether it
+/// made one. All memory is taken before anything changes.
 pub fn session_takes(
     alloc: Global,
     counted: &mut CountedSession,
     log: &mut Log,
     input: Input,
-) -> Result<(), StepError>
+) -> Result<bool, DrainError>
     requires can { CanTake counted.old.session.space counted.old.session.state input }
     requires may { MayTake (reverse log.old.trace) (an_actor.Session counted.old.session.state.id) input }
     requires ascending { AreAscending log.old.waiting.items }
-    ensures log { OnOk result (Files log.old log.new (session_entry counted.old.session.space counted.old.session.state input)) }
-    ensures taken { OnOk result (HasTaken counted.old counted.new input) }
-    ensures admitted { OnOk result (IsAdmitted (session_entry counted.old.session.space counted.old.session.state input) counted.old.entries) }
-    ensures barred { IfErr result (IsBarred (session_entry counted.old.session.space counted.old.session.state input) counted.old.entries) }
-    ensures same_log { OnErr result (IsSameLog log.old log.new) }
-    ensures same { OnErr result (IsSameSession counted.old counted.new) }
+    ensures decided { IsDecided (session_entry counted.old.session.space counted.old.session.state input) counted.old.entries result }
+    ensures log { IfMade result (Files log.old log.new (session_entry counted.old.session.space counted.old.session.state input)) (IsSameLog log.old log.new) }
+    ensures taken { IfMade result (HasTaken counted.old counted.new input) (IsSameSession counted.old counted.new) }
 {
-    let Ok(plan) = counted.session.prepare(alloc, input) else {
-        return Err(StepError::Memory);
-    };
-    admit(plan.entry(), counted.entries)?;
-    let trace = log.trace.growing();
-    if reserve_entry(trace, &mut log.waiting, plan.entry()).is_err() {
-        return Err(StepError::Memory);
+    let plan = counted.session.prepare(alloc, input)?;
+    if makes_nothing(plan.entry()) {
+        return Ok(false);
     }
+    refuse_worn(plan.entry().actor, counted.entries)?;
+    let trace = log.trace.growing();
+    reserve_entry(trace, &mut log.waiting, plan.entry())?;
     let entry = counted.session.apply(plan);
     append_entry(trace, &mut log.waiting, entry);
     counted.entries += 1;
-    Ok(())
+    Ok(true)
 }
 
 /// The session takes a post of the trace, by the place where it lies, if the entry that it makes of
@@ -78,7 +74,7 @@ pub fn session_hears(
     lent: &mut Lent,
     id: PostId,
     at: usize,
-) -> Result<(), StepError>
+) -> Result<(), DrainError>
     requires can { CanTake counted.old.session.space counted.old.session.state (heard id trace.old.entries) }
     requires may { MayTake (reverse trace.old.entries) (an_actor.Session counted.old.session.state.id) (heard id trace.old.entries) }
     requires lies { LiesAt trace.old id at }
@@ -93,9 +89,7 @@ pub fn session_hears(
 {
     let post = trace.post(at);
     let actor = post.to;
-    if counted.entries >= MOST_ENTRIES {
-        return Err(StepError::Worn(actor));
-    }
+    refuse_worn(actor, counted.entries)?;
     let heard = counted.session.hear(
         alloc,
         post.from,
@@ -105,11 +99,11 @@ pub fn session_hears(
     );
     let Ok(change) = heard else {
         forget(&mut lent.posts, &mut lent.notes);
-        return Err(StepError::Memory);
+        return Err(DrainError::Memory);
     };
     if reserve_lists(trace, waiting, &lent.posts, &lent.notes).is_err() {
         forget_change(change, &mut lent.posts, &mut lent.notes);
-        return Err(StepError::Memory);
+        return Err(DrainError::Memory);
     }
     counted.session.make(change);
     append_delivery(
@@ -125,21 +119,19 @@ pub fn session_hears(
     Ok(())
 }
 
-/// The session has its own turn, if the entry that it makes of it may be made. It puts its posts
-/// and notes into the lists that it is lent. All memory is taken before anything else changes.
+/// The session has its own turn, if the entry that it makes of it may be made, and tells whether it
+/// made one. It puts its posts and notes into the lists that it is lent. All memory is taken before
+/// anything else changes.
 pub fn session_ticks(
     alloc: Global,
     counted: &mut CountedSession,
     log: &mut Log,
     session: SessionId,
-) -> Result<(), StepError>
+) -> Result<bool, DrainError>
     requires id { counted.old.session.state.id ≡ session }
-    ensures log { OnOk result (Files log.old log.new (session_entry counted.old.session.space counted.old.session.state an_input.Tick)) }
-    ensures taken { OnOk result (HasTaken counted.old counted.new an_input.Tick) }
-    ensures admitted { OnOk result (IsAdmitted (session_entry counted.old.session.space counted.old.session.state an_input.Tick) counted.old.entries) }
-    ensures barred { IfErr result (IsBarred (session_entry counted.old.session.space counted.old.session.state an_input.Tick) counted.old.entries) }
-    ensures same_log { OnErr result (IsSameLog log.old log.new) }
-    ensures same { OnErr result (IsSameSession counted.old counted.new) }
+    ensures decided { IsDecided (session_entry counted.old.session.space counted.old.session.state an_input.Tick) counted.old.entries result }
+    ensures log { IfMade result (Files log.old log.new (session_entry counted.old.session.space counted.old.session.state an_input.Tick)) (IsSameLog log.old log.new) }
+    ensures taken { IfMade result (HasTaken counted.old counted.new an_input.Tick) (IsSameSession counted.old counted.new) }
 {
     let lent = &mut log.lent;
     let made = counted
@@ -147,20 +139,20 @@ pub fn session_ticks(
         .tick(alloc, &mut lent.posts, &mut lent.notes);
     let Ok(change) = made else {
         forget(&mut lent.posts, &mut lent.notes);
-        return Err(StepError::Memory);
+        return Err(DrainError::Memory);
     };
     if lent.posts.is_empty() && lent.notes.is_empty() {
-        return Err(StepError::Idle);
+        return Ok(false);
     }
     let actor = Actor::Session(session);
-    if counted.entries >= MOST_ENTRIES {
+    if let Err(worn) = refuse_worn(actor, counted.entries) {
         forget(&mut lent.posts, &mut lent.notes);
-        return Err(StepError::Worn(actor));
+        return Err(worn);
     }
     let trace = log.trace.growing();
     if reserve_lists(trace, &mut log.waiting, &lent.posts, &lent.notes).is_err() {
         forget_change(change, &mut lent.posts, &mut lent.notes);
-        return Err(StepError::Memory);
+        return Err(DrainError::Memory);
     }
     counted.session.make(change);
     append_tick(
@@ -171,5 +163,5 @@ pub fn session_ticks(
         &mut lent.notes,
     );
     counted.entries += 1;
-    Ok(())
+    Ok(true)
 }

@@ -62,7 +62,7 @@ pub fn delivery(alloc: Global, id: PostId, post: &Post) -> Result<Input, Memory>
 
 /// An actor has its own turn.
 #[inline(never)]
-pub fn tick(alloc: Global, inside: &mut Inside, actor: Actor) -> Result<(), StepError>
+fn tick(alloc: Global, inside: &mut Inside, actor: Actor) -> Result<(), StepError>
     requires world { IsWorld inside.old }
     requires actor { is_actor inside.old.script actor ≡ true }
     ensures world { IsWorld inside.new }
@@ -72,7 +72,9 @@ pub fn tick(alloc: Global, inside: &mut Inside, actor: Actor) -> Result<(), Step
     ensures err { OnErr result (inside.new.log.trace ≡ inside.old.log.trace) }
 {
     if let Actor::Session(session) = actor {
-        session_turn(alloc, inside, session)?;
+        if !session_turn(alloc, inside, session)? {
+            return Err(StepError::Idle);
+        }
         return Ok(());
     }
     actor_takes(alloc, inside, actor, Input::Tick)?;

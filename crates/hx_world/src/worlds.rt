@@ -14,7 +14,7 @@ use crate::actors::{is_busy, is_idle};
 use crate::ends::{DrainError, Drained, StepError};
 use crate::inside::Inside;
 use crate::logs::empty;
-use crate::schedule::{advance, begin, deliver_first, first_waiting, has_next};
+use crate::schedule::{begin, deliver_first, first_waiting, has_next, make_next};
 use crate::starting::start_actors;
 use crate::steps::take_step;
 use crate::submitting::submit_call;
@@ -245,7 +245,7 @@ impl World {
         ensures few { HasFewEntries (reverse self.new.trace) }
         ensures most { length self.new.trace ≤ most_entries }
     {
-        advance(alloc, &mut self.inside)
+        make_next(alloc, &mut self.inside)
     }
 
     fn has_next(&mut self) -> bool

@@ -1,8 +1,8 @@
-use Rattle.std.proofs.Common.{◌-◌, refl, rules}
+use Rattle.std.proofs.Common.{◌-◌, refl}
 use Rattle.std.specs.Vec.{with_item}
 use Rattle.hx_model.specs.Types.{Tick}
 use Rattle.hx_world.specs.declared.actors.Actors.{Actors}
-use Rattle.hx_world.proofs.Turning.{attended, not_attended, session_in, session_low, session_number, unattended}
+use Rattle.hx_world.proofs.Turning.{came_to_session, session_in, session_low, session_number}
 use Rattle.hx_world.proofs.actors.session_turn.Goals as goal
 
 pub overflow_sub-session : goal.overflow_sub-session
@@ -17,32 +17,26 @@ session_ticks-requires c = record {
       c.index_mut-counted.result.now c.index_mut-counted.ensures.value;
 }
 
-pub returns-in_err-session_ticks-clause-world : goal.returns-in_err-session_ticks-clause-world
-returns-in_err-session_ticks-clause-world c =
-    let after : Actors =
-    record { coordinator = c.args.inside.now.actors.coordinator; servers = c.args.inside.now.actors.servers; sessions = with_item c.args.inside.now.actors.sessions (c.args.session.0 - 1) c.session_ticks.new.counted } in
-    unattended c.args.inside.now.script c.args.inside.now.actors c.args.inside.now.log c.requires.world c.args.session c.requires.actor
-    c.index_mut-counted.result.now c.index_mut-counted.ensures.value c.session_ticks.new.counted after c.session_ticks.new.log c.in_err-session_ticks.ensures.same c.in_err-session_ticks.ensures.same_log refl refl refl
-
-pub returns-in_err-session_ticks-clause-err : goal.returns-in_err-session_ticks-clause-err
-returns-in_err-session_ticks-clause-err c =
-    let why =
-    not_attended c.args.inside.now.script c.args.inside.now.actors c.args.inside.now.log c.requires.world c.args.session c.requires.actor
-    c.index_mut-counted.result.now c.index_mut-counted.ensures.value Tick c.in_err-session_ticks.field-0.0 c.in_err-session_ticks.ensures.barred in
-    search (rules, why)
-
 pub returns-clause-world : goal.returns-clause-world
 returns-clause-world c =
     let after : Actors =
     record { coordinator = c.args.inside.now.actors.coordinator; servers = c.args.inside.now.actors.servers; sessions = with_item c.args.inside.now.actors.sessions (c.args.session.0 - 1) c.session_ticks.new.counted } in
-    (attended c.args.inside.now.script c.args.inside.now.actors c.args.inside.now.log c.requires.world c.args.session c.requires.actor
-    c.index_mut-counted.result.now c.index_mut-counted.ensures.value Tick c.session_ticks.new.counted after c.session_ticks.new.log tt
-    c.in_ok-session_ticks.ensures.log c.in_ok-session_ticks.ensures.taken c.in_ok-session_ticks.ensures.admitted refl refl refl).world
+    (came_to_session c.args.inside.now.script c.args.inside.now.actors c.args.inside.now.log c.requires.world c.args.session c.requires.actor
+    c.index_mut-counted.result.now c.index_mut-counted.ensures.value Tick
+    c.session_ticks.new.counted after c.session_ticks.new.log c.session_ticks.result tt c.session_ticks.ensures.decided c.session_ticks.ensures.log c.session_ticks.ensures.taken refl refl refl).world
 
-pub returns-clause-ok : goal.returns-clause-ok
-returns-clause-ok c =
+pub returns-clause-turn : goal.returns-clause-turn
+returns-clause-turn c =
     let after : Actors =
     record { coordinator = c.args.inside.now.actors.coordinator; servers = c.args.inside.now.actors.servers; sessions = with_item c.args.inside.now.actors.sessions (c.args.session.0 - 1) c.session_ticks.new.counted } in
-    (attended c.args.inside.now.script c.args.inside.now.actors c.args.inside.now.log c.requires.world c.args.session c.requires.actor
-    c.index_mut-counted.result.now c.index_mut-counted.ensures.value Tick c.session_ticks.new.counted after c.session_ticks.new.log tt
-    c.in_ok-session_ticks.ensures.log c.in_ok-session_ticks.ensures.taken c.in_ok-session_ticks.ensures.admitted refl refl refl).turn
+    (came_to_session c.args.inside.now.script c.args.inside.now.actors c.args.inside.now.log c.requires.world c.args.session c.requires.actor
+    c.index_mut-counted.result.now c.index_mut-counted.ensures.value Tick
+    c.session_ticks.new.counted after c.session_ticks.new.log c.session_ticks.result tt c.session_ticks.ensures.decided c.session_ticks.ensures.log c.session_ticks.ensures.taken refl refl refl).turn
+
+pub returns-clause-same : goal.returns-clause-same
+returns-clause-same c =
+    let after : Actors =
+    record { coordinator = c.args.inside.now.actors.coordinator; servers = c.args.inside.now.actors.servers; sessions = with_item c.args.inside.now.actors.sessions (c.args.session.0 - 1) c.session_ticks.new.counted } in
+    (came_to_session c.args.inside.now.script c.args.inside.now.actors c.args.inside.now.log c.requires.world c.args.session c.requires.actor
+    c.index_mut-counted.result.now c.index_mut-counted.ensures.value Tick
+    c.session_ticks.new.counted after c.session_ticks.new.log c.session_ticks.result tt c.session_ticks.ensures.decided c.session_ticks.ensures.log c.session_ticks.ensures.taken refl refl refl).same

@@ -1,7 +1,7 @@
-use Rattle.std.proofs.Common.{◌-◌, refl, rules}
+use Rattle.std.proofs.Common.{◌-◌, refl}
 use Rattle.std.specs.Vec.{with_item}
 use Rattle.hx_world.specs.declared.actors.Actors.{Actors}
-use Rattle.hx_world.proofs.Turning.{ascending, can_serve, may_serve, not_served, served, server_in, server_low, unserved}
+use Rattle.hx_world.proofs.Turning.{ascending, came_to_server, can_serve, may_serve, server_in, server_low}
 use Rattle.hx_world.proofs.actors.to_server.Goals as goal
 
 pub overflow_sub-server : goal.overflow_sub-server
@@ -23,32 +23,26 @@ server_takes-requires-clause-may c =
 pub server_takes-requires-clause-ascending : goal.server_takes-requires-clause-ascending
 server_takes-requires-clause-ascending c = ascending c.args.inside.now.script c.args.inside.now.actors c.args.inside.now.log c.requires.world
 
-pub returns-in_err-server_takes-clause-world : goal.returns-in_err-server_takes-clause-world
-returns-in_err-server_takes-clause-world c =
-    let after : Actors =
-    record { coordinator = c.args.inside.now.actors.coordinator; servers = with_item c.args.inside.now.actors.servers (c.args.server.0 - 1) c.server_takes.new.counted; sessions = c.args.inside.now.actors.sessions } in
-    unserved c.args.inside.now.script c.args.inside.now.actors c.args.inside.now.log c.requires.world c.args.server c.requires.actor
-    c.index_mut-counted.result.now c.index_mut-counted.ensures.value c.args.input c.requires.running c.requires.may c.server_takes.new.counted after c.server_takes.new.log c.in_err-server_takes.ensures.same c.in_err-server_takes.ensures.same_log refl refl refl
-
-pub returns-in_err-server_takes-clause-err : goal.returns-in_err-server_takes-clause-err
-returns-in_err-server_takes-clause-err c =
-    let why =
-    not_served c.args.inside.now.script c.args.inside.now.actors c.args.inside.now.log c.requires.world c.args.server c.requires.actor
-    c.index_mut-counted.result.now c.index_mut-counted.ensures.value c.args.input c.requires.running c.requires.may c.in_err-server_takes.field-0.0 c.in_err-server_takes.ensures.barred in
-    search (rules, why)
-
 pub returns-clause-world : goal.returns-clause-world
 returns-clause-world c =
     let after : Actors =
     record { coordinator = c.args.inside.now.actors.coordinator; servers = with_item c.args.inside.now.actors.servers (c.args.server.0 - 1) c.server_takes.new.counted; sessions = c.args.inside.now.actors.sessions } in
-    (served c.args.inside.now.script c.args.inside.now.actors c.args.inside.now.log c.requires.world c.args.server c.requires.actor
-    c.index_mut-counted.result.now c.index_mut-counted.ensures.value c.args.input c.requires.running c.requires.may c.server_takes.new.counted after c.server_takes.new.log
-    c.in_ok-server_takes.ensures.log c.in_ok-server_takes.ensures.taken c.in_ok-server_takes.ensures.admitted refl refl refl).world
+    (came_to_server c.args.inside.now.script c.args.inside.now.actors c.args.inside.now.log c.requires.world c.args.server c.requires.actor
+    c.index_mut-counted.result.now c.index_mut-counted.ensures.value c.args.input c.requires.running c.requires.may
+    c.server_takes.new.counted after c.server_takes.new.log c.server_takes.result c.server_takes.ensures.decided c.server_takes.ensures.log c.server_takes.ensures.taken refl refl refl).world
 
-pub returns-clause-ok : goal.returns-clause-ok
-returns-clause-ok c =
+pub returns-clause-turn : goal.returns-clause-turn
+returns-clause-turn c =
     let after : Actors =
     record { coordinator = c.args.inside.now.actors.coordinator; servers = with_item c.args.inside.now.actors.servers (c.args.server.0 - 1) c.server_takes.new.counted; sessions = c.args.inside.now.actors.sessions } in
-    (served c.args.inside.now.script c.args.inside.now.actors c.args.inside.now.log c.requires.world c.args.server c.requires.actor
-    c.index_mut-counted.result.now c.index_mut-counted.ensures.value c.args.input c.requires.running c.requires.may c.server_takes.new.counted after c.server_takes.new.log
-    c.in_ok-server_takes.ensures.log c.in_ok-server_takes.ensures.taken c.in_ok-server_takes.ensures.admitted refl refl refl).turn
+    (came_to_server c.args.inside.now.script c.args.inside.now.actors c.args.inside.now.log c.requires.world c.args.server c.requires.actor
+    c.index_mut-counted.result.now c.index_mut-counted.ensures.value c.args.input c.requires.running c.requires.may
+    c.server_takes.new.counted after c.server_takes.new.log c.server_takes.result c.server_takes.ensures.decided c.server_takes.ensures.log c.server_takes.ensures.taken refl refl refl).turn
+
+pub returns-clause-same : goal.returns-clause-same
+returns-clause-same c =
+    let after : Actors =
+    record { coordinator = c.args.inside.now.actors.coordinator; servers = with_item c.args.inside.now.actors.servers (c.args.server.0 - 1) c.server_takes.new.counted; sessions = c.args.inside.now.actors.sessions } in
+    (came_to_server c.args.inside.now.script c.args.inside.now.actors c.args.inside.now.log c.requires.world c.args.server c.requires.actor
+    c.index_mut-counted.result.now c.index_mut-counted.ensures.value c.args.input c.requires.running c.requires.may
+    c.server_takes.new.counted after c.server_takes.new.log c.server_takes.result c.server_takes.ensures.decided c.server_takes.ensures.log c.server_takes.ensures.taken refl refl refl).same

@@ -1,6 +1,6 @@
 use Rattle.std.proofs.Common.{◌≡◌, length}
 use Rattle.hx_world.specs.Invariant.{IsWorld}
-use Rattle.hx_world.proofs.schedule.deliver_next.Given as goal
+use Rattle.hx_world.proofs.schedule.deliver_first.Given as goal
 
 abbrev pub invariant-loop-id : goal.invariant-loop-id
 invariant-loop-id l = record {
