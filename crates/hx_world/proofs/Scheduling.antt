@@ -1,26 +1,24 @@
--- Which step the schedule takes next.
+-- Which entry the schedule makes next.
 use Rattle.std.proofs.Common.{◌≡◌, ℕ, zero, suc, ◌+◌, ◌<◌, inl, inr, Bool, true, false, not, ◌&&◌, List, [], ◌∷◌, ◌++◌, length, Option, Some, None, refl, sym, ap, ◌∙◌, subst, arith, ltb, leb, add-one}
 use Rattle.std.specs.Prelude.{Ok, reverse, is_some, IsSomeAnd, MatchOption}
 use Rattle.std.specs.Option.{option_map}
 use Rattle.std.proofs.lemmas.Bool.{cond-true, cond-false, cases_eq, and_from, and_parts, and_right, false≢true, le-leb, lt-ltb, ltb-true, not-true}
-use Rattle.hx_model.specs.Types.{Actor, Entry, Op, Post, PostId, Script, Session, SessionId, Space, Step, Tick}
-use Rattle.hx_types.specs.declared.traces.Step.TheVariants as a_step
+use Rattle.hx_model.specs.Types.{Actor, Entry, Op, PostId, Script, Session, SessionId, Space, Tick}
 use Rattle.hx_types.specs.Fitting.{numbered}
 use Rattle.hx_types.specs.Words.{below, first_some, when_some}
 use Rattle.hx_model.specs.Runs.{does_something, is_actor, is_empty, session_of}
-use Rattle.hx_model.specs.Schedule.{Next, StepFault, delivery_of, entry_by, first_delivery, idle_among, is_idle, is_worn, next_entry, next_input, undelivered, with_entry, worn_fault}
+use Rattle.hx_model.specs.Schedule.{Next, entry_by, first_delivery, idle_among, is_idle, is_worn, next_entry, next_input, undelivered, with_entry}
 use Rattle.hx_model.specs.SessionSteps.{SessionState, SessionStep, begin, session_step, session_tick, staying}
 use Rattle.hx_world.specs.declared.ends.DrainError.{DrainError}
 use Rattle.hx_world.specs.declared.ends.DrainError.TheVariants.{Memory, Worn}
 use Rattle.hx_world.specs.declared.sessions.CountedSession.{CountedSession}
-use Rattle.hx_world.specs.Idle.{IsFirstIdle, IsNextStep, IsNoneIdle, IsPostedFirst, is_idle_at}
+use Rattle.hx_world.specs.Idle.{IsFirstIdle, IsNoneIdle, IsPostedFirst, is_idle_at}
 use Rattle.hx_world.specs.Invariant.{AreAt, IsSessionAt, session_at}
 use Rattle.hx_world.specs.Nexts as nexts
 use Rattle.hx_world.specs.Nexts.{FailsAt, Makes}
 use Rattle.hx_world.specs.Turns.{FailsTurn, IsTurn}
 use Rattle.hx_world.specs.Worlds.{Advances, Fails}
 use Rattle.hx_world.proofs.Seating.{item_at}
-use Rattle.hx_world.proofs.Stepping.{delivery_fault, not_idle, tick_fault}
 
 -- the turn of the session of a place
 abbrev tick_of : ℕ → Next
@@ -78,16 +76,6 @@ idle_makes space s e =
     ap (λ (x : SessionStep). not (is_empty x.posts && is_empty x.notes)) ticks
     ∙ ap not (and_right (is_empty (begin space s op.0).posts) false refl)
 
--- the first post that waits is delivered next
-pub delivery_next : (script : Script) (t : List Entry) (id : PostId) → IsPostedFirst script t id → IsNextStep script t (a_step.Deliver id)
-delivery_next script t id first = record {
-  next = delivery_of id first.sent;
-  is_next = ap (λ (o : Option Next). first_some o (idle_among script t (below (length script.sessions)))) first.first;
-  input = ap (λ (o : Option Post). option_map (delivery_of id) o) first.named;
-  taken = tt;
-  fault = delivery_fault script t id first.sent first.named first.running;
-}
-
 module _ (script : Script) (t : List Entry) (sessions : List CountedSession) (are : AreAt (length script.sessions) (IsSessionAt script t) sessions) (none : first_delivery script t (undelivered t) ≡ None) where
   -- whether the session of a place is idle
   idle_is : (place : ℕ) → place < length sessions → is_idle (session_of script (session_at place) t) ≡ is_idle_at sessions place
@@ -117,19 +105,6 @@ module _ (script : Script) (t : List Entry) (sessions : List CountedSession) (ar
     first_next =
         let within = first.within in
         idles_next ∙ first_below script t (length sessions) place first.within idle_first (λ j l. idle_is j (omega (arith, l, within)) ∙ first.lowest j l)
-
-    pub tick_next : IsNextStep script t (a_step.Tick (Session (session_at place)))
-    tick_next =
-        let enough = idle_makes script.space (session_of script (session_at place) t) idle_first in
-        record {
-          next = tick_of place;
-          is_next = first_next;
-          input = refl;
-          taken = first_there;
-          fault =
-              tick_fault script t (Session (session_at place)) refl
-              ∙ ap (λ (o : Option StepFault). first_some o (worn_fault t (Session (session_at place)))) (not_idle script t (Session (session_at place)) enough);
-        }
 
   -- else there is no next step
   pub none_next : IsNoneIdle sessions → next_input script t ≡ None
@@ -170,10 +145,22 @@ next_fails script t next (Worn a) is (n, same, actor, worn) = record {
   worn = worn;
 }
 
--- whether there is a next entry
-pub next_told : (script : Script) (t : List Entry) (step : Option Step) → MatchOption step (next_input script t ≡ None) (IsNextStep script t) → is_some step ≡ is_some (next_entry script t)
-next_told script t None none = sym (ap (λ (o : Option Next). is_some (option_map (entry_by script t) o)) none)
-next_told script t (Some step) n = sym (ap (λ (o : Option Next). is_some (option_map (entry_by script t) o)) n.is_next)
+-- there is a next entry where a post can be delivered
+pub next_posted : (script : Script) (t : List Entry) (o : Option PostId) → MatchOption o (first_delivery script t (undelivered t) ≡ None) (IsPostedFirst script t) → is_some o ≡ true
+    → true ≡ is_some (next_entry script t)
+next_posted script t None none e = absurd (false≢true e)
+next_posted script t (Some id) first e =
+    sym (ap (λ (o : Option Next). is_some (option_map (entry_by script t) (first_some o (idle_among script t (below (length script.sessions)))))) first.first)
+
+-- else where a session is idle
+pub next_idle : (script : Script) (t : List Entry) (sessions : List CountedSession) → AreAt (length script.sessions) (IsSessionAt script t) sessions
+    → (o : Option PostId) → MatchOption o (first_delivery script t (undelivered t) ≡ None) (IsPostedFirst script t) → is_some o ≡ false
+    → (place : Option ℕ) → MatchOption place (IsNoneIdle sessions) (IsFirstIdle sessions) → is_some place ≡ is_some (next_entry script t)
+next_idle script t sessions are (Some id) first e place h = absurd (false≢true (sym e))
+next_idle script t sessions are None none e None h =
+    sym (ap (λ (o : Option Next). is_some (option_map (entry_by script t) o)) (none_next script t sessions are none h))
+next_idle script t sessions are None none e (Some place) h =
+    sym (ap (λ (o : Option Next). is_some (option_map (entry_by script t) o)) (first_next script t sessions are none place h))
 
 -- ---- a session that is told to begin
 

@@ -15,7 +15,7 @@ use Rattle.hx_world.specs.Worlds.{Refuses, Steps}
 
 module _ (script : Script) (t : List Entry) where
   -- a delivery to an actor that hasn't halted has only a worn receiver in its way
-  pub delivery_fault : (id : PostId) (p : Post) → post_named id t ≡ Some p → has_halted script t p.to ≡ false → fault_of script t (a_step.Deliver id) ≡ worn_fault t p.to
+  delivery_fault : (id : PostId) (p : Post) → post_named id t ≡ Some p → has_halted script t p.to ≡ false → fault_of script t (a_step.Deliver id) ≡ worn_fault t p.to
   delivery_fault id p named running =
       ap (λ (o : Option Post). when_some o (Some model.Unsent) (λ (x : Post). first_some (halted_fault script t x.to) (worn_fault t x.to))) named
       ∙ ap (λ (b : Bool). first_some (cond b (Some model.Halted) None) (worn_fault t p.to)) running
@@ -25,7 +25,7 @@ module _ (script : Script) (t : List Entry) where
       ap (λ (o : Option Post). when_some o (Some model.Unsent) (λ (x : Post). first_some (halted_fault script t x.to) (worn_fault t x.to))) named
       ∙ ap (λ (b : Bool). first_some (cond b (Some model.Halted) None) (worn_fault t p.to)) halted
 
-  pub tick_fault : (a : Actor) → has_halted script t a ≡ false → fault_of script t (a_step.Tick a) ≡ first_some (idle_fault script t a) (worn_fault t a)
+  tick_fault : (a : Actor) → has_halted script t a ≡ false → fault_of script t (a_step.Tick a) ≡ first_some (idle_fault script t a) (worn_fault t a)
   tick_fault a running = ap (λ (b : Bool). first_some (cond b (Some model.Halted) None) (first_some (idle_fault script t a) (worn_fault t a))) running
 
   tick_halted : (a : Actor) → has_halted script t a ≡ true → fault_of script t (a_step.Tick a) ≡ Some model.Halted
@@ -43,7 +43,7 @@ module _ (script : Script) (t : List Entry) where
   worn : (a b : Actor) → is_worn a t ≡ true → b ≡ a → worn_fault t a ≡ Some (model.Worn b)
   worn a b e same = ap (λ (x : Bool). cond x (Some (model.Worn a)) None) e ∙ ap (λ (x : Actor). Some (model.Worn x)) (sym same)
 
-  pub not_idle : (a : Actor) → does_something Tick (made_of script t a Tick) ≡ true → idle_fault script t a ≡ None
+  not_idle : (a : Actor) → does_something Tick (made_of script t a Tick) ≡ true → idle_fault script t a ≡ None
   not_idle a e = ap (λ (b : Bool). cond b None (Some model.Idle)) e
 
   idle : (a : Actor) → does_something Tick (made_of script t a Tick) ≡ false → idle_fault script t a ≡ Some model.Idle

@@ -1,11 +1,10 @@
--- Which session begins its next call, and which step the schedule takes next.
+-- Which session begins its next call, and which post is delivered next.
 use Rattle.std.specs.Prelude.{◌≡◌, ℕ, ◌<◌, Bool, true, false, List, length, slice_get, Some}
-use Rattle.hx_model.specs.Types.{Entry, Post, PostId, Script, Step}
+use Rattle.hx_model.specs.Types.{Entry, Post, PostId, Script}
 use Rattle.hx_types.specs.Words.{when_some}
 use Rattle.hx_model.specs.Runs.{has_halted, post_named}
-use Rattle.hx_model.specs.Schedule.{Next, delivery_of, fault_of, first_delivery, is_idle, next_input, step_input, undelivered, worn_fault}
+use Rattle.hx_model.specs.Schedule.{delivery_of, first_delivery, is_idle, undelivered}
 use Rattle.hx_world.specs.declared.sessions.CountedSession.{CountedSession}
-use Rattle.hx_world.specs.Worlds.{IsStepOf}
 
 -- the session of this place has a call left and none under way
 abbrev pub is_idle_at : List CountedSession → ℕ → Bool
@@ -19,14 +18,6 @@ pub record IsFirstIdle (sessions : List CountedSession) (first : ℕ) : Type 0 w
   pub within : first < length sessions
   pub idle : is_idle_at sessions first ≡ true
   pub lowest : (place : ℕ) → place < first → is_idle_at sessions place ≡ false
-
--- the step is the one that the schedule takes next, and only a worn actor stands in its way
-pub record IsNextStep (script : Script) (t : List Entry) (step : Step) : Type 0 where
-  pub next : Next
-  pub is_next : next_input script t ≡ Some next
-  pub input : step_input t step ≡ Some next
-  pub taken : IsStepOf script step
-  pub fault : fault_of script t step ≡ worn_fault t next.actor
 
 -- the post of this name was sent to an actor that hasn't halted, and its delivery is the first
 pub record IsPostedFirst (script : Script) (t : List Entry) (id : PostId) : Type 0 where

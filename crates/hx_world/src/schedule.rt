@@ -1,8 +1,8 @@
 ghost use Rattle.std.specs.Prelude.{◌≡◌, None, Some, true, false, IfOk, OnErr, OnOk, IfErr, IfNone, IfSome, MatchOption, is_some, reverse};
 ghost use Rattle.hx_types.specs.declared.ids.Actor.TheVariants as an_actor;
 ghost use Rattle.hx_model.specs.Runs.{is_actor, session_of};
-ghost use Rattle.hx_model.specs.Schedule.{first_delivery, is_idle, next_entry, next_input, undelivered};
-ghost use Rattle.hx_world.specs.Idle.{IsFirstIdle, IsNextStep, IsNoneIdle, IsPostedFirst, IsRunningPost};
+ghost use Rattle.hx_model.specs.Schedule.{first_delivery, is_idle, next_entry, undelivered};
+ghost use Rattle.hx_world.specs.Idle.{IsFirstIdle, IsNoneIdle, IsPostedFirst, IsRunningPost};
 ghost use Rattle.hx_world.specs.Invariant.{IsWorld};
 ghost use Rattle.hx_world.specs.Names.{can_receive};
 ghost use Rattle.hx_world.specs.Nexts.{DeliversNext, FailsAt, Makes, delivery_in, tick_of};
@@ -14,7 +14,7 @@ use crate::hearing::running_hears;
 use crate::inside::Inside;
 use crate::logs::sent_post;
 use crate::sessions::CountedSession;
-use hx_types::{Actor, Post, PostId, SessionId, Step};
+use hx_types::{Post, PostId, SessionId};
 use std::alloc::Global;
 
 /// Makes the next entry, if there is one: the delivery of the lowest post that waits for an actor that
@@ -89,7 +89,7 @@ fn running_post(inside: &Inside, id: PostId) -> Option<&Post>
     }
 }
 
-/// Whether there is a next entry.
+/// Whether there is a next entry: a post that waits for an actor that hasn't halted, or an idle session.
 pub fn has_next(inside: &mut Inside) -> bool
     requires { IsWorld inside.old }
     ensures world { IsWorld inside.new }
@@ -97,23 +97,7 @@ pub fn has_next(inside: &mut Inside) -> bool
     ensures trace { inside.new.log.trace ≡ inside.old.log.trace }
     ensures next { result ≡ is_some (next_entry inside.old.script (reverse inside.old.log.trace)) }
 {
-    next_step(inside).is_some()
-}
-
-/// The step that the schedule takes next: the delivery of the lowest post that waits for an actor
-/// that hasn't halted, else a tick of the lowest idle session.
-fn next_step(inside: &mut Inside) -> Option<Step>
-    requires { IsWorld inside.old }
-    ensures world { IsWorld inside.new }
-    ensures script { inside.new.script ≡ inside.old.script }
-    ensures trace { inside.new.log.trace ≡ inside.old.log.trace }
-    ensures next { MatchOption result (next_input inside.old.script (reverse inside.old.log.trace) ≡ None) (IsNextStep inside.old.script (reverse inside.old.log.trace)) }
-{
-    if let Some(id) = first_waiting(inside) {
-        return Some(Step::Deliver(id));
-    }
-    let place = first_idle(inside.actors.sessions.as_slice())?;
-    Some(Step::Tick(Actor::Session(SessionId(place as u32 + 1))))
+    first_waiting(inside).is_some() || first_idle(inside.actors.sessions.as_slice()).is_some()
 }
 
 /// The name of the post that is delivered next: the lowest one that was never delivered and whose
