@@ -368,7 +368,13 @@ impl Slot {
         if self.accepted.len() + coming >= u32::MAX as usize {
             return Err(Memory);
         }
-        make_room(&mut self.accepted, coming, &mut self.early, n as usize)?;
+        let beside = self.room_beside();
+        make_room(
+            &mut self.accepted,
+            coming + beside,
+            &mut self.early,
+            n as usize,
+        )?;
         self.base
             .reserve(self.keeps_marks, self.accepted.as_slice())?;
         self.spare = n;
@@ -547,6 +553,17 @@ impl Slot {
         }
         self.commit(count);
         count as u32
+    }
+
+    /// For how many accepted updates there is to be room beside those that may come: where marks are
+    /// kept, a committed update stays in the list until the next one is committed.
+    fn room_beside(&self) -> usize
+        ensures { result ≤ 1 }
+    {
+        if self.keeps_marks && self.accepted.is_empty() {
+            return 1;
+        }
+        0
     }
 
     /// Commits so many of the lowest pending updates: all those up to the first that isn't

@@ -1,5 +1,5 @@
 -- Prefixes of keys, by their places.
-use Rattle.std.proofs.Common.{◌≡◌, ℕ, zero, suc, ◌+◌, Bool, false, List, [], ◌∷◌, ◌++◌, get_or, refl, sym, subst}
+use Rattle.std.proofs.Common.{◌≡◌, ℕ, zero, suc, Bool, false, List, [], ◌∷◌, ◌++◌, get_or, refl, sym, subst}
 use Rattle.std.specs.List.{slice_get}
 use Rattle.indexmap.specs.IndexMap.{set_value_at}
 use Rattle.hx_types.specs.Words.{when_some}

@@ -28,6 +28,9 @@ use std::marker::Model;
 /// them: a walk over all slots would cost it more. It is this project's choice.
 const FEWEST_TO_WALK: usize = 16;
 
+/// Room for how many slots a store begins with.
+const FIRST_SLOTS: usize = 16;
+
 /// The slot of each key, by its place: the number of the key in the order of coming. An index of
 /// the kept objects is brought up to date when a search asks.
 pub struct Slots {
@@ -150,7 +153,7 @@ impl Slots {
         if count >= u32::MAX as usize {
             return Err(Memory);
         }
-        self.slots.reserve(1)?;
+        make_room(&mut self.slots)?;
         self.prefixes.reserve(1)?;
         let held = key.copy(alloc)?;
         self.keys.insert(key.copy(alloc)?, false)?;
@@ -380,4 +383,20 @@ fn take_marked(ids: &mut Ids, order: &[usize], marks: &[bool])
             ids.push_reserved(*place as u32);
         }
     }
+}
+
+/// Makes room for one slot more. A full list gets room for four times as many: slots are large, so
+/// they are to move seldom, and what lies unused at the end of a long list takes no memory of the
+/// machine.
+fn make_room(slots: &mut Vec<Slot>) -> Result<(), Memory>
+    requires { vec_len slots.old < 2 ^ 32 }
+    ensures items { slots.new.items ≡ slots.old.items }
+    ensures len { vec_len slots.new ≡ vec_len slots.old }
+    ensures room { OnOk result (vec_len slots.new < vec_capacity slots.new) }
+{
+    if slots.len() < slots.capacity() {
+        return Ok(());
+    }
+    slots.reserve_exact(3 * slots.len() + FIRST_SLOTS)?;
+    Ok(())
 }
