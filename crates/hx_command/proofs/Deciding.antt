@@ -6,7 +6,7 @@ use Rattle.hx_types.specs.declared.ids.Actor.{Actor}
 use Rattle.hx_types.specs.declared.traces.Script.{Script}
 use Rattle.hx_script.specs.declared.errors.Reason.{Reason}
 use Rattle.hx_script.specs.declared.errors.ScriptError.TheVariants as a_script_error
-use Rattle.hx_replay.specs.Calling.{Drawn, Filled}
+use Rattle.hx_replay.specs.Streams.{Stream}
 use Rattle.hx_replay.specs.Causes.{limit}
 use Rattle.hx_replay.proofs.Lemmas.{refused_scripted}
 use Rattle.hx_command.specs.Threads.{EndsReading, EndsWith, Handed, IsDecided, IsReadAs, IsTextFaulty, IsTextIn, IsTextJudged, Language, ReadsAs, StopsReading, any_version, nothing, version_1}
@@ -39,7 +39,7 @@ any_version_exact = record {
   single = λ text line at reason why one other. let both = sym one ∙ other in cc;
 }
 
-module _ {A : Type 0} (language : Language A) (good : Handed → List ℕ → Type 0) (worn : Handed → Actor → Type 0) (x : A) (source : Drawn) (sink : Filled) (h : Handed) where
+module _ {A : Type 0} (language : Language A) (good : Handed → List ℕ → Type 0) (worn : Handed → Actor → Type 0) (x : A) (source sink : Stream) (h : Handed) where
   unread_ends : (outcome : Outcome) → h ≡ nothing → StopsReading language source outcome → EndsReading language good worn x source sink h outcome
   unread_ends Fine none cause = absurd cause
   unread_ends Usage none cause = cause
@@ -67,7 +67,7 @@ module _ {A : Type 0} (language : Language A) (good : Handed → List ℕ → Ty
   read_with (Worn a) read ends = (read, ends)
   read_with (Wrong line clause) read ends = ends
 
-module _ (good : Handed → List ℕ → Type 0) (worn : Handed → Actor → Type 0) (sink : Filled) (h : Handed) where
+module _ (good : Handed → List ℕ → Type 0) (worn : Handed → Actor → Type 0) (sink : Stream) (h : Handed) where
   -- without a fault of the sink a run writes its report, or ends for want of memory or at a worn actor
   pub ended_well : (outcome : Outcome) → EndsWith good worn sink h outcome → (Rose sink.faults_before sink.faults_after → ⊥)
       → (outcome ≡ Fine) ⊎ (outcome ≡ Memory) ⊎ ((a : Actor) × (outcome ≡ Worn a))
@@ -85,7 +85,7 @@ module _ {A : Type 0} (language : Language A) (exact : IsExact language) where
   at_text : (before : Option (List ℕ)) (text : List ℕ) (holds : List ℕ → Type 0) → before ≡ Some text → IfSome before holds → holds text
   at_text before text holds told h = subst (λ (o : Option (List ℕ)). IfSome o holds) told h
 
-  module _ (good : Handed → List ℕ → Type 0) (worn : Handed → Actor → Type 0) (x : A) (source : Drawn) (sink : Filled) (h : Handed) where
+  module _ (good : Handed → List ℕ → Type 0) (worn : Handed → Actor → Type 0) (x : A) (source sink : Stream) (h : Handed) where
     not_faulty : (text : List ℕ) (wanted : Outcome) → IsReadAs language text (Ok x) → IsTextFaulty language text wanted → ⊥
     not_faulty text Fine read faulty = faulty
     not_faulty text Usage read faulty = faulty
@@ -121,7 +121,7 @@ module _ {A : Type 0} (language : Language A) (exact : IsExact language) where
           complete = λ text told short taken still well. ended_well good worn sink h outcome ends well;
         }
 
-  module _ (source : Drawn) (sink : Filled) (text : List ℕ) (still : Rose source.faults_before source.faults_after → ⊥) where
+  module _ (source sink : Stream) (text : List ℕ) (still : Rose source.faults_before source.faults_after → ⊥) where
     as_wanted : (line : ℕ) (reason : Reason) (wanted : Outcome) → length text ≤ limit → language.refuses text line reason → IsTextFaulty language text wanted → Refused line reason ≡ wanted
     as_wanted line reason Fine short refused faulty = absurd faulty
     as_wanted line reason Usage short refused faulty = absurd faulty
@@ -168,7 +168,7 @@ module _ {A : Type 0} (language : Language A) (exact : IsExact language) where
     unread_complete (Wrong line clause) judged cause short taken = absurd cause
 
   -- what decides a call that read no script
-  pub decided_unread : (source : Drawn) (sink : Filled) (outcome shown : Outcome) → shown ≡ outcome → IfSome source.before (λ text. IsReadAs language text (Err outcome)) → StopsReading language source outcome → IsDecided language source sink shown
+  pub decided_unread : (source sink : Stream) (outcome shown : Outcome) → shown ≡ outcome → IfSome source.before (λ text. IsReadAs language text (Err outcome)) → StopsReading language source outcome → IsDecided language source sink shown
   decided_unread source sink outcome shown is judged cause =
       subst (λ (o : Outcome). IsDecided language source sink o) (sym is) (record {
         judged = judged;

@@ -18,7 +18,7 @@ use Rattle.hx_law_threads.proofs.Lemmas.{of_reverse}
 use Rattle.hx_soak.specs.Summing.{IsSummary}
 use Rattle.hx_words.specs.declared.commands.Soak.{Soak}
 use Rattle.hx_run.specs.Ran.{HasNoHalts, HasRisen, is_halt}
-use Rattle.hx_replay.specs.Calling.{Filled}
+use Rattle.hx_replay.specs.Streams.{Stream}
 use Rattle.hx_command.specs.Threads.{EndsWith, Handed, IsHandedWorn, IsHandedWritten, IsOfOneRun, IsThreaded, IsWritten, SpaceRun, SumsUp, handed_by, nothing}
 use Rattle.hx_replay.specs.declared.outcomes.Outcome.{Outcome}
 use Rattle.hx_replay.specs.declared.outcomes.Outcome.TheVariants.{Fine, Usage, Refused, TooLarge, ReadFault, WriteFault, Memory, Worn, Wrong}
@@ -34,7 +34,7 @@ same_handed t u s r a b p q n m e d f g h = λ i. handed (e i) (d i) (f i) (g i)
 pub none_at : {A : Type 0} (xs : List A) (i : ℕ) (x : A) → xs ≡ [] → slice_get xs i ≡ Some x → ⊥
 none_at xs i x e at = let none : slice_get [] i ≡ Some x = ap (λ l. slice_get l i) (sym e) ∙ at in absurd (search rules)
 
-module _ (good : Handed → List ℕ → Type 0) (worn : Handed → Actor → Type 0) (sink : Filled) where
+module _ (good : Handed → List ℕ → Type 0) (worn : Handed → Actor → Type 0) (sink : Stream) where
   by_outcome : (h : Handed) (bytes : List ℕ) (outcome : Outcome) → good h bytes → IsWritten sink bytes outcome → EndsWith good worn sink h outcome
   by_outcome h bytes Fine g written = (bytes, g, written)
   by_outcome h bytes Usage g written = written

@@ -8,12 +8,12 @@ use Rattle.hx_types.specs.declared.traces.Script.{Script}
 use Rattle.hx_replay.specs.declared.texts.Scripted.{Scripted}
 use Rattle.hx_replay.specs.declared.texts.Scripted.TheVariants.{One}
 use Rattle.hx_replay.specs.declared.outcomes.Outcome.{Outcome}
-use Rattle.hx_replay.specs.Calling.{Filled}
+use Rattle.hx_replay.specs.Streams.{Stream}
 use Rattle.hx_words.specs.declared.commands.Run.{Run}
 use Rattle.hx_command.specs.Threads.{EndsWith, Handed, IsRunReported, IsRunWorn, spaces_of, workers_in}
 
 -- how a run of the script ends
-pub ends_in : (run : Run) (sink : Filled) (h : Handed) (outcome : Outcome) (x y : Scripted) → x ≡ y → EndsWith (IsRunReported run y) (IsRunWorn run.workers y) sink h outcome
+pub ends_in : (run : Run) (sink : Stream) (h : Handed) (outcome : Outcome) (x y : Scripted) → x ≡ y → EndsWith (IsRunReported run y) (IsRunWorn run.workers y) sink h outcome
     → EndsWith (IsRunReported run x) (IsRunWorn run.workers x) sink h outcome
 ends_in run sink h outcome x y same ends = subst (λ (z : Scripted). EndsWith (IsRunReported run z) (IsRunWorn run.workers z) sink h outcome) (sym same) ends
 

@@ -8,7 +8,8 @@ use Rattle.hx_words.specs.Saying.{SaysRun, SaysShare, SaysSoak}
 use Rattle.hx_words.specs.declared.commands.Run.{Run}
 use Rattle.hx_words.specs.declared.commands.Share.{Share}
 use Rattle.hx_words.specs.declared.commands.Soak.{Soak}
-use Rattle.hx_replay.specs.Calling.{Drawn, EndsAudit, Filled}
+use Rattle.hx_replay.specs.Calling.{EndsAudit}
+use Rattle.hx_replay.specs.Streams.{Stream}
 use Rattle.hx_replay.specs.Commands.{SaysAudit}
 use Rattle.hx_command.specs.Telling.{AnswersAudit, Told}
 use Rattle.hx_command.specs.Threads.{EndsRun, EndsShare, Handed, IsDecided, IsTextJudged, Language, any_version, nothing, version_1}
@@ -41,21 +42,21 @@ pub no_soak_shares : (words : List (String Global)) (soak : Soak) (share : Share
 no_soak_shares words soak share a b = differ (first_long (map string_bytes words)) 4 5 (ap first_long a.said) (ap first_long b.said) (omega arith)
 
 -- what was written to the word `audit`
-pub audit_answered : (words : List (String Global)) (source : Drawn) (sink : Filled) (outcome : Outcome) → SaysAudit words → outcome ≡ Fine → EndsAudit source sink outcome → AnswersAudit words source sink
+pub audit_answered : (words : List (String Global)) (source sink : Stream) (outcome : Outcome) → SaysAudit words → outcome ≡ Fine → EndsAudit source sink outcome → AnswersAudit words source sink
 audit_answered words source sink outcome says fine ends = record { says = says; ends = subst (λ (o : Outcome). EndsAudit source sink o) fine ends }
 
 -- how a share ends whose report was written
-pub shared_at : (script : Script) (source : Drawn) (sink : Filled) (h : Handed) (outcome : Outcome) → outcome ≡ Fine → EndsShare script source sink h outcome → EndsShare script source sink h Fine
+pub shared_at : (script : Script) (source sink : Stream) (h : Handed) (outcome : Outcome) → outcome ≡ Fine → EndsShare script source sink h outcome → EndsShare script source sink h Fine
 shared_at script source sink h outcome fine ends = subst (λ (o : Outcome). EndsShare script source sink h o) fine ends
 
 -- ---- what is told of any words where there was no memory before the call
-nothing_run : (run : Run) (source : Drawn) (sink : Filled) → (scripted : Scripted) × EndsRun run scripted source sink nothing Memory
+nothing_run : (run : Run) (source sink : Stream) → (scripted : Scripted) × EndsRun run scripted source sink nothing Memory
 nothing_run run source sink = (no_scripted, refl)
 
-nothing_shared : (source : Drawn) (sink : Filled) → (script : Script) × EndsShare script source sink nothing Memory
+nothing_shared : (source sink : Stream) → (script : Script) × EndsShare script source sink nothing Memory
 nothing_shared source sink = (no_script, refl)
 
-nothing_decided : {A : Type 0} (language : Language A) (source : Drawn) (sink : Filled) → IsDecided language source sink Memory
+nothing_decided : {A : Type 0} (language : Language A) (source sink : Stream) → IsDecided language source sink Memory
 nothing_decided language source sink =
     record {
       judged = by source.before;
@@ -68,7 +69,7 @@ nothing_decided language source sink =
     by (Some text) = tt
 
 -- there was no memory before the call
-pub nothing_told : (words : List (String Global)) (source : Drawn) (sink : Filled) → Told words source sink Memory
+pub nothing_told : (words : List (String Global)) (source sink : Stream) → Told words source sink Memory
 nothing_told words source sink =
     record {
       h = nothing;

@@ -1,4 +1,5 @@
 pub mod Threads
+pub mod HandedBack
 pub mod Reading
 pub mod Telling
 pub mod Showing

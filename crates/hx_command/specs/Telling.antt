@@ -14,48 +14,49 @@ use Rattle.hx_words.specs.Saying.{SaysRun, SaysShare, SaysSoak}
 use Rattle.hx_replay.specs.declared.texts.Scripted.{Scripted}
 use Rattle.hx_replay.specs.declared.outcomes.Outcome.{Outcome}
 use Rattle.hx_replay.specs.declared.outcomes.Outcome.TheVariants as an_outcome
-use Rattle.hx_replay.specs.Calling.{Drawn, Ends, EndsAudit, Filled, Shows, Writes}
+use Rattle.hx_replay.specs.Calling.{Ends, EndsAudit, Shows, Writes}
 use Rattle.hx_replay.specs.Commands.{Asks, SaysAudit}
+use Rattle.hx_replay.specs.Streams.{Stream}
 use Rattle.hx_replay.specs.declared.words.Question.{Question}
 use Rattle.hx_command.specs.Showing.{shown_text}
 use Rattle.hx_command.specs.Threads.{EndsRun, EndsShare, EndsSoak, Handed, IsDecided, IsUnthreaded, any_version, version_1}
 
 -- the answer to words that start no threads was written
-pub record AnswersAlone (words : List (String Global)) (source : Drawn) (sink : Filled) (h : Handed) : Type 0 where
+pub record AnswersAlone (words : List (String Global)) (source sink : Stream) (h : Handed) : Type 0 where
   pub unthreaded : IsUnthreaded words
   pub writes : Writes words source sink h.traces
 
 -- the report that was read breaks no clause, and `audit yes` was written
-pub record AnswersAudit (words : List (String Global)) (source : Drawn) (sink : Filled) : Type 0 where
+pub record AnswersAudit (words : List (String Global)) (source sink : Stream) : Type 0 where
   pub says : SaysAudit words
   pub ends : EndsAudit source sink an_outcome.Fine
 
 -- the report of a run on threads was written
-pub record AnswersRun (words : List (String Global)) (source : Drawn) (sink : Filled) (h : Handed) : Type 0 where
+pub record AnswersRun (words : List (String Global)) (source sink : Stream) (h : Handed) : Type 0 where
   pub command : Run
   pub says : SaysRun words command
   pub scripted : Scripted
   pub ends : EndsRun command scripted source sink h an_outcome.Fine
 
 -- the summary of a soak was written
-pub record AnswersSoak (words : List (String Global)) (sink : Filled) (h : Handed) : Type 0 where
+pub record AnswersSoak (words : List (String Global)) (sink : Stream) (h : Handed) : Type 0 where
   pub command : Soak
   pub says : SaysSoak words command
   pub ends : EndsSoak command sink h an_outcome.Fine
 
 -- the report of a script that callers shared was written
-pub record AnswersShare (words : List (String Global)) (source : Drawn) (sink : Filled) (h : Handed) : Type 0 where
+pub record AnswersShare (words : List (String Global)) (source sink : Stream) (h : Handed) : Type 0 where
   pub command : Share
   pub says : SaysShare words command
   pub script : Script
   pub ends : EndsShare script source sink h an_outcome.Fine
 
 -- the answer to the words was written
-abbrev pub Answers : List (String Global) → Drawn → Filled → Handed → Type 0
+abbrev pub Answers : List (String Global) → Stream → Stream → Handed → Type 0
 Answers words source sink h = AnswersAlone words source sink h ⊎ (AnswersAudit words source sink ⊎ (AnswersRun words source sink h ⊎ (AnswersSoak words sink h ⊎ AnswersShare words source sink h)))
 
 -- how a call ends, by its words; some value is handed back
-pub record Told (words : List (String Global)) (source : Drawn) (sink : Filled) (outcome : Outcome) : Type 0 where
+pub record Told (words : List (String Global)) (source sink : Stream) (outcome : Outcome) : Type 0 where
   pub h : Handed
   pub alone : IsUnthreaded words → (outcome ≡ an_outcome.Memory) ⊎ Ends words source sink outcome h.traces
   pub run : (command : Run) → SaysRun words command → (scripted : Scripted) × EndsRun command scripted source sink h outcome
@@ -67,7 +68,7 @@ pub record Told (words : List (String Global)) (source : Drawn) (sink : Filled) 
   pub share_decided : (command : Share) → SaysShare words command → IsDecided version_1 source sink outcome
 
 -- how the program ends with these words: what was asked was shown, or the call ended as its words have it
-pub record EndsProgram (words : List (String Global)) (source : Drawn) (sink : Filled) (outcome : Outcome) : Type 0 where
+pub record EndsProgram (words : List (String Global)) (source sink : Stream) (outcome : Outcome) : Type 0 where
   pub asked : (question : Question) → Asks words question → Shows sink (shown_text question) outcome
   pub called : ((question : Question) → ¬ Asks words question) → Told words source sink outcome
 
@@ -76,7 +77,7 @@ abbrev pub IsUnread : Outcome → Type 0
 IsUnread outcome = (outcome ≡ an_outcome.Memory) ⊎ (outcome ≡ an_outcome.Usage)
 
 -- the line was printed, or a prefix of it and a fault rose, or there was no room to make it and nothing was
-abbrev pub Prints : Filled → List ℕ → Type 0
+abbrev pub Prints : Stream → List ℕ → Type 0
 Prints errors line =
     Appends errors.before errors.after line
     ⊎ (Rose errors.faults_before errors.faults_after × AppendsPrefix errors.before errors.after line ⊎ (errors.after ≡ errors.before))

@@ -1,5 +1,5 @@
 -- What the program makes of a script on threads, and how a call with the words of `run`, of `soak` or of `share` ends.
-use Rattle.std.specs.Prelude.{◌≡◌, ◌⊎◌, ◌+◌, ◌/◌, ◌<◌, ◌≤◌, ℕ, false, List, [], ◌∷◌, ◌++◌, reverse, drop, length, map, min, Option, None, Some, Ok, Err, Result, IfSome, ⊤}
+use Rattle.std.specs.Prelude.{◌≡◌, ◌⊎◌, ◌+◌, ◌*◌, ◌/◌, ◌<◌, ◌≤◌, ℕ, false, List, [], ◌∷◌, ◌++◌, reverse, drop, length, map, min, slice_get, Option, None, Some, Ok, Err, Result, IfSome, ⊤}
 use Rattle.std.specs.List.{AllZip, flat_map}
 use Rattle.std.specs.declared.string.String.{String}
 use Rattle.std.specs.declared.alloc.Global.{Global}
@@ -18,8 +18,10 @@ use Rattle.hx_report.specs.BundleReporting.{IsBundleReport}
 use Rattle.hx_report.specs.Reporting.{IsReport}
 use Rattle.hx_clock.specs.Seats.{Seated}
 use Rattle.hx_mail.specs.Boxes.{Ported}
+use Rattle.hx_fate.specs.declared.fates.FateState.{FateState}
 use Rattle.hx_fate.specs.declared.fates.Tuning.{Tuning}
-use Rattle.hx_run.specs.Ran.{IsRan}
+use Rattle.hx_fate.specs.States.{tuned}
+use Rattle.hx_run.specs.Ran.{HasRisen, IsRan}
 use Rattle.hx_share.specs.Sharing.{IsShared}
 use Rattle.hx_soak.specs.Soaking.{script_drawn, soak}
 use Rattle.hx_law_soak.specs.Sequence.{tally_in_order}
@@ -32,9 +34,9 @@ use Rattle.hx_replay.specs.declared.outcomes.Outcome.{Outcome}
 use Rattle.hx_replay.specs.declared.outcomes.Outcome.TheVariants as an_outcome
 use Rattle.hx_replay.specs.declared.texts.Scripted.{Scripted}
 use Rattle.hx_replay.specs.declared.texts.Scripted.TheVariants.{One, Several}
-use Rattle.hx_replay.specs.Calling.{Drawn, Filled}
 use Rattle.hx_replay.specs.Causes.{ReadsText, limit}
 use Rattle.hx_replay.specs.Runs.{IsLawful}
+use Rattle.hx_replay.specs.Streams.{Stream}
 use Rattle.hx_replay.specs.Texts.{IsRefused, scripted_of}
 
 -- how the words of `run` tune a fate
@@ -93,6 +95,22 @@ handed_from scripts runs =
       ports = flat_map (λ (r : SpaceRun). r.ports) runs;
       fates = fates_of runs;
     }
+
+-- ---- how fates rose
+-- the fates of the drivers of one space, in order: each was tuned so, and its counts rose by what it was asked and by what it answered
+abbrev pub HaveRisen : {F : Type 0} → (F → FateState) → Tuning → Script → ℕ → List F → List F → Handed → Type 0
+HaveRisen {F} state tuning script workers before after h =
+    (trace : List Entry) → slice_get h.traces 0 ≡ Some trace → (i : ℕ) (f g : F) (t : Totals)
+    → slice_get before i ≡ Some f → slice_get after i ≡ Some g → slice_get h.totals i ≡ Some t
+    → HasRisen script workers trace i t (tuned tuning (state f)) (state g)
+
+-- the same of each space: space k, from 0, has the fates from k times its number of threads on
+abbrev pub HaveRisenInEach : {F : Type 0} → (F → FateState) → Tuning → List Script → ℕ → List F → List F → Handed → Type 0
+HaveRisenInEach {F} state tuning scripts workers before after h =
+    (k j : ℕ) (script : Script) (trace : List Entry) (f g : F) (t : Totals) → j < workers
+    → slice_get scripts k ≡ Some script → slice_get h.traces k ≡ Some trace
+    → slice_get before (k * workers + j) ≡ Some f → slice_get after (k * workers + j) ≡ Some g → slice_get h.totals (k * workers + j) ≡ Some t
+    → HasRisen script workers trace j t (tuned tuning (state f)) (state g)
 
 -- ---- runs on threads
 
@@ -184,7 +202,7 @@ IsRunWorn workers (Several bundle) h a = AreWornOnThreads bundle workers h a
 -- ---- how a call ends
 
 -- these bytes were written, or a prefix of them and a fault rose
-abbrev pub IsWritten : Filled → List ℕ → Outcome → Type 0
+abbrev pub IsWritten : Stream → List ℕ → Outcome → Type 0
 IsWritten sink bytes an_outcome.Fine = Appends sink.before sink.after bytes
 IsWritten sink bytes an_outcome.Usage = ⊥
 IsWritten sink bytes (an_outcome.Refused line reason) = ⊥
@@ -196,7 +214,7 @@ IsWritten sink bytes (an_outcome.Worn a) = ⊥
 IsWritten sink bytes (an_outcome.Wrong line clause) = ⊥
 
 -- how a call ends whose script was read, where `good` says what an answer is and `worn` what a worn actor leaves: the answer was written, or a prefix of it and a fault rose, or an actor is worn
-abbrev pub EndsWith : (Handed → List ℕ → Type 0) → (Handed → Actor → Type 0) → Filled → Handed → Outcome → Type 0
+abbrev pub EndsWith : (Handed → List ℕ → Type 0) → (Handed → Actor → Type 0) → Stream → Handed → Outcome → Type 0
 EndsWith good worn sink h an_outcome.Fine = (bytes : List ℕ) × good h bytes × IsWritten sink bytes an_outcome.Fine
 EndsWith good worn sink h an_outcome.Usage = ⊥
 EndsWith good worn sink h (an_outcome.Refused line reason) = ⊥
@@ -208,7 +226,7 @@ EndsWith good worn sink h (an_outcome.Worn a) = worn h a
 EndsWith good worn sink h (an_outcome.Wrong line clause) = ⊥
 
 -- what was given is handed back and its answer was written, or a prefix of it, or there was no memory to hand it back
-abbrev pub IsHandedWritten : Filled → Handed → Handed → List ℕ → Outcome → Type 0
+abbrev pub IsHandedWritten : Stream → Handed → Handed → List ℕ → Outcome → Type 0
 IsHandedWritten sink given h bytes outcome = ((h ≡ given) × IsWritten sink bytes outcome) ⊎ ((outcome ≡ an_outcome.Memory) × (h ≡ nothing))
 
 -- what was given is handed back with the worn actor, or there was no memory to hand it back
@@ -216,7 +234,7 @@ abbrev pub IsHandedWorn : Handed → Handed → Actor → Outcome → Type 0
 IsHandedWorn given h a outcome = ((outcome ≡ an_outcome.Worn a) × (h ≡ given)) ⊎ ((outcome ≡ an_outcome.Memory) × (h ≡ nothing))
 
 -- how a script ends on threads
-abbrev pub EndsOnThreads : (Handed → List ℕ → Type 0) → Script → ℕ → Filled → Handed → Outcome → Type 0
+abbrev pub EndsOnThreads : (Handed → List ℕ → Type 0) → Script → ℕ → Stream → Handed → Outcome → Type 0
 EndsOnThreads good script workers sink h outcome = EndsWith good (IsWornOnThreads script workers) sink h outcome
 
 -- what a text is read as, and what it is refused for
@@ -232,13 +250,13 @@ abbrev pub version_1 : Language Script
 version_1 = record { reads = λ text x. script_of text ≡ Ok x; refuses = λ text line reason. script_of text ≡ Err (a_script_error.Refused line reason) }
 
 -- the source was read to its end, and its text is read as this
-pub record ReadsAs {A : Type 0} (language : Language A) (source : Drawn) (x : A) : Type 0 where
+pub record ReadsAs {A : Type 0} (language : Language A) (source : Stream) (x : A) : Type 0 where
   pub text : List ℕ
   pub reads : ReadsText source.before source.after text
   pub text_is : language.reads text x
 
 -- why nothing was read
-abbrev pub StopsReading : {A : Type 0} → Language A → Drawn → Outcome → Type 0
+abbrev pub StopsReading : {A : Type 0} → Language A → Stream → Outcome → Type 0
 StopsReading language source an_outcome.Fine = ⊥
 StopsReading language source an_outcome.Usage = ⊥
 StopsReading language source (an_outcome.Refused line reason) = (text : List ℕ) × ReadsText source.before source.after text × language.refuses text line reason
@@ -283,7 +301,7 @@ IsReadAs language text (Ok x) = (length text ≤ limit) × language.reads text x
 IsReadAs language text (Err outcome) = IsTextJudged language text outcome
 
 -- how a call ends that reads a text, as this where it reads one
-abbrev pub EndsReading : {A : Type 0} → Language A → (Handed → List ℕ → Type 0) → (Handed → Actor → Type 0) → A → Drawn → Filled → Handed → Outcome → Type 0
+abbrev pub EndsReading : {A : Type 0} → Language A → (Handed → List ℕ → Type 0) → (Handed → Actor → Type 0) → A → Stream → Stream → Handed → Outcome → Type 0
 EndsReading language good worn x source sink h an_outcome.Fine = ReadsAs language source x × EndsWith good worn sink h an_outcome.Fine
 EndsReading language good worn x source sink h an_outcome.Usage = ⊥
 EndsReading language good worn x source sink h (an_outcome.Refused line reason) = (h ≡ nothing) × StopsReading language source (an_outcome.Refused line reason)
@@ -295,15 +313,15 @@ EndsReading language good worn x source sink h (an_outcome.Worn a) = ReadsAs lan
 EndsReading language good worn x source sink h (an_outcome.Wrong line clause) = ⊥
 
 -- how a call with the words of `run` ends
-abbrev pub EndsRun : Run → Scripted → Drawn → Filled → Handed → Outcome → Type 0
+abbrev pub EndsRun : Run → Scripted → Stream → Stream → Handed → Outcome → Type 0
 EndsRun run scripted source sink h outcome = EndsReading any_version (IsRunReported run scripted) (IsRunWorn run.workers scripted) scripted source sink h outcome
 
 -- how a call with the words of `soak` ends
-abbrev pub EndsSoak : Soak → Filled → Handed → Outcome → Type 0
+abbrev pub EndsSoak : Soak → Stream → Handed → Outcome → Type 0
 EndsSoak soaked sink h outcome = EndsOnThreads (IsSummed soaked) (script_drawn soaked.seed soaked.calls) soaked.workers sink h outcome
 
 -- for a source that tells its bytes these alone decide, but for faults, want of memory and worn actors
-pub record IsDecided {A : Type 0} (language : Language A) (source : Drawn) (sink : Filled) (outcome : Outcome) : Type 0 where
+pub record IsDecided {A : Type 0} (language : Language A) (source sink : Stream) (outcome : Outcome) : Type 0 where
   pub judged : IfSome source.before (λ text. IsTextJudged language text outcome)
   pub faulty : (text : List ℕ) (wanted : Outcome) → source.before ≡ Some text → IsTextFaulty language text wanted
       → ¬ Rose source.faults_before source.faults_after
@@ -334,7 +352,7 @@ abbrev pub IsWornShared : Script → Handed → Actor → Type 0
 IsWornShared script h a = (trace : List Entry) × IsSharedBy script trace h (Some a)
 
 -- how a call with the words of `share` ends
-abbrev pub EndsShare : Script → Drawn → Filled → Handed → Outcome → Type 0
+abbrev pub EndsShare : Script → Stream → Stream → Handed → Outcome → Type 0
 EndsShare script source sink h outcome = EndsReading version_1 (IsSharedReport script) (IsWornShared script) script source sink h outcome
 
 -- the words start no threads

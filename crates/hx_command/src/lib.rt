@@ -7,6 +7,8 @@
 //! The words and how a call ends are this project's choice.
 #![tactic(auto)]
 
+mod commands;
+mod endings;
 mod finished;
 mod program;
 mod reading;
@@ -16,7 +18,6 @@ mod soaking;
 mod space_parts;
 mod space_reports;
 mod space_runs;
-mod threaded;
 mod threads;
 mod top;
 mod writing;

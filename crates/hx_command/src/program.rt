@@ -11,6 +11,7 @@ ghost use Rattle.hx_replay.specs.Commands.{Asks};
 ghost use Rattle.hx_replay.specs.Outcomes.{IsSilent, fault_line, status_of};
 ghost use Rattle.hx_command.specs.Showing.{shown_text};
 ghost use Rattle.hx_replay.specs.declared.words.Question.{Question};
+ghost use Rattle.hx_replay.specs.Streams.{drawn, filled};
 
 use crate::finished::Finished;
 use crate::space_runs::MOST_DRIVERS;
@@ -104,17 +105,14 @@ where
     // The status is that of the call with some words, or that of words that couldn't be read, with which
     // nothing is read or written; and the line of that outcome was printed.
     ensures told { (outcome : Outcome) × (result ≡ status_of outcome)
-        × (((words : List (String Global)) × EndsProgram words
-        (record { before = S.left source.old; after = S.left source.new; faults_before = S.faults source.old; faults_after = S.faults source.new })
-        (record { before = K.held sink.old; after = K.held sink.new; faults_before = K.faults sink.old; faults_after = K.faults sink.new }) outcome)
+        × (((words : List (String Global)) × EndsProgram words (drawn S.Source source.old source.new) (filled K.Sink sink.old sink.new) outcome)
         ⊎ (IsUnread outcome × (source.new ≡ source.old) × (sink.new ≡ sink.old)))
-        × Prints (record { before = E.held errors.old; after = E.held errors.new; faults_before = E.faults errors.old; faults_after = E.faults errors.new }) (fault_line outcome) }
+        × Prints (filled E.Sink errors.old errors.new) (fault_line outcome) }
 
     // With status 0 what was asked was shown, or the answer to the source's text was written.
     ensures fine { result ≡ 0 → (words : List (String Global)) × (
         ((question : Question) × Asks words question × Appends (K.held sink.old) (K.held sink.new) (shown_text question))
-        ⊎ ((h : Handed) × Answers words (record { before = S.left source.old; after = S.left source.new; faults_before = S.faults source.old; faults_after = S.faults source.new })
-        (record { before = K.held sink.old; after = K.held sink.new; faults_before = K.faults sink.old; faults_after = K.faults sink.new }) h)) }
+        ⊎ ((h : Handed) × Answers words (drawn S.Source source.old source.new) (filled K.Sink sink.old sink.new) h)) }
 
     // The status is that of the outcome: a fault has its cause, and only an answer is written.
     ensures read_fault { result ≡ 4 → Rose (S.faults source.old) (S.faults source.new) }
@@ -137,16 +135,12 @@ fn command<R: Threads + Wait + Sync, S: Source, K: Sink>(
     source: &mut S,
     sink: &mut K,
 ) -> Outcome
-    ensures shown { (question : Question) → Asks words.now question → Shows (record { before = K.held sink.old; after = K.held sink.new; faults_before = K.faults sink.old; faults_after = K.faults sink.new }) (shown_text question) result }
+    ensures shown { (question : Question) → Asks words.now question → Shows (filled K.Sink sink.old sink.new) (shown_text question) result }
     ensures unread { (question : Question) → Asks words.now question → source.new ≡ source.old }
-    ensures told { ((question : Question) → ¬ Asks words.now question) → Told words.now
-        (record { before = S.left source.old; after = S.left source.new; faults_before = S.faults source.old; faults_after = S.faults source.new })
-        (record { before = K.held sink.old; after = K.held sink.new; faults_before = K.faults sink.old; faults_after = K.faults sink.new })
-        result }
+    ensures told { ((question : Question) → ¬ Asks words.now question) → Told words.now (drawn S.Source source.old source.new) (filled K.Sink sink.old sink.new) result }
     ensures fine { result ≡ Outcome.Fine →
         ((question : Question) × Asks words.now question × Appends (K.held sink.old) (K.held sink.new) (shown_text question))
-        ⊎ ((h : Handed) × Answers words.now (record { before = S.left source.old; after = S.left source.new; faults_before = S.faults source.old; faults_after = S.faults source.new })
-        (record { before = K.held sink.old; after = K.held sink.new; faults_before = K.faults sink.old; faults_after = K.faults sink.new }) h) }
+        ⊎ ((h : Handed) × Answers words.now (drawn S.Source source.old source.new) (filled K.Sink sink.old sink.new) h) }
     ensures read_fault { result ≡ Outcome.ReadFault → Rose (S.faults source.old) (S.faults source.new) }
     ensures write_fault { result ≡ Outcome.WriteFault → Rose (K.faults sink.old) (K.faults sink.new) }
     ensures silent { IsSilent result → sink.new ≡ sink.old }
@@ -179,13 +173,8 @@ fn called<R: Threads + Wait + Sync, S: Source, K: Sink>(
     source: &mut S,
     sink: &mut K,
 ) -> Outcome
-    ensures told { Told words.now
-        (record { before = S.left source.old; after = S.left source.new; faults_before = S.faults source.old; faults_after = S.faults source.new })
-        (record { before = K.held sink.old; after = K.held sink.new; faults_before = K.faults sink.old; faults_after = K.faults sink.new })
-        result }
-    ensures fine { result ≡ Outcome.Fine → (h : Handed) × Answers words.now
-        (record { before = S.left source.old; after = S.left source.new; faults_before = S.faults source.old; faults_after = S.faults source.new })
-        (record { before = K.held sink.old; after = K.held sink.new; faults_before = K.faults sink.old; faults_after = K.faults sink.new }) h }
+    ensures told { Told words.now (drawn S.Source source.old source.new) (filled K.Sink sink.old sink.new) result }
+    ensures fine { result ≡ Outcome.Fine → (h : Handed) × Answers words.now (drawn S.Source source.old source.new) (filled K.Sink sink.old sink.new) h }
     ensures read_fault { result ≡ Outcome.ReadFault → Rose (S.faults source.old) (S.faults source.new) }
     ensures write_fault { result ≡ Outcome.WriteFault → Rose (K.faults sink.old) (K.faults sink.new) }
     ensures silent { IsSilent result → sink.new ≡ sink.old }
@@ -237,7 +226,7 @@ fn shown_text(question: Question) -> &'static [u8]
 }
 
 fn show<K: Sink>(sink: &mut K, text: &[u8]) -> Outcome
-    ensures { Shows (record { before = K.held sink.old; after = K.held sink.new; faults_before = K.faults sink.old; faults_after = K.faults sink.new }) text.now result }
+    ensures { Shows (filled K.Sink sink.old sink.new) text.now result }
 {
     match write_all(sink, text) {
         Ok(()) => Outcome::Fine,

@@ -4,6 +4,7 @@ ghost use Rattle.hx_types.specs.Fitting.{IsScript};
 ghost use Rattle.hx_replay.specs.Texts.{IsScripted, scripted_of};
 ghost use Rattle.hx_command.specs.Reading.{IsTextStop};
 ghost use Rattle.hx_command.specs.Threads.{IsReadAs, ReadsAs, StopsReading, any_version, version_1};
+ghost use Rattle.hx_replay.specs.Streams.{drawn};
 
 use hx_io::{Source, read_all};
 use hx_replay::{Outcome, Scripted, read_scripted};
@@ -17,9 +18,9 @@ use std::alloc::Global;
 /// `Refused` exactly where the text is no script of one space, with its first faulty line; `TooLarge`
 /// exactly where the source gave more bytes than a script may have; `ReadFault`; `Memory`.
 pub fn read_script<S: Source>(alloc: Global, source: &mut S) -> Result<Script, Outcome>
-    ensures script { IfOk result (ReadsAs version_1 (record { before = S.left source.old; after = S.left source.new; faults_before = S.faults source.old; faults_after = S.faults source.new })) }
+    ensures script { IfOk result (ReadsAs version_1 (drawn S.Source source.old source.new)) }
     ensures valid { IfOk result IsScript }
-    ensures cause { IfErr result (StopsReading version_1 (record { before = S.left source.old; after = S.left source.new; faults_before = S.faults source.old; faults_after = S.faults source.new })) }
+    ensures cause { IfErr result (StopsReading version_1 (drawn S.Source source.old source.new)) }
     ensures judged { IfSome (S.left source.old) (λ text. IsReadAs version_1 text result) }
     ensures faults { S.faults source.old ≤ S.faults source.new }
 {
@@ -34,9 +35,9 @@ pub fn read_script<S: Source>(alloc: Global, source: &mut S) -> Result<Script, O
 ///
 /// Those of [`read_script`], for scripts of both kinds.
 pub fn read_any_script<S: Source>(alloc: Global, source: &mut S) -> Result<Scripted, Outcome>
-    ensures scripted { IfOk result (ReadsAs any_version (record { before = S.left source.old; after = S.left source.new; faults_before = S.faults source.old; faults_after = S.faults source.new })) }
+    ensures scripted { IfOk result (ReadsAs any_version (drawn S.Source source.old source.new)) }
     ensures valid { IfOk result IsScripted }
-    ensures cause { IfErr result (StopsReading any_version (record { before = S.left source.old; after = S.left source.new; faults_before = S.faults source.old; faults_after = S.faults source.new })) }
+    ensures cause { IfErr result (StopsReading any_version (drawn S.Source source.old source.new)) }
     ensures judged { IfSome (S.left source.old) (λ text. IsReadAs any_version text result) }
     ensures faults { S.faults source.old ≤ S.faults source.new }
 {

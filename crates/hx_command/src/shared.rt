@@ -1,12 +1,15 @@
-ghost use Rattle.std.specs.Prelude.{◌≡◌, ◌≤◌, [], ◌∷◌, false, length, reverse, IfOk};
+ghost use Rattle.std.specs.Prelude.{◌≡◌, ◌≤◌, [], ◌∷◌, false, reverse, IfOk};
 ghost use Rattle.hx_report.specs.Reporting.{IsReport};
 ghost use Rattle.hx_types.specs.Fitting.{IsScript};
 ghost use Rattle.hx_types.specs.declared.traces.Script.{Script as ScriptSeen};
 ghost use Rattle.hx_words.specs.Limits.{IsShare};
 ghost use Rattle.hx_replay.specs.Outcomes.{IsSilent, status_of};
 ghost use Rattle.hx_command.specs.Threads.{EndsShare, EndsWith, IsDecided, IsSharedBy, IsHandedWorn, IsSharedReport, IsWornShared, IsWritten, only, version_1};
+ghost use Rattle.hx_command.specs.HandedBack.{handed_back};
+ghost use Rattle.hx_replay.specs.Streams.{drawn, filled};
 
-use crate::finished::{Finished, ended, unthreaded};
+use crate::endings::{without_threads, without_trace};
+use crate::finished::Finished;
 use crate::reading::read_script;
 use hx_driver::Gate;
 use hx_io::{Sink, Source, write_all};
@@ -33,22 +36,15 @@ pub fn share_words<R: Threads + Wait + Sync, S: Source, K: Sink, G: Gate + Sync>
 ) -> Finished
     requires limits { IsShare command }
     ensures status { result.done.status ≡ status_of result.done.outcome }
-    ensures share { (script : ScriptSeen) × EndsShare script
-        (record { before = S.left source.old; after = S.left source.new; faults_before = S.faults source.old; faults_after = S.faults source.new })
-        (record { before = K.held sink.old; after = K.held sink.new; faults_before = K.faults sink.old; faults_after = K.faults sink.new })
-        (record { traces = result.done.traces; seats = result.seats.items; totals = result.totals.items; ports = result.ports.items; fates = length result.fates.items })
-        result.done.outcome }
-    ensures decided { IsDecided version_1
-        (record { before = S.left source.old; after = S.left source.new; faults_before = S.faults source.old; faults_after = S.faults source.new })
-        (record { before = K.held sink.old; after = K.held sink.new; faults_before = K.faults sink.old; faults_after = K.faults sink.new })
-        result.done.outcome }
+    ensures share { (script : ScriptSeen) × EndsShare script (drawn S.Source source.old source.new) (filled K.Sink sink.old sink.new) (handed_back result) result.done.outcome }
+    ensures decided { IsDecided version_1 (drawn S.Source source.old source.new) (filled K.Sink sink.old sink.new) result.done.outcome }
     ensures silent { IsSilent result.done.outcome → sink.new ≡ sink.old }
     ensures source_faults { S.faults source.old ≤ S.faults source.new }
     ensures sink_faults { K.faults sink.old ≤ K.faults sink.new }
 {
     match read_script(alloc, source) {
         Ok(script) => answer_share(rt, alloc, command, &script, sink, gate),
-        Err(outcome) => ended(alloc, outcome),
+        Err(outcome) => without_trace(alloc, outcome),
     }
 }
 
@@ -63,17 +59,14 @@ fn answer_share<R: Threads + Wait + Sync, K: Sink, G: Gate + Sync>(
 ) -> Finished
     requires script { IsScript script.now }
     requires limits { IsShare command }
-    ensures ends { EndsWith (IsSharedReport script.now) (IsWornShared script.now)
-        (record { before = K.held sink.old; after = K.held sink.new; faults_before = K.faults sink.old; faults_after = K.faults sink.new })
-        (record { traces = result.done.traces; seats = result.seats.items; totals = result.totals.items; ports = result.ports.items; fates = length result.fates.items })
-        result.done.outcome }
+    ensures ends { EndsWith (IsSharedReport script.now) (IsWornShared script.now) (filled K.Sink sink.old sink.new) (handed_back result) result.done.outcome }
     ensures status { result.done.status ≡ status_of result.done.outcome }
     ensures silent { IsSilent result.done.outcome → sink.new ≡ sink.old }
     ensures faults { K.faults sink.old ≤ K.faults sink.new }
 {
     match share_script(rt, alloc, command, script, gate) {
         Ok(shared) => report_share(alloc, script, sink, shared),
-        Err(_) => ended(alloc, Outcome::Memory),
+        Err(_) => without_trace(alloc, Outcome::Memory),
     }
 }
 
@@ -103,10 +96,7 @@ fn share_script<R: Threads + Wait + Sync, G: Gate + Sync>(
 fn report_share<K: Sink>(alloc: Global, script: &Script, sink: &mut K, shared: Shared) -> Finished
     requires script { IsScript script.now }
     requires shared { IsSharedBy script.now shared.trace (only (shared.trace ∷ [])) shared.worn }
-    ensures ends { EndsWith (IsSharedReport script.now) (IsWornShared script.now)
-        (record { before = K.held sink.old; after = K.held sink.new; faults_before = K.faults sink.old; faults_after = K.faults sink.new })
-        (record { traces = result.done.traces; seats = result.seats.items; totals = result.totals.items; ports = result.ports.items; fates = length result.fates.items })
-        result.done.outcome }
+    ensures ends { EndsWith (IsSharedReport script.now) (IsWornShared script.now) (filled K.Sink sink.old sink.new) (handed_back result) result.done.outcome }
     ensures status { result.done.status ≡ status_of result.done.outcome }
     ensures silent { IsSilent result.done.outcome → sink.new ≡ sink.old }
     ensures faults { K.faults sink.old ≤ K.faults sink.new }
@@ -117,18 +107,18 @@ fn report_share<K: Sink>(alloc: Global, script: &Script, sink: &mut K, shared: S
     }
     match reported(alloc, script, trace) {
         Ok((traces, bytes)) => write_share(alloc, sink, traces, bytes.as_slice()),
-        Err(_) => ended(alloc, Outcome::Memory),
+        Err(_) => without_trace(alloc, Outcome::Memory),
     }
 }
 
 /// The traces of what callers shared until an actor was worn.
 fn hand_worn(alloc: Global, actor: Actor, trace: Trace) -> Finished
-    ensures handed { IsHandedWorn (only (trace ∷ [])) (record { traces = result.done.traces; seats = result.seats.items; totals = result.totals.items; ports = result.ports.items; fates = length result.fates.items }) actor result.done.outcome }
+    ensures handed { IsHandedWorn (only (trace ∷ [])) (handed_back result) actor result.done.outcome }
     ensures status { result.done.status ≡ status_of result.done.outcome }
 {
     match one_trace(alloc, trace) {
         Ok(traces) => traced(alloc, Outcome::Worn(actor), traces),
-        Err(_) => ended(alloc, Outcome::Memory),
+        Err(_) => without_trace(alloc, Outcome::Memory),
     }
 }
 
@@ -145,8 +135,8 @@ fn reported(alloc: Global, script: &Script, trace: Trace) -> Result<(Traces, Vec
 
 /// Writes the report of what callers shared.
 fn write_share<K: Sink>(alloc: Global, sink: &mut K, traces: Traces, bytes: &[u8]) -> Finished
-    ensures written { IsWritten (record { before = K.held sink.old; after = K.held sink.new; faults_before = K.faults sink.old; faults_after = K.faults sink.new }) bytes.now result.done.outcome }
-    ensures handed { (record { traces = result.done.traces; seats = result.seats.items; totals = result.totals.items; ports = result.ports.items; fates = length result.fates.items }) ≡ only traces }
+    ensures written { IsWritten (filled K.Sink sink.old sink.new) bytes.now result.done.outcome }
+    ensures handed { handed_back result ≡ only traces }
     ensures status { result.done.status ≡ status_of result.done.outcome }
     ensures faults { K.faults sink.old ≤ K.faults sink.new }
 {
@@ -159,7 +149,7 @@ fn write_share<K: Sink>(alloc: Global, sink: &mut K, traces: Traces, bytes: &[u8
 /// The end of a call that hands back traces and nothing else.
 fn traced(alloc: Global, outcome: Outcome, traces: Traces) -> Finished
     ensures outcome { result.done.outcome ≡ outcome }
-    ensures handed { (record { traces = result.done.traces; seats = result.seats.items; totals = result.totals.items; ports = result.ports.items; fates = length result.fates.items }) ≡ only traces }
+    ensures handed { handed_back result ≡ only traces }
     ensures status { result.done.status ≡ status_of outcome }
 {
     let done = Done {
@@ -167,5 +157,5 @@ fn traced(alloc: Global, outcome: Outcome, traces: Traces) -> Finished
         outcome,
         traces,
     };
-    unthreaded(alloc, done)
+    without_threads(alloc, done)
 }

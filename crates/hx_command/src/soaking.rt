@@ -1,15 +1,15 @@
-ghost use Rattle.std.specs.Prelude.{◌≡◌, ◌≤◌, ◌⊎◌, ℕ, List, [], ◌∷◌, length, slice_get, None, Some};
-ghost use Rattle.hx_types.specs.declared.totals.Totals.{Totals as TotalsSeen};
-ghost use Rattle.hx_types.specs.declared.traces.Entry.{Entry};
+ghost use Rattle.std.specs.Prelude.{◌≡◌, ◌≤◌, ◌⊎◌, [], ◌∷◌, length, None};
 ghost use Rattle.hx_types.specs.Fitting.{IsScript};
 ghost use Rattle.hx_types.specs.declared.limits.TheConstants.{MOST_CALLS};
 ghost use Rattle.hx_soak.specs.Soaking.{script_drawn};
-ghost use Rattle.hx_fate.specs.States.{never, tuned};
-ghost use Rattle.hx_run.specs.Ran.{HasRisen};
+ghost use Rattle.hx_fate.specs.States.{never};
 ghost use Rattle.hx_replay.specs.Outcomes.{IsSilent, status_of};
-ghost use Rattle.hx_command.specs.Threads.{EndsOnThreads, IsSummed, IsThreaded};
+ghost use Rattle.hx_command.specs.Threads.{EndsOnThreads, HaveRisen, IsSummed, IsThreaded};
+ghost use Rattle.hx_command.specs.HandedBack.{handed_back, space_run};
+ghost use Rattle.hx_replay.specs.Streams.{filled};
 
-use crate::finished::{Finished, ended};
+use crate::endings::without_trace;
+use crate::finished::Finished;
 use crate::threads::{Threading, run_threads};
 use crate::writing::{hand_worn, write_run};
 use hx_driver::Gate;
@@ -42,9 +42,9 @@ pub fn answer_soak<R: Threads + Wait + Sync, K: Sink, G: Gate + Sync>(
     requires drawn { script.now ≡ script_drawn command.seed command.calls }
     requires few { command.calls ≤ MOST_CALLS }
     requires workers { (1 ≤ command.workers) × (command.workers ≤ 16) × (command.workers ≤ length fates.items) }
-    ensures ends { EndsOnThreads (IsSummed command) script.now command.workers (record { before = K.held sink.old; after = K.held sink.new; faults_before = K.faults sink.old; faults_after = K.faults sink.new }) (record { traces = result.done.traces; seats = result.seats.items; totals = result.totals.items; ports = result.ports.items; fates = length result.fates.items }) result.done.outcome }
+    ensures ends { EndsOnThreads (IsSummed command) script.now command.workers (filled K.Sink sink.old sink.new) (handed_back result) result.done.outcome }
     ensures status { result.done.status ≡ status_of result.done.outcome }
-    ensures risen { (trace : List Entry) → slice_get result.done.traces 0 ≡ Some trace → (i : ℕ) (f : _) (g : _) (t : TotalsSeen) → slice_get fates.items i ≡ Some f → slice_get result.fates.items i ≡ Some g → slice_get result.totals.items i ≡ Some t → HasRisen script.now command.workers trace i t (tuned never (state f)) (state g) }
+    ensures risen { HaveRisen state never script.now command.workers fates.items result.fates.items (handed_back result) }
     ensures silent { IsSilent result.done.outcome → sink.new ≡ sink.old }
     ensures faults { K.faults sink.old ≤ K.faults sink.new }
 {
@@ -55,7 +55,7 @@ pub fn answer_soak<R: Threads + Wait + Sync, K: Sink, G: Gate + Sync>(
     };
     match run_threads(rt, alloc, script, threading, fates, gate) {
         Ok(ran) => sum_run(alloc, command, script, sink, ran),
-        Err(_) => ended(alloc, Outcome::Memory),
+        Err(_) => without_trace(alloc, Outcome::Memory),
     }
 }
 
@@ -70,8 +70,8 @@ fn sum_run<K: Sink>(
     requires script { IsScript script.now }
     requires drawn { script.now ≡ script_drawn command.seed command.calls }
     requires few { command.calls ≤ MOST_CALLS }
-    requires threaded { IsThreaded script.now command.workers (record { trace = ran.trace; seat = ran.seat; totals = ran.totals.items; ports = ran.ports.items; fates = length ran.fates.items }) ran.worn }
-    ensures ends { EndsOnThreads (IsSummed command) script.now command.workers (record { before = K.held sink.old; after = K.held sink.new; faults_before = K.faults sink.old; faults_after = K.faults sink.new }) (record { traces = result.done.traces; seats = result.seats.items; totals = result.totals.items; ports = result.ports.items; fates = length result.fates.items }) result.done.outcome }
+    requires threaded { IsThreaded script.now command.workers (space_run ran) ran.worn }
+    ensures ends { EndsOnThreads (IsSummed command) script.now command.workers (filled K.Sink sink.old sink.new) (handed_back result) result.done.outcome }
     ensures status { result.done.status ≡ status_of result.done.outcome }
     ensures kept { ((result.fates ≡ ran.fates) × (result.totals ≡ ran.totals) × (result.done.traces ≡ ran.trace ∷ [])) ⊎ (result.fates.items ≡ []) }
     ensures silent { IsSilent result.done.outcome → sink.new ≡ sink.old }
@@ -94,8 +94,8 @@ fn write_summary<K: Sink>(
     requires script { IsScript script.now }
     requires drawn { script.now ≡ script_drawn command.seed command.calls }
     requires few { command.calls ≤ MOST_CALLS }
-    requires threaded { IsThreaded script.now command.workers (record { trace = ran.trace; seat = ran.seat; totals = ran.totals.items; ports = ran.ports.items; fates = length ran.fates.items }) None }
-    ensures ends { EndsOnThreads (IsSummed command) script.now command.workers (record { before = K.held sink.old; after = K.held sink.new; faults_before = K.faults sink.old; faults_after = K.faults sink.new }) (record { traces = result.done.traces; seats = result.seats.items; totals = result.totals.items; ports = result.ports.items; fates = length result.fates.items }) result.done.outcome }
+    requires threaded { IsThreaded script.now command.workers (space_run ran) None }
+    ensures ends { EndsOnThreads (IsSummed command) script.now command.workers (filled K.Sink sink.old sink.new) (handed_back result) result.done.outcome }
     ensures status { result.done.status ≡ status_of result.done.outcome }
     ensures kept { ((result.fates ≡ ran.fates) × (result.totals ≡ ran.totals) × (result.done.traces ≡ ran.trace ∷ [])) ⊎ (result.fates.items ≡ []) }
     ensures silent { IsSilent result.done.outcome → sink.new ≡ sink.old }
@@ -104,6 +104,6 @@ fn write_summary<K: Sink>(
     hx_law_soak::soaks_sum_up_in_order();
     match summary(alloc, script, &ran.trace) {
         Ok(bytes) => write_run(alloc, sink, ran, bytes.as_slice()),
-        Err(_) => ended(alloc, Outcome::Memory),
+        Err(_) => without_trace(alloc, Outcome::Memory),
     }
 }

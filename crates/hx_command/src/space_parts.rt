@@ -3,7 +3,7 @@ ghost use Rattle.std.specs.List.{flat_map};
 ghost use Rattle.hx_types.specs.declared.totals.Totals.{Totals as TotalsSeen};
 ghost use Rattle.hx_command.specs.Threads.{no_entries};
 
-use crate::writing::Threaded;
+use crate::finished::Threaded;
 use hx_clock::Seat;
 use hx_fate::Fate;
 use hx_mail::Port;

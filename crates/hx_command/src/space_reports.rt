@@ -1,22 +1,19 @@
-ghost use Rattle.std.specs.Prelude.{◌≡◌, ◌<◌, ◌≤◌, ◌+◌, ◌*◌, ◌⊎◌, ℕ, List, [], length, map, reverse, slice_get, IfOk, Some};
+ghost use Rattle.std.specs.Prelude.{◌≡◌, ◌≤◌, ◌⊎◌, [], length, map, reverse, IfOk};
 ghost use Rattle.std.specs.List.{flat_map};
 ghost use Rattle.hx_bundle.specs.Bundles.{IsBundle};
-ghost use Rattle.hx_types.specs.declared.totals.Totals.{Totals as TotalsSeen};
-ghost use Rattle.hx_types.specs.declared.traces.Entry.{Entry};
-ghost use Rattle.hx_types.specs.declared.traces.Script.{Script as ScriptSeen};
-ghost use Rattle.hx_fate.specs.States.{tuned};
 ghost use Rattle.hx_report.specs.BundleReporting.{IsBundleReport};
-ghost use Rattle.hx_run.specs.Ran.{HasRisen};
-ghost use Rattle.hx_words.specs.Limits.{IsRun};
 ghost use Rattle.hx_replay.specs.Outcomes.{IsSilent, status_of};
-ghost use Rattle.hx_command.specs.Threads.{AreRan, AreReported, AreWornOnThreads, EndsWith, IsHandedWorn, RanAll, RanUntilWorn, handed_from, most_drivers, tuning_of, workers_of};
+ghost use Rattle.hx_command.specs.Threads.{AreRan, AreReported, AreWornOnThreads, EndsWith, HaveRisenInEach, IsHandedWorn, RanAll, RanUntilWorn, handed_from, most_drivers, tuning_of, workers_of};
+ghost use Rattle.hx_command.specs.HandedBack.{handed_back, handed_of, space_run};
+ghost use Rattle.hx_replay.specs.Streams.{filled};
 
-use crate::finished::{Finished, ended};
+use crate::endings::without_trace;
+use crate::finished::{Finished, Threaded};
 use crate::reporting::CAPACITY;
 use crate::space_parts::{add_empty, joined, parts_of};
 use crate::space_runs::{SpacesRan, run_spaces, workers_of};
 use crate::threads::Threading;
-use crate::writing::{Threaded, handed, write_answer};
+use crate::writing::{handed, write_answer};
 use hx_bundle::Bundle;
 use hx_driver::Gate;
 use hx_fate::{Fate, Tuning};
@@ -43,13 +40,9 @@ pub fn answer_spaces<R: Threads + Wait + Sync, K: Sink, G: Gate + Sync>(
     requires bundle { IsBundle bundle.now }
     requires workers { (1 ≤ command.workers) × (command.workers ≤ 16) }
     requires fates { most_drivers ≤ length fates.items }
-    ensures ends { EndsWith (AreReported command bundle.now) (AreWornOnThreads bundle.now command.workers) (record { before = K.held sink.old; after = K.held sink.new; faults_before = K.faults sink.old; faults_after = K.faults sink.new }) (record { traces = result.done.traces; seats = result.seats.items; totals = result.totals.items; ports = result.ports.items; fates = length result.fates.items }) result.done.outcome }
+    ensures ends { EndsWith (AreReported command bundle.now) (AreWornOnThreads bundle.now command.workers) (filled K.Sink sink.old sink.new) (handed_back result) result.done.outcome }
     ensures status { result.done.status ≡ status_of result.done.outcome }
-    ensures risen { (k : ℕ) (j : ℕ) (script : ScriptSeen) (trace : List Entry) (f : _) (g : _) (t : TotalsSeen) → j < workers_of bundle.now command.workers
-        → slice_get bundle.now.spaces k ≡ Some script → slice_get result.done.traces k ≡ Some trace
-        → slice_get fates.items (k * workers_of bundle.now command.workers + j) ≡ Some f → slice_get result.fates.items (k * workers_of bundle.now command.workers + j) ≡ Some g
-        → slice_get result.totals.items (k * workers_of bundle.now command.workers + j) ≡ Some t
-        → HasRisen script (workers_of bundle.now command.workers) trace j t (tuned (tuning_of command) (state f)) (state g) }
+    ensures risen { HaveRisenInEach state (tuning_of command) bundle.now.spaces (workers_of bundle.now command.workers) fates.items result.fates.items (handed_back result) }
     ensures silent { IsSilent result.done.outcome → sink.new ≡ sink.old }
     ensures faults { K.faults sink.old ≤ K.faults sink.new }
 {
@@ -63,7 +56,7 @@ pub fn answer_spaces<R: Threads + Wait + Sync, K: Sink, G: Gate + Sync>(
     };
     match run_spaces(rt, alloc, bundle.spaces.as_slice(), threading, fates, gate) {
         Ok(ran) => report_spaces(alloc, command, bundle, sink, ran),
-        Err(_) => ended(alloc, Outcome::Memory),
+        Err(_) => without_trace(alloc, Outcome::Memory),
     }
 }
 
@@ -76,10 +69,10 @@ fn report_spaces<K: Sink>(
     ran: SpacesRan,
 ) -> Finished
     requires bundle { IsBundle bundle.now }
-    requires ran { AreRan (workers_of bundle.now command.workers) bundle.now.spaces (map (λ r. record { trace = r.trace; seat = r.seat; totals = r.totals.items; ports = r.ports.items; fates = length r.fates.items }) ran.runs.items) ran.worn }
-    ensures ends { EndsWith (AreReported command bundle.now) (AreWornOnThreads bundle.now command.workers) (record { before = K.held sink.old; after = K.held sink.new; faults_before = K.faults sink.old; faults_after = K.faults sink.new }) (record { traces = result.done.traces; seats = result.seats.items; totals = result.totals.items; ports = result.ports.items; fates = length result.fates.items }) result.done.outcome }
+    requires ran { AreRan (workers_of bundle.now command.workers) bundle.now.spaces (map space_run ran.runs.items) ran.worn }
+    ensures ends { EndsWith (AreReported command bundle.now) (AreWornOnThreads bundle.now command.workers) (filled K.Sink sink.old sink.new) (handed_back result) result.done.outcome }
     ensures status { result.done.status ≡ status_of result.done.outcome }
-    ensures kept { (((record { traces = result.done.traces; seats = result.seats.items; totals = result.totals.items; ports = result.ports.items; fates = length result.fates.items }) ≡ handed_from bundle.now.spaces (map (λ r. record { trace = r.trace; seat = r.seat; totals = r.totals.items; ports = r.ports.items; fates = length r.fates.items }) ran.runs.items)) × (result.fates.items ≡ flat_map (λ r. r.fates.items) ran.runs.items)) ⊎ (result.fates.items ≡ []) }
+    ensures kept { ((handed_back result ≡ handed_from bundle.now.spaces (map space_run ran.runs.items)) × (result.fates.items ≡ flat_map (λ r. r.fates.items) ran.runs.items)) ⊎ (result.fates.items ≡ []) }
     ensures silent { IsSilent result.done.outcome → sink.new ≡ sink.old }
     ensures faults { K.faults sink.old ≤ K.faults sink.new }
 {
@@ -93,7 +86,7 @@ fn report_spaces<K: Sink>(
 /// What is handed back where an actor was worn: an empty trace for each space that was not run.
 fn worn_parts(alloc: Global, bundle: &Bundle, runs: Vec<Ran>) -> Result<Threaded, Memory>
     requires { length runs.items ≤ length bundle.now.spaces }
-    ensures handed { IfOk result (λ made. (record { traces = made.traces; seats = made.seats.items; totals = made.totals.items; ports = made.ports.items; fates = length made.fates.items }) ≡ handed_from bundle.now.spaces (map (λ r. record { trace = r.trace; seat = r.seat; totals = r.totals.items; ports = r.ports.items; fates = length r.fates.items }) runs.items)) }
+    ensures handed { IfOk result (λ made. handed_of made ≡ handed_from bundle.now.spaces (map space_run runs.items)) }
     ensures fates { IfOk result (λ made. made.fates.items ≡ flat_map (λ r. r.fates.items) runs.items) }
 {
     let run = runs.len();
@@ -105,14 +98,14 @@ fn worn_parts(alloc: Global, bundle: &Bundle, runs: Vec<Ran>) -> Result<Threaded
 
 /// Hands back the spaces up to one that a worn actor ended. Nothing is written.
 fn hand_worn(alloc: Global, command: Run, bundle: &Bundle, runs: Vec<Ran>, actor: Actor) -> Finished
-    requires { RanUntilWorn (workers_of bundle.now command.workers) actor bundle.now.spaces (map (λ r. record { trace = r.trace; seat = r.seat; totals = r.totals.items; ports = r.ports.items; fates = length r.fates.items }) runs.items) }
-    ensures handed { IsHandedWorn (handed_from bundle.now.spaces (map (λ r. record { trace = r.trace; seat = r.seat; totals = r.totals.items; ports = r.ports.items; fates = length r.fates.items }) runs.items)) (record { traces = result.done.traces; seats = result.seats.items; totals = result.totals.items; ports = result.ports.items; fates = length result.fates.items }) actor result.done.outcome }
+    requires { RanUntilWorn (workers_of bundle.now command.workers) actor bundle.now.spaces (map space_run runs.items) }
+    ensures handed { IsHandedWorn (handed_from bundle.now.spaces (map space_run runs.items)) (handed_back result) actor result.done.outcome }
     ensures status { result.done.status ≡ status_of result.done.outcome }
-    ensures kept { (((record { traces = result.done.traces; seats = result.seats.items; totals = result.totals.items; ports = result.ports.items; fates = length result.fates.items }) ≡ handed_from bundle.now.spaces (map (λ r. record { trace = r.trace; seat = r.seat; totals = r.totals.items; ports = r.ports.items; fates = length r.fates.items }) runs.items)) × (result.fates.items ≡ flat_map (λ r. r.fates.items) runs.items)) ⊎ (result.fates.items ≡ []) }
+    ensures kept { ((handed_back result ≡ handed_from bundle.now.spaces (map space_run runs.items)) × (result.fates.items ≡ flat_map (λ r. r.fates.items) runs.items)) ⊎ (result.fates.items ≡ []) }
 {
     match worn_parts(alloc, bundle, runs) {
         Ok(threaded) => handed(threaded, Outcome::Worn(actor)),
-        Err(_) => ended(alloc, Outcome::Memory),
+        Err(_) => without_trace(alloc, Outcome::Memory),
     }
 }
 
@@ -125,7 +118,7 @@ fn reported(
 ) -> Result<(Threaded, Vec<u8>), Memory>
     requires bundle { IsBundle bundle.now }
     requires all { length runs.items ≡ length bundle.now.spaces }
-    ensures handed { IfOk result (λ both. (record { traces = both.0.traces; seats = both.0.seats.items; totals = both.0.totals.items; ports = both.0.ports.items; fates = length both.0.fates.items }) ≡ handed_from bundle.now.spaces (map (λ r. record { trace = r.trace; seat = r.seat; totals = r.totals.items; ports = r.ports.items; fates = length r.fates.items }) runs.items)) }
+    ensures handed { IfOk result (λ both. handed_of both.0 ≡ handed_from bundle.now.spaces (map space_run runs.items)) }
     ensures fates { IfOk result (λ both. both.0.fates.items ≡ flat_map (λ r. r.fates.items) runs.items) }
     ensures report { IfOk result (λ both. IsBundleReport bundle.now (map (λ r. reverse r.trace) runs.items) (map (λ r. r.totals.items) runs.items) both.1.items with_trace) }
 {
@@ -150,15 +143,15 @@ fn write_report<K: Sink>(
     runs: Vec<Ran>,
 ) -> Finished
     requires bundle { IsBundle bundle.now }
-    requires ran { RanAll (workers_of bundle.now command.workers) bundle.now.spaces (map (λ r. record { trace = r.trace; seat = r.seat; totals = r.totals.items; ports = r.ports.items; fates = length r.fates.items }) runs.items) }
-    ensures ends { EndsWith (AreReported command bundle.now) (AreWornOnThreads bundle.now command.workers) (record { before = K.held sink.old; after = K.held sink.new; faults_before = K.faults sink.old; faults_after = K.faults sink.new }) (record { traces = result.done.traces; seats = result.seats.items; totals = result.totals.items; ports = result.ports.items; fates = length result.fates.items }) result.done.outcome }
+    requires ran { RanAll (workers_of bundle.now command.workers) bundle.now.spaces (map space_run runs.items) }
+    ensures ends { EndsWith (AreReported command bundle.now) (AreWornOnThreads bundle.now command.workers) (filled K.Sink sink.old sink.new) (handed_back result) result.done.outcome }
     ensures status { result.done.status ≡ status_of result.done.outcome }
-    ensures kept { (((record { traces = result.done.traces; seats = result.seats.items; totals = result.totals.items; ports = result.ports.items; fates = length result.fates.items }) ≡ handed_from bundle.now.spaces (map (λ r. record { trace = r.trace; seat = r.seat; totals = r.totals.items; ports = r.ports.items; fates = length r.fates.items }) runs.items)) × (result.fates.items ≡ flat_map (λ r. r.fates.items) runs.items)) ⊎ (result.fates.items ≡ []) }
+    ensures kept { ((handed_back result ≡ handed_from bundle.now.spaces (map space_run runs.items)) × (result.fates.items ≡ flat_map (λ r. r.fates.items) runs.items)) ⊎ (result.fates.items ≡ []) }
     ensures silent { IsSilent result.done.outcome → sink.new ≡ sink.old }
     ensures faults { K.faults sink.old ≤ K.faults sink.new }
 {
     match reported(alloc, bundle, runs, command.with_trace) {
         Ok((threaded, bytes)) => write_answer(sink, threaded, bytes.as_slice()),
-        Err(_) => ended(alloc, Outcome::Memory),
+        Err(_) => without_trace(alloc, Outcome::Memory),
     }
 }

@@ -1,4 +1,4 @@
-ghost use Rattle.std.specs.Prelude.{ℕ, ◌≡◌, ◌<◌, ◌≤◌, ◌+◌, ◌*◌, ◌++◌, List, drop, length, map, slice_get, IfOk, OnOk, Some};
+ghost use Rattle.std.specs.Prelude.{ℕ, ◌≡◌, ◌<◌, ◌≤◌, ◌+◌, ◌*◌, ◌++◌, drop, length, map, slice_get, IfOk, OnOk, Some};
 ghost use Rattle.std.specs.List.{All};
 ghost use Rattle.hx_bundle.specs.Bundles.{IsBundle};
 ghost use Rattle.hx_types.specs.declared.totals.Totals.{Totals as TotalsSeen};
@@ -7,6 +7,7 @@ ghost use Rattle.hx_types.specs.Fitting.{IsScript};
 ghost use Rattle.hx_fate.specs.States.{tuned};
 ghost use Rattle.hx_run.specs.Ran.{HasRisen};
 ghost use Rattle.hx_command.specs.Threads.{AreRan, IsThreaded, most_drivers, workers_of};
+ghost use Rattle.hx_command.specs.HandedBack.{space_run};
 
 use crate::threads::{Threading, run_threads};
 use hx_bundle::Bundle;
@@ -70,7 +71,7 @@ fn run_next<R: Threads + Wait + Sync, G: Gate + Sync>(
     requires script { IsScript script.now }
     requires workers { (1 ≤ threading.workers) × (threading.workers ≤ 16) × (threading.workers ≤ length fates.old.items) }
     requires capacity { 1 ≤ threading.capacity }
-    ensures ran { IfOk result (λ ran. IsThreaded script.now threading.workers (record { trace = ran.trace; seat = ran.seat; totals = ran.totals.items; ports = ran.ports.items; fates = length ran.fates.items }) ran.worn) }
+    ensures ran { IfOk result (λ ran. IsThreaded script.now threading.workers (space_run ran) ran.worn) }
     ensures fates { OnOk result (fates.new.items ≡ drop threading.workers fates.old.items) }
     ensures risen { IfOk result (λ ran. (j : ℕ) (f : _) (g : _) (t : TotalsSeen) → slice_get fates.old.items j ≡ Some f → slice_get ran.fates.items j ≡ Some g → slice_get ran.totals.items j ≡ Some t
         → HasRisen script.now threading.workers ran.trace j t (tuned threading.tuning (state f)) (state g)) }
@@ -92,7 +93,7 @@ pub fn run_spaces<R: Threads + Wait + Sync, G: Gate + Sync>(
     requires scripts { All IsScript scripts.now }
     requires workers { (1 ≤ threading.workers) × (threading.workers ≤ 16) × (threading.workers * length scripts.now ≤ length fates.items) }
     requires capacity { 1 ≤ threading.capacity }
-    ensures ran { IfOk result (λ made. AreRan threading.workers scripts.now (map (λ r. record { trace = r.trace; seat = r.seat; totals = r.totals.items; ports = r.ports.items; fates = length r.fates.items }) made.runs.items) made.worn) }
+    ensures ran { IfOk result (λ made. AreRan threading.workers scripts.now (map space_run made.runs.items) made.worn) }
     ensures risen { IfOk result (λ made. (k : ℕ) (j : ℕ) (script : ScriptSeen) (ran : _) (f : _) (g : _) (t : TotalsSeen) → j < threading.workers
         → slice_get scripts.now k ≡ Some script → slice_get made.runs.items k ≡ Some ran
         → slice_get fates.items (k * threading.workers + j) ≡ Some f → slice_get ran.fates.items j ≡ Some g → slice_get ran.totals.items j ≡ Some t

@@ -4,6 +4,7 @@ ghost use Rattle.hx_types.specs.Fitting.{IsScript};
 ghost use Rattle.hx_fate.specs.States.{tuned};
 ghost use Rattle.hx_run.specs.Ran.{HasRisen};
 ghost use Rattle.hx_command.specs.Threads.{IsThreaded};
+ghost use Rattle.hx_command.specs.HandedBack.{space_run};
 
 use hx_driver::Gate;
 use hx_fate::{Fate, Tuning};
@@ -62,7 +63,7 @@ pub fn run_threads<R: Threads + Wait + Sync, G: Gate + Sync>(
     requires script { IsScript script.now }
     requires workers { (1 ≤ threading.workers) × (threading.workers ≤ 16) × (threading.workers ≤ length fates.items) }
     requires capacity { 1 ≤ threading.capacity }
-    ensures ran { IfOk result (λ ran. IsThreaded script.now threading.workers (record { trace = ran.trace; seat = ran.seat; totals = ran.totals.items; ports = ran.ports.items; fates = length ran.fates.items }) ran.worn) }
+    ensures ran { IfOk result (λ ran. IsThreaded script.now threading.workers (space_run ran) ran.worn) }
     ensures risen { IfOk result (λ ran. (i : ℕ) (f : _) (g : _) (t : TotalsSeen) → slice_get fates.items i ≡ Some f → slice_get ran.fates.items i ≡ Some g → slice_get ran.totals.items i ≡ Some t → HasRisen script.now threading.workers ran.trace i t (tuned threading.tuning (state f)) (state g)) }
 {
     hx_law_searches::histories_are_linear();

@@ -1,12 +1,9 @@
-ghost use Rattle.std.specs.Prelude.{◌≡◌, ◌<◌, ◌≤◌, ◌+◌, ◌*◌, ◌⊎◌, ℕ, List, [], length, slice_get, Some};
+ghost use Rattle.std.specs.Prelude.{◌≡◌, ◌≤◌, ◌⊎◌, [], length};
 ghost use Rattle.hx_io.specs.Causes.{Rose};
 ghost use Rattle.hx_types.specs.declared.ids.Actor.{Actor};
-ghost use Rattle.hx_types.specs.declared.totals.Totals.{Totals as TotalsSeen};
-ghost use Rattle.hx_types.specs.declared.traces.Entry.{Entry};
 ghost use Rattle.hx_types.specs.declared.traces.Script.{Script as ScriptSeen};
 ghost use Rattle.hx_soak.specs.Soaking.{script_drawn};
-ghost use Rattle.hx_fate.specs.States.{never, tuned};
-ghost use Rattle.hx_run.specs.Ran.{HasRisen};
+ghost use Rattle.hx_fate.specs.States.{never};
 ghost use Rattle.hx_words.specs.Saying.{SaysRun, SaysShare, SaysSoak};
 ghost use Rattle.hx_words.specs.declared.commands.Run.{Run as RunSeen};
 ghost use Rattle.hx_words.specs.declared.commands.Share.{Share as ShareSeen};
@@ -14,13 +11,16 @@ ghost use Rattle.hx_words.specs.declared.commands.Soak.{Soak as SoakSeen};
 ghost use Rattle.hx_replay.specs.Calling.{Ends};
 ghost use Rattle.hx_replay.specs.Outcomes.{HasNoTraces, IsSilent, status_of};
 ghost use Rattle.hx_command.specs.Telling.{Answers};
-ghost use Rattle.hx_command.specs.Threads.{EndsRun, EndsShare, EndsSoak, HasEnough, IsDecided, IsUnthreaded, any_version, spaces_of, tuning_of, version_1, workers_in};
+ghost use Rattle.hx_command.specs.Threads.{EndsRun, EndsShare, EndsSoak, HasEnough, HaveRisen, HaveRisenInEach, IsDecided, IsUnthreaded, any_version, spaces_of, tuning_of, version_1, workers_in};
 ghost use Rattle.hx_replay.specs.declared.outcomes.Outcome.{Outcome};
 ghost use Rattle.hx_replay.specs.declared.texts.Scripted.{Scripted as ScriptedSeen};
+ghost use Rattle.hx_command.specs.HandedBack.{handed_back};
+ghost use Rattle.hx_replay.specs.Streams.{drawn, filled};
 
-use crate::finished::{Finished, unthreaded};
+use crate::commands::{run_words, soak_words};
+use crate::endings::without_threads;
+use crate::finished::Finished;
 use crate::shared::share_words;
-use crate::threaded::{run_words, soak_words};
 use hx_driver::Gate;
 use hx_fate::Fate;
 use hx_io::{Sink, Source};
@@ -55,16 +55,12 @@ pub fn hyperstore<R: Threads + Wait + Sync, S: Source, K: Sink, G: Gate + Sync>(
     ensures status { result.done.status ≡ status_of result.done.outcome }
 
     // With status 0 the answer to the words was written.
-    ensures fine { result.done.outcome ≡ Outcome.Fine → Answers words.now
-        (record { before = S.left source.old; after = S.left source.new; faults_before = S.faults source.old; faults_after = S.faults source.new })
-        (record { before = K.held sink.old; after = K.held sink.new; faults_before = K.faults sink.old; faults_after = K.faults sink.new })
-        (record { traces = result.done.traces; seats = result.seats.items; totals = result.totals.items; ports = result.ports.items; fates = length result.fates.items }) }
+    ensures fine { result.done.outcome ≡ Outcome.Fine
+        → Answers words.now (drawn S.Source source.old source.new) (filled K.Sink sink.old sink.new) (handed_back result) }
 
     // Words that start no threads end as they do alone, and hand back nothing of threads.
-    ensures alone { IsUnthreaded words.now → Ends words.now
-        (record { before = S.left source.old; after = S.left source.new; faults_before = S.faults source.old; faults_after = S.faults source.new })
-        (record { before = K.held sink.old; after = K.held sink.new; faults_before = K.faults sink.old; faults_after = K.faults sink.new })
-        result.done.outcome result.done.traces }
+    ensures alone { IsUnthreaded words.now
+        → Ends words.now (drawn S.Source source.old source.new) (filled K.Sink sink.old sink.new) result.done.outcome result.done.traces }
     ensures empty { IsUnthreaded words.now → (result.seats.items ≡ []) × (result.totals.items ≡ []) × (result.fates.items ≡ []) × (result.ports.items ≡ []) }
 
     // Under `run` the text that the source gave is that of a script, of one space or several, which are
@@ -74,28 +70,17 @@ pub fn hyperstore<R: Threads + Wait + Sync, S: Source, K: Sink, G: Gate + Sync>(
     // come only where nothing else is left but what was lost; all that the laws say of runs holds of it,
     // and the report was written and nothing else. A worn actor hands back the runs up to there, with
     // empty traces for the spaces that were not run.
-    ensures run { (command : RunSeen) → SaysRun words.now command → (scripted : ScriptedSeen) × EndsRun command scripted
-        (record { before = S.left source.old; after = S.left source.new; faults_before = S.faults source.old; faults_after = S.faults source.new })
-        (record { before = K.held sink.old; after = K.held sink.new; faults_before = K.faults sink.old; faults_after = K.faults sink.new })
-        (record { traces = result.done.traces; seats = result.seats.items; totals = result.totals.items; ports = result.ports.items; fates = length result.fates.items })
-        result.done.outcome
-        × ((k : ℕ) (j : ℕ) (script : ScriptSeen) (trace : List Entry) (f : _) (g : _) (t : TotalsSeen) → j < workers_in scripted command.workers
-        → slice_get (spaces_of scripted) k ≡ Some script → slice_get result.done.traces k ≡ Some trace
-        → slice_get fates.items (k * workers_in scripted command.workers + j) ≡ Some f → slice_get result.fates.items (k * workers_in scripted command.workers + j) ≡ Some g
-        → slice_get result.totals.items (k * workers_in scripted command.workers + j) ≡ Some t
-        → HasRisen script (workers_in scripted command.workers) trace j t (tuned (tuning_of command) (state f)) (state g)) }
-    ensures decided { (command : RunSeen) → SaysRun words.now command → IsDecided any_version
-        (record { before = S.left source.old; after = S.left source.new; faults_before = S.faults source.old; faults_after = S.faults source.new })
-        (record { before = K.held sink.old; after = K.held sink.new; faults_before = K.faults sink.old; faults_after = K.faults sink.new })
-        result.done.outcome }
+    ensures run { (command : RunSeen) → SaysRun words.now command → (scripted : ScriptedSeen)
+        × EndsRun command scripted (drawn S.Source source.old source.new) (filled K.Sink sink.old sink.new) (handed_back result) result.done.outcome
+        × HaveRisenInEach state (tuning_of command) (spaces_of scripted) (workers_in scripted command.workers) fates.items result.fates.items (handed_back result) }
+    ensures decided { (command : RunSeen) → SaysRun words.now command
+        → IsDecided any_version (drawn S.Source source.old source.new) (filled K.Sink sink.old sink.new) result.done.outcome }
 
     // Under `soak` the bytes are the summary of the calls one after the other on one map, the same for
     // every number of threads.
-    ensures soak { (command : SoakSeen) → SaysSoak words.now command → EndsSoak command
-        (record { before = K.held sink.old; after = K.held sink.new; faults_before = K.faults sink.old; faults_after = K.faults sink.new })
-        (record { traces = result.done.traces; seats = result.seats.items; totals = result.totals.items; ports = result.ports.items; fates = length result.fates.items })
-        result.done.outcome
-        × ((trace : List Entry) → slice_get result.done.traces 0 ≡ Some trace → (i : ℕ) (f : _) (g : _) (t : TotalsSeen) → slice_get fates.items i ≡ Some f → slice_get result.fates.items i ≡ Some g → slice_get result.totals.items i ≡ Some t → HasRisen (script_drawn command.seed command.calls) command.workers trace i t (tuned never (state f)) (state g)) }
+    ensures soak { (command : SoakSeen) → SaysSoak words.now command
+        → EndsSoak command (filled K.Sink sink.old sink.new) (handed_back result) result.done.outcome
+        × HaveRisen state never (script_drawn command.seed command.calls) command.workers fates.items result.fates.items (handed_back result) }
     ensures soaked { (command : SoakSeen) → SaysSoak words.now command → ¬ Rose (K.faults sink.old) (K.faults sink.new)
         → (result.done.outcome ≡ Outcome.Fine) ⊎ (result.done.outcome ≡ Outcome.Memory) ⊎ ((a : Actor) × (result.done.outcome ≡ Outcome.Worn a)) }
     ensures unread { (command : SoakSeen) → SaysSoak words.now command → source.new ≡ source.old }
@@ -104,15 +89,10 @@ pub fn hyperstore<R: Threads + Wait + Sync, S: Source, K: Sink, G: Gate + Sync>(
     // status 0 the trace is a run of it after which there is nothing left to do, in which each entry
     // begins a call or delivers a post that none before it delivers; all that the laws say of runs holds
     // of it, and the report was written and nothing else. A worn actor hands back the run up to there.
-    ensures share { (command : ShareSeen) → SaysShare words.now command → (script : ScriptSeen) × EndsShare script
-        (record { before = S.left source.old; after = S.left source.new; faults_before = S.faults source.old; faults_after = S.faults source.new })
-        (record { before = K.held sink.old; after = K.held sink.new; faults_before = K.faults sink.old; faults_after = K.faults sink.new })
-        (record { traces = result.done.traces; seats = result.seats.items; totals = result.totals.items; ports = result.ports.items; fates = length result.fates.items })
-        result.done.outcome }
-    ensures share_decided { (command : ShareSeen) → SaysShare words.now command → IsDecided version_1
-        (record { before = S.left source.old; after = S.left source.new; faults_before = S.faults source.old; faults_after = S.faults source.new })
-        (record { before = K.held sink.old; after = K.held sink.new; faults_before = K.faults sink.old; faults_after = K.faults sink.new })
-        result.done.outcome }
+    ensures share { (command : ShareSeen) → SaysShare words.now command → (script : ScriptSeen)
+        × EndsShare script (drawn S.Source source.old source.new) (filled K.Sink sink.old sink.new) (handed_back result) result.done.outcome }
+    ensures share_decided { (command : ShareSeen) → SaysShare words.now command
+        → IsDecided version_1 (drawn S.Source source.old source.new) (filled K.Sink sink.old sink.new) result.done.outcome }
 
     // Whatever the words are: a fault has its cause, nothing is written but with an answer, there is no
     // trace but with one or where an actor is worn or a step refused, and words that are no command leave
@@ -131,7 +111,7 @@ pub fn hyperstore<R: Threads + Wait + Sync, S: Source, K: Sink, G: Gate + Sync>(
             Some(command) => soak_words(rt, alloc, command, sink, fates, gate),
             None => match share_of(words) {
                 Some(command) => share_words(rt, alloc, command, source, sink, gate),
-                None => unthreaded(alloc, hyperstore_alone(alloc, words, source, sink)),
+                None => without_threads(alloc, hyperstore_alone(alloc, words, source, sink)),
             },
         },
     }

@@ -1,9 +1,12 @@
-ghost use Rattle.std.specs.Prelude.{◌≡◌, ◌≤◌, ◌⊎◌, [], ◌∷◌, IfOk, length};
+ghost use Rattle.std.specs.Prelude.{◌≡◌, ◌≤◌, ◌⊎◌, [], ◌∷◌, IfOk};
 ghost use Rattle.hx_replay.specs.Outcomes.{IsSilent, status_of};
-ghost use Rattle.hx_command.specs.Threads.{Handed, IsHandedWorn, IsHandedWritten, IsWritten, handed_by};
+ghost use Rattle.hx_command.specs.Threads.{IsHandedWorn, IsHandedWritten, IsWritten, handed_by};
 ghost use Rattle.hx_replay.specs.declared.outcomes.Outcome.TheVariants as an_outcome;
+ghost use Rattle.hx_command.specs.HandedBack.{handed_back, handed_of, space_run};
+ghost use Rattle.hx_replay.specs.Streams.{filled};
 
-use crate::finished::{Finished, ended};
+use crate::endings::without_trace;
+use crate::finished::{Finished, Threaded};
 use hx_clock::Seat;
 use hx_fate::Fate;
 use hx_io::{Sink, write_all};
@@ -14,20 +17,9 @@ use hx_spaces::Traces;
 use hx_types::{Actor, Memory, Totals};
 use std::alloc::Global;
 
-/// What threads made of the spaces that they ran, in order: for each a trace and the seat of its clock,
-/// the totals and the fates of its drivers, and the ports of its actors.
-#[derive(Drop)]
-pub struct Threaded {
-    pub traces: Traces,
-    pub seats: Vec<Seat>,
-    pub totals: Vec<Totals>,
-    pub fates: Vec<Box<dyn Fate + Send>>,
-    pub ports: Vec<Port>,
-}
-
 /// What threads made of one space.
 pub fn of_one(alloc: Global, ran: Ran) -> Result<Threaded, Memory>
-    ensures handed { IfOk result (λ made. (record { traces = made.traces; seats = made.seats.items; totals = made.totals.items; ports = made.ports.items; fates = length made.fates.items }) ≡ handed_by (record { trace = ran.trace; seat = ran.seat; totals = ran.totals.items; ports = ran.ports.items; fates = length ran.fates.items })) }
+    ensures handed { IfOk result (λ made. handed_of made ≡ handed_by (space_run ran)) }
     ensures kept { IfOk result (λ made. (made.fates ≡ ran.fates) × (made.totals ≡ ran.totals) × (made.traces ≡ ran.trace ∷ [])) }
 {
     let Ran {
@@ -62,7 +54,7 @@ fn one_seat(alloc: Global, seat: Seat) -> Result<Vec<Seat>, Memory>
 pub fn handed(threaded: Threaded, outcome: Outcome) -> Finished
     ensures outcome { result.done.outcome ≡ outcome }
     ensures status { result.done.status ≡ status_of outcome }
-    ensures handed { ◌≡◌ {A = Handed} (record { traces = result.done.traces; seats = result.seats.items; totals = result.totals.items; ports = result.ports.items; fates = length result.fates.items }) (record { traces = threaded.traces; seats = threaded.seats.items; totals = threaded.totals.items; ports = threaded.ports.items; fates = length threaded.fates.items }) }
+    ensures handed { handed_back result ≡ handed_of threaded }
     ensures traces { result.done.traces ≡ threaded.traces }
     ensures totals { result.totals ≡ threaded.totals }
     ensures fates { result.fates ≡ threaded.fates }
@@ -90,19 +82,19 @@ pub fn handed(threaded: Threaded, outcome: Outcome) -> Finished
 
 /// Hands back the run of one space that a worn actor ended. Nothing is written.
 pub fn hand_worn(alloc: Global, ran: Ran, actor: Actor) -> Finished
-    ensures handed { IsHandedWorn (handed_by (record { trace = ran.trace; seat = ran.seat; totals = ran.totals.items; ports = ran.ports.items; fates = length ran.fates.items })) (record { traces = result.done.traces; seats = result.seats.items; totals = result.totals.items; ports = result.ports.items; fates = length result.fates.items }) actor result.done.outcome }
+    ensures handed { IsHandedWorn (handed_by (space_run ran)) (handed_back result) actor result.done.outcome }
     ensures status { result.done.status ≡ status_of result.done.outcome }
     ensures kept { ((result.fates ≡ ran.fates) × (result.totals ≡ ran.totals) × (result.done.traces ≡ ran.trace ∷ [])) ⊎ (result.fates.items ≡ []) }
 {
     match of_one(alloc, ran) {
         Ok(threaded) => handed(threaded, Outcome::Worn(actor)),
-        Err(_) => ended(alloc, Outcome::Memory),
+        Err(_) => without_trace(alloc, Outcome::Memory),
     }
 }
 
 /// Writes the answer to the run of one space, and hands the run back.
 pub fn write_run<K: Sink>(alloc: Global, sink: &mut K, ran: Ran, bytes: &[u8]) -> Finished
-    ensures handed { IsHandedWritten (record { before = K.held sink.old; after = K.held sink.new; faults_before = K.faults sink.old; faults_after = K.faults sink.new }) (handed_by (record { trace = ran.trace; seat = ran.seat; totals = ran.totals.items; ports = ran.ports.items; fates = length ran.fates.items })) (record { traces = result.done.traces; seats = result.seats.items; totals = result.totals.items; ports = result.ports.items; fates = length result.fates.items }) bytes.now result.done.outcome }
+    ensures handed { IsHandedWritten (filled K.Sink sink.old sink.new) (handed_by (space_run ran)) (handed_back result) bytes.now result.done.outcome }
     ensures status { result.done.status ≡ status_of result.done.outcome }
     ensures kept { ((result.fates ≡ ran.fates) × (result.totals ≡ ran.totals) × (result.done.traces ≡ ran.trace ∷ [])) ⊎ (result.fates.items ≡ []) }
     ensures silent { IsSilent result.done.outcome → sink.new ≡ sink.old }
@@ -110,15 +102,15 @@ pub fn write_run<K: Sink>(alloc: Global, sink: &mut K, ran: Ran, bytes: &[u8]) -
 {
     match of_one(alloc, ran) {
         Ok(threaded) => write_answer(sink, threaded, bytes),
-        Err(_) => ended(alloc, Outcome::Memory),
+        Err(_) => without_trace(alloc, Outcome::Memory),
     }
 }
 
 /// Writes the answer to spaces that were run, and hands them back.
 pub fn write_answer<K: Sink>(sink: &mut K, threaded: Threaded, bytes: &[u8]) -> Finished
-    ensures written { IsWritten (record { before = K.held sink.old; after = K.held sink.new; faults_before = K.faults sink.old; faults_after = K.faults sink.new }) bytes.now result.done.outcome }
+    ensures written { IsWritten (filled K.Sink sink.old sink.new) bytes.now result.done.outcome }
     ensures status { result.done.status ≡ status_of result.done.outcome }
-    ensures handed { ◌≡◌ {A = Handed} (record { traces = result.done.traces; seats = result.seats.items; totals = result.totals.items; ports = result.ports.items; fates = length result.fates.items }) (record { traces = threaded.traces; seats = threaded.seats.items; totals = threaded.totals.items; ports = threaded.ports.items; fates = length threaded.fates.items }) }
+    ensures handed { handed_back result ≡ handed_of threaded }
     ensures traces { result.done.traces ≡ threaded.traces }
     ensures totals { result.totals ≡ threaded.totals }
     ensures fates { result.fates ≡ threaded.fates }

@@ -9,15 +9,16 @@ use Rattle.hx_report_lines.specs.Printed.{text_of}
 use Rattle.hx_report_lines.specs.Values.{IsReportValue, ReportValue}
 use Rattle.hx_script.specs.declared.errors.Reason.TheVariants.{Order}
 use Rattle.hx_replay.specs.Audits.{IsAuditJudged}
-use Rattle.hx_replay.specs.Calling.{Drawn, EndsAudit, Filled, IsAuditDecided}
+use Rattle.hx_replay.specs.Calling.{EndsAudit, IsAuditDecided}
 use Rattle.hx_replay.specs.Causes.{limit}
 use Rattle.hx_replay.specs.Commands.{Says, SaysAudit, words_of}
+use Rattle.hx_replay.specs.Streams.{Stream}
 use Rattle.hx_replay.specs.declared.outcomes.Outcome.{Outcome}
 use Rattle.hx_replay.specs.declared.outcomes.Outcome.TheVariants.{Fine, Usage, Refused, TooLarge, ReadFault, WriteFault, Memory, Worn, Wrong}
 use Rattle.hx_replay.specs.declared.words.Command.{Command}
 use Rattle.hx_replay.specs.declared.words.Command.TheVariants.{Replay, Plan}
 
-module _ (source : Drawn) (sink : Filled) (text : List ℕ) (still : Rose source.faults_before source.faults_after → ⊥) where
+module _ (source sink : Stream) (text : List ℕ) (still : Rose source.faults_before source.faults_after → ⊥) where
   larger : (outcome : Outcome) → IsAuditJudged text outcome → EndsAudit source sink outcome → limit < length text → (outcome ≡ TooLarge) ⊎ (outcome ≡ Memory)
   larger Fine judged ends large = absurd (omega (arith, judged.0, large))
   larger Usage judged ends large = absurd judged
@@ -57,7 +58,7 @@ module _ (source : Drawn) (sink : Filled) (text : List ℕ) (still : Rose source
   a_report (Wrong line clause) judged ends short report sound is well = inr (inr (line, clause, refl))
 
 -- an audit whose outcome is judged by the bytes is decided by them
-pub decided : (source : Drawn) (sink : Filled) (outcome : Outcome) → IfSome source.before (λ text. IsAuditJudged text outcome) → EndsAudit source sink outcome → IsAuditDecided source sink outcome
+pub decided : (source sink : Stream) (outcome : Outcome) → IfSome source.before (λ text. IsAuditJudged text outcome) → EndsAudit source sink outcome → IsAuditDecided source sink outcome
 decided source sink outcome judged ends =
     record {
       judged = judged;
@@ -84,5 +85,5 @@ not_both words command says audit = by command (ap first_long (sym audit ∙ say
     by Plan e = absurd (omega (arith, e))
 
 -- how an audit ends whose outcome is told
-pub ends_at : (source : Drawn) (sink : Filled) (outcome shown wanted : Outcome) → shown ≡ outcome → shown ≡ wanted → EndsAudit source sink outcome → EndsAudit source sink wanted
+pub ends_at : (source sink : Stream) (outcome shown wanted : Outcome) → shown ≡ outcome → shown ≡ wanted → EndsAudit source sink outcome → EndsAudit source sink wanted
 ends_at source sink outcome shown wanted same is ends = subst (λ (o : Outcome). EndsAudit source sink o) (sym same ∙ is) ends

@@ -1,5 +1,5 @@
 -- What the program makes of its words, its source and its sink.
-use Rattle.std.specs.Prelude.{◌≡◌, ◌↔◌, ◌⊎◌, ℕ, ◌+◌, ◌<◌, ◌≤◌, List, [], length, Option, Some, IfSome, ⊤}
+use Rattle.std.specs.Prelude.{◌≡◌, ◌↔◌, ◌⊎◌, ℕ, ◌+◌, ◌<◌, ◌≤◌, List, [], length, Some, IfSome, ⊤}
 use Rattle.std.specs.declared.string.String.{String}
 use Rattle.std.specs.declared.alloc.Global.{Global}
 use Rattle.std.specs.Io.KnownBytes.{Appends}
@@ -15,34 +15,21 @@ use Rattle.hx_replay.specs.Causes.{IsAnswer, IsFaulty, IsJudged, IsStopped, IsTa
 use Rattle.hx_replay.specs.Texts.{IsRefused}
 use Rattle.hx_replay.specs.Commands.{Replays, Says, SaysAudit}
 use Rattle.hx_replay.specs.Audits.{IsAudited, IsAuditJudged, yes_line}
+use Rattle.hx_replay.specs.Streams.{Stream}
 use Rattle.hx_audit.specs.declared.verdicts.Clause.{Clause}
 use Rattle.hx_audit.specs.declared.verdicts.Verdict.TheVariants.{Yes, No}
 use Rattle.hx_report_lines.specs.Printed.{text_of}
 use Rattle.hx_report_lines.specs.Unread.{IsUnreadAt}
 use Rattle.hx_report_lines.specs.Values.{IsReportValue, ReportValue}
 
--- a source before and after a call: the bytes that are left, where it tells them, and its count of faults
-pub record Drawn : Type 0 where
-  pub before : Option (List ℕ)
-  pub after : Option (List ℕ)
-  pub faults_before : ℕ
-  pub faults_after : ℕ
-
--- a sink before and after a call: the bytes that it holds, where it tells them, and its count of faults
-pub record Filled : Type 0 where
-  pub before : Option (List ℕ)
-  pub after : Option (List ℕ)
-  pub faults_before : ℕ
-  pub faults_after : ℕ
-
 -- the text was written, or a prefix of it and a fault rose
-abbrev pub Shows : Filled → List ℕ → Outcome → Type 0
+abbrev pub Shows : Stream → List ℕ → Outcome → Type 0
 Shows sink text outcome =
     ((outcome ≡ an_outcome.Fine) × Appends sink.before sink.after text)
     ⊎ ((outcome ≡ an_outcome.WriteFault) × Rose sink.faults_before sink.faults_after × AppendsPrefix sink.before sink.after text)
 
 -- the source was read, and the answer to its text was written
-pub record Writes (words : List (String Global)) (source : Drawn) (sink : Filled) (traces : List (List Entry)) : Type 0 where
+pub record Writes (words : List (String Global)) (source sink : Stream) (traces : List (List Entry)) : Type 0 where
   pub command : Command
   pub text : List ℕ
   pub bytes : List ℕ
@@ -52,7 +39,7 @@ pub record Writes (words : List (String Global)) (source : Drawn) (sink : Filled
   pub written : Appends sink.before sink.after bytes
 
 -- the source was read, and a prefix of the answer to its text was written
-pub record WritesPrefix (words : List (String Global)) (source : Drawn) (sink : Filled) (traces : List (List Entry)) : Type 0 where
+pub record WritesPrefix (words : List (String Global)) (source sink : Stream) (traces : List (List Entry)) : Type 0 where
   pub command : Command
   pub text : List ℕ
   pub bytes : List ℕ
@@ -62,7 +49,7 @@ pub record WritesPrefix (words : List (String Global)) (source : Drawn) (sink : 
   pub written : AppendsPrefix sink.before sink.after bytes
 
 -- how an audit ends: the source was read, and no clause of its report is broken and `audit yes` was written, or one is, or no report has the text
-abbrev pub EndsAudit : Drawn → Filled → Outcome → Type 0
+abbrev pub EndsAudit : Stream → Stream → Outcome → Type 0
 EndsAudit source sink an_outcome.Fine =
     (text : List ℕ) × ReadsText source.before source.after text × IsAudited text Yes × Appends sink.before sink.after yes_line
 EndsAudit source sink an_outcome.Usage = ⊥
@@ -78,7 +65,7 @@ EndsAudit source sink (an_outcome.Wrong line clause) =
     (text : List ℕ) × ReadsText source.before source.after text × IsAudited text (No line clause)
 
 -- for a source that tells its bytes these alone decide an audit, but for faults and want of memory
-pub record IsAuditDecided (source : Drawn) (sink : Filled) (outcome : Outcome) : Type 0 where
+pub record IsAuditDecided (source sink : Stream) (outcome : Outcome) : Type 0 where
   pub judged : IfSome source.before (λ text. IsAuditJudged text outcome)
   pub too_large : (text : List ℕ) → source.before ≡ Some text → limit < length text
       → ¬ Rose source.faults_before source.faults_after
@@ -92,25 +79,25 @@ pub record IsAuditDecided (source : Drawn) (sink : Filled) (outcome : Outcome) :
       → (outcome ≡ an_outcome.Fine) ⊎ (outcome ≡ an_outcome.Memory)
       ⊎ ((line : ℕ) × (clause : Clause) × (outcome ≡ an_outcome.Wrong line clause))
 
--- a call with the words of a command, with `audit`, or with words that are neither, ends so with these traces
-pub record Ends (words : List (String Global)) (source : Drawn) (sink : Filled) (outcome : Outcome) (traces : List (List Entry)) : Type 0 where
-  pub fine : outcome ≡ an_outcome.Fine → SaysAudit words ⊎ Writes words source sink traces
-  pub usage : (outcome ≡ an_outcome.Usage) ↔ (((command : Command) → ¬ Says words command) × ¬ SaysAudit words)
-  pub refused : (line : ℕ) (reason : Reason) → outcome ≡ an_outcome.Refused line reason → SaysAudit words ⊎ ((text : List ℕ)
-      × ReadsText source.before source.after text
-      × (IsRefused text line reason
-      ⊎ ((reason ≡ a_reason.Step) × ((command : Command) × Says words command × Replays command) × IsStopped text line traces)))
-  pub too_large : outcome ≡ an_outcome.TooLarge → ConsumesExactly source.before source.after (limit + 1)
-  pub read_fault : outcome ≡ an_outcome.ReadFault → Rose source.faults_before source.faults_after
-  pub write_fault : outcome ≡ an_outcome.WriteFault → Rose sink.faults_before sink.faults_after × (SaysAudit words ⊎ WritesPrefix words source sink traces)
-  pub worn : (a : Actor) → outcome ≡ an_outcome.Worn a → (text : List ℕ)
-      × ((command : Command) × Says words command × Replays command)
-      × ReadsText source.before source.after text
-      × IsWorn text traces a
-  pub wears : (command : Command) (text : List ℕ) (worn : List (List Entry)) (a : Actor) → Says words command → Replays command
-      → source.before ≡ Some text → length text ≤ limit → IsWorn text worn a
-      → ¬ Rose source.faults_before source.faults_after
-      → (outcome ≡ an_outcome.Worn a) ⊎ (outcome ≡ an_outcome.Memory)
+-- the text that the source gave is refused, or its replay ended before the step on that line, which can't be taken
+abbrev pub Refuses : List (String Global) → Stream → ℕ → Reason → List (List Entry) → Type 0
+Refuses words source line reason traces =
+    (text : List ℕ)
+    × ReadsText source.before source.after text
+    × (IsRefused text line reason
+    ⊎ ((reason ≡ a_reason.Step) × ((command : Command) × Says words command × Replays command) × IsStopped text line traces))
+
+-- the replay of the text that the source gave ended where this actor is worn
+abbrev pub WearsOut : List (String Global) → Stream → List (List Entry) → Actor → Type 0
+WearsOut words source traces a =
+    (text : List ℕ)
+    × ((command : Command) × Says words command × Replays command)
+    × ReadsText source.before source.after text
+    × IsWorn text traces a
+
+-- for a source that tells its bytes these alone decide a command, but for faults and want of memory;
+-- where the text's script has a run that ends at a worn actor, so does the call
+pub record IsCommandDecided (words : List (String Global)) (source sink : Stream) (outcome : Outcome) : Type 0 where
   pub judged : (command : Command) → Says words command → IfSome source.before (λ text. IsJudged command text outcome)
   pub faulty : (command : Command) (text : List ℕ) (wanted : Outcome) → Says words command
       → source.before ≡ Some text → IsFaulty command text wanted
@@ -122,6 +109,21 @@ pub record Ends (words : List (String Global)) (source : Drawn) (sink : Filled) 
       → ¬ Rose sink.faults_before sink.faults_after
       → (outcome ≡ an_outcome.Fine) ⊎ (outcome ≡ an_outcome.Memory)
       ⊎ ((a : Actor) × (outcome ≡ an_outcome.Worn a))
+  pub wears : (command : Command) (text : List ℕ) (worn : List (List Entry)) (a : Actor) → Says words command → Replays command
+      → source.before ≡ Some text → length text ≤ limit → IsWorn text worn a
+      → ¬ Rose source.faults_before source.faults_after
+      → (outcome ≡ an_outcome.Worn a) ⊎ (outcome ≡ an_outcome.Memory)
+
+-- a call with the words of a command, with `audit`, or with words that are neither, ends so with these traces
+pub record Ends (words : List (String Global)) (source sink : Stream) (outcome : Outcome) (traces : List (List Entry)) : Type 0 where
+  pub fine : outcome ≡ an_outcome.Fine → SaysAudit words ⊎ Writes words source sink traces
+  pub usage : (outcome ≡ an_outcome.Usage) ↔ (((command : Command) → ¬ Says words command) × ¬ SaysAudit words)
+  pub refused : (line : ℕ) (reason : Reason) → outcome ≡ an_outcome.Refused line reason → SaysAudit words ⊎ Refuses words source line reason traces
+  pub too_large : outcome ≡ an_outcome.TooLarge → ConsumesExactly source.before source.after (limit + 1)
+  pub read_fault : outcome ≡ an_outcome.ReadFault → Rose source.faults_before source.faults_after
+  pub write_fault : outcome ≡ an_outcome.WriteFault → Rose sink.faults_before sink.faults_after × (SaysAudit words ⊎ WritesPrefix words source sink traces)
+  pub worn : (a : Actor) → outcome ≡ an_outcome.Worn a → WearsOut words source traces a
+  pub decided : IsCommandDecided words source sink outcome
   pub audited : SaysAudit words → EndsAudit source sink outcome
   pub audit_decided : SaysAudit words → IsAuditDecided source sink outcome
   pub audit_traces : SaysAudit words → traces ≡ []

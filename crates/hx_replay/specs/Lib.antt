@@ -8,4 +8,5 @@ pub mod Courses
 pub mod BundleSteps
 pub mod Causes
 pub mod Audits
+pub mod Streams
 pub mod Calling

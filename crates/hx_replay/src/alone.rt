@@ -1,14 +1,13 @@
-ghost use Rattle.std.specs.Prelude.{◌≡◌, ◌↔◌, ◌⊎◌, ◌+◌, ◌≤◌, ℕ, List, [], Some, IfSome, length};
-ghost use Rattle.std.specs.Io.KnownBytes.{Appends};
+ghost use Rattle.std.specs.Prelude.{◌≡◌, ◌↔◌, ◌⊎◌, ◌+◌, ◌≤◌, ℕ, []};
 ghost use Rattle.hx_io.specs.Causes.{Rose};
-ghost use Rattle.hx_io.specs.Pieces.{AppendsPrefix, ConsumesExactly};
+ghost use Rattle.hx_io.specs.Pieces.{ConsumesExactly};
 ghost use Rattle.hx_script.specs.declared.errors.Reason.{Reason};
 ghost use Rattle.hx_script.specs.declared.errors.Reason.TheVariants as a_reason;
-ghost use Rattle.hx_model.specs.Types.{Actor, Entry};
-ghost use Rattle.hx_replay.specs.Calling.{EndsAudit, IsAuditDecided};
-ghost use Rattle.hx_replay.specs.Causes.{IsAnswer, IsFaulty, IsJudged, IsStopped, IsTaken, IsWorn, ReadsText, limit};
-ghost use Rattle.hx_replay.specs.Texts.{IsRefused};
-ghost use Rattle.hx_replay.specs.Commands.{Replays, Says, SaysAudit};
+ghost use Rattle.hx_model.specs.Types.{Actor};
+ghost use Rattle.hx_replay.specs.Calling.{EndsAudit, IsAuditDecided, IsCommandDecided, Refuses, WearsOut, Writes, WritesPrefix};
+ghost use Rattle.hx_replay.specs.Streams.{drawn, filled};
+ghost use Rattle.hx_replay.specs.Causes.{limit};
+ghost use Rattle.hx_replay.specs.Commands.{Says, SaysAudit};
 ghost use Rattle.hx_replay.specs.Outcomes.{HasNoTraces, IsSilent, status_of};
 ghost use Rattle.hx_replay.specs.declared.outcomes.Outcome.{Outcome};
 ghost use Rattle.hx_replay.specs.declared.words.Command.{Command};
@@ -48,67 +47,33 @@ pub fn hyperstore_alone<S: Source, K: Sink>(
     // schedule, each key's history is linear, each finished search whole and true, every answer has
     // its cause, each session begins its calls in order, one after another, whatever their spaces, and
     // the report was written and nothing else; under `plan` the plans of its searches.
-    ensures fine { result.outcome ≡ Outcome.Fine → SaysAudit words.now ⊎ ((command : Command) × (text : List ℕ) × (bytes : List ℕ)
-        × Says words.now command
-        × ReadsText (S.left source.old) (S.left source.new) text
-        × IsAnswer command text result.traces bytes
-        × Appends (K.held sink.old) (K.held sink.new) bytes) }
+    ensures fine { result.outcome ≡ Outcome.Fine → SaysAudit words.now
+        ⊎ Writes words.now (drawn S.Source source.old source.new) (filled K.Sink sink.old sink.new) result.traces }
 
     // Under `audit` the text is that of a report. With status 0 no clause of it is broken and `audit yes`
     // was written and nothing else; with status 1 the named clause is, and no earlier one. There is no
     // trace. For a source that tells its bytes these alone decide, but for faults and want of memory.
-    ensures audited { SaysAudit words.now → EndsAudit
-        (record { before = S.left source.old; after = S.left source.new; faults_before = S.faults source.old; faults_after = S.faults source.new })
-        (record { before = K.held sink.old; after = K.held sink.new; faults_before = K.faults sink.old; faults_after = K.faults sink.new })
-        result.outcome }
-    ensures audit_decided { SaysAudit words.now → IsAuditDecided
-        (record { before = S.left source.old; after = S.left source.new; faults_before = S.faults source.old; faults_after = S.faults source.new })
-        (record { before = K.held sink.old; after = K.held sink.new; faults_before = K.faults sink.old; faults_after = K.faults sink.new })
-        result.outcome }
+    ensures audited { SaysAudit words.now → EndsAudit (drawn S.Source source.old source.new) (filled K.Sink sink.old sink.new) result.outcome }
+    ensures audit_decided { SaysAudit words.now → IsAuditDecided (drawn S.Source source.old source.new) (filled K.Sink sink.old sink.new) result.outcome }
     ensures audit_traces { SaysAudit words.now → result.traces ≡ [] }
 
     // What each other outcome comes from. A replay that refuses a step hands back the run before it.
     ensures usage { (result.outcome ≡ Outcome.Usage) ↔ (((command : Command) → ¬ Says words.now command) × ¬ SaysAudit words.now) }
-    ensures refused { (line : ℕ) (reason : Reason) → result.outcome ≡ Outcome.Refused line reason → SaysAudit words.now ⊎ ((text : List ℕ)
-        × ReadsText (S.left source.old) (S.left source.new) text
-        × (IsRefused text line reason
-        ⊎ ((reason ≡ a_reason.Step) × ((command : Command) × Says words.now command × Replays command) × IsStopped text line result.traces))) }
-    ensures too_large { result.outcome ≡ Outcome.TooLarge →
-        ConsumesExactly (S.left source.old) (S.left source.new) (limit + 1) }
+    ensures refused { (line : ℕ) (reason : Reason) → result.outcome ≡ Outcome.Refused line reason
+        → SaysAudit words.now ⊎ Refuses words.now (drawn S.Source source.old source.new) line reason result.traces }
+    ensures too_large { result.outcome ≡ Outcome.TooLarge → ConsumesExactly (S.left source.old) (S.left source.new) (limit + 1) }
     ensures read_fault { result.outcome ≡ Outcome.ReadFault → Rose (S.faults source.old) (S.faults source.new) }
     ensures write_fault { result.outcome ≡ Outcome.WriteFault → Rose (K.faults sink.old) (K.faults sink.new) }
-    ensures prefix { result.outcome ≡ Outcome.WriteFault → SaysAudit words.now ⊎ ((command : Command) × (text : List ℕ) × (bytes : List ℕ)
-        × Says words.now command
-        × ReadsText (S.left source.old) (S.left source.new) text
-        × IsAnswer command text result.traces bytes
-        × AppendsPrefix (K.held sink.old) (K.held sink.new) bytes) }
+    ensures prefix { result.outcome ≡ Outcome.WriteFault → SaysAudit words.now
+        ⊎ WritesPrefix words.now (drawn S.Source source.old source.new) (filled K.Sink sink.old sink.new) result.traces }
 
     // Under `replay` the schedule came to an entry of an actor that has made all its entries. The
     // traces are the runs up to there.
-    ensures worn { (a : Actor) → result.outcome ≡ Outcome.Worn a → (text : List ℕ)
-        × ((command : Command) × Says words.now command × Replays command)
-        × ReadsText (S.left source.old) (S.left source.new) text
-        × IsWorn text result.traces a }
+    ensures worn { (a : Actor) → result.outcome ≡ Outcome.Worn a → WearsOut words.now (drawn S.Source source.old source.new) result.traces a }
 
-    // And where the text's script has a run that ends so, the outcome is no other.
-    ensures wears { (command : Command) → (text : List ℕ) → (traces : List (List Entry)) → (a : Actor) → Says words.now command
-        → Replays command → S.left source.old ≡ Some text → length text ≤ limit → IsWorn text traces a
-        → ¬ Rose (S.faults source.old) (S.faults source.new)
-        → (result.outcome ≡ Outcome.Worn a) ⊎ (result.outcome ≡ Outcome.Memory) }
-
-    // For a source that tells its bytes these alone decide, but for faults and want of memory.
-    ensures judged { (command : Command) → Says words.now command
-        → IfSome (S.left source.old) (λ text. IsJudged command text result.outcome) }
-    ensures faulty { (command : Command) → (text : List ℕ) → (outcome : Outcome) → Says words.now command
-        → S.left source.old ≡ Some text → IsFaulty command text outcome
-        → ¬ Rose (S.faults source.old) (S.faults source.new)
-        → (result.outcome ≡ outcome) ⊎ (result.outcome ≡ Outcome.Memory) }
-    ensures complete { (command : Command) → (text : List ℕ) → Says words.now command
-        → S.left source.old ≡ Some text → length text ≤ limit → IsTaken command text
-        → ¬ Rose (S.faults source.old) (S.faults source.new)
-        → ¬ Rose (K.faults sink.old) (K.faults sink.new)
-        → (result.outcome ≡ Outcome.Fine) ⊎ (result.outcome ≡ Outcome.Memory)
-        ⊎ ((a : Actor) × (result.outcome ≡ Outcome.Worn a)) }
+    // For a source that tells its bytes these alone decide, but for faults and want of memory. Where the
+    // text's script has a run that ends at a worn actor, the outcome is no other.
+    ensures decided { IsCommandDecided words.now (drawn S.Source source.old source.new) (filled K.Sink sink.old sink.new) result.outcome }
 
     // Nothing is written with the other outcomes, and there is no trace but where an actor is worn or
     // a step is refused.

@@ -1,9 +1,10 @@
 ghost use Rattle.std.specs.Prelude.{◌≡◌, ◌≤◌, ℕ, List, IfOk, IfErr, IfSome, length};
 ghost use Rattle.hx_audit.specs.declared.verdicts.Verdict.TheVariants as a_verdict;
 ghost use Rattle.hx_replay.specs.Audits.{IsAudited, IsAuditJudged, IsNoReport, yes_line};
-ghost use Rattle.hx_replay.specs.Calling.{EndsAudit, Filled, Shows};
+ghost use Rattle.hx_replay.specs.Calling.{EndsAudit, Shows};
 ghost use Rattle.hx_replay.specs.Causes.{ReadsText, limit};
 ghost use Rattle.hx_replay.specs.Outcomes.{IsSilent};
+ghost use Rattle.hx_replay.specs.Streams.{Stream, drawn, filled};
 
 use crate::outcomes::Outcome;
 use hx_audit::{Verdict, audit};
@@ -21,10 +22,7 @@ const YES: &[u8] = b"audit yes\n";
 /// Reads the source to its end, judges the report whose text it gives, and writes `audit yes` where no
 /// clause of it is broken.
 pub fn audit_source<S: Source, K: Sink>(alloc: Global, source: &mut S, sink: &mut K) -> Outcome
-    ensures ends { EndsAudit
-        (record { before = S.left source.old; after = S.left source.new; faults_before = S.faults source.old; faults_after = S.faults source.new })
-        (record { before = K.held sink.old; after = K.held sink.new; faults_before = K.faults sink.old; faults_after = K.faults sink.new })
-        result }
+    ensures ends { EndsAudit (drawn S.Source source.old source.new) (filled K.Sink sink.old sink.new) result }
     ensures judged { IfSome (S.left source.old) (λ text. IsAuditJudged text result) }
     ensures silent { IsSilent result → sink.new ≡ sink.old }
     ensures source_faults { S.faults source.old ≤ S.faults source.new }
@@ -40,9 +38,7 @@ pub fn audit_source<S: Source, K: Sink>(alloc: Global, source: &mut S, sink: &mu
 /// Reads the source to its end and judges the report whose text it gives.
 fn read_and_judge<S: Source>(alloc: Global, source: &mut S) -> Result<Verdict, Outcome>
     ensures verdict { IfOk result (λ verdict. (text : List ℕ) × ReadsText (S.left source.old) (S.left source.new) text × IsAudited text verdict) }
-    ensures cause { IfErr result (λ outcome. (sink : Filled) → EndsAudit
-        (record { before = S.left source.old; after = S.left source.new; faults_before = S.faults source.old; faults_after = S.faults source.new })
-        sink outcome) }
+    ensures cause { IfErr result (λ outcome. (sink : Stream) → EndsAudit (drawn S.Source source.old source.new) sink outcome) }
     ensures judged { IfSome (S.left source.old) (λ text. IfOk result (λ verdict. (length text ≤ limit) × IsAudited text verdict)) }
     ensures refused { IfSome (S.left source.old) (λ text. IfErr result (IsAuditJudged text)) }
     ensures faults { S.faults source.old ≤ S.faults source.new }
@@ -68,7 +64,7 @@ fn judge(alloc: Global, text: &[u8]) -> Result<Verdict, Outcome>
 }
 
 fn say_yes<K: Sink>(sink: &mut K) -> Outcome
-    ensures shows { Shows (record { before = K.held sink.old; after = K.held sink.new; faults_before = K.faults sink.old; faults_after = K.faults sink.new }) yes_line result }
+    ensures shows { Shows (filled K.Sink sink.old sink.new) yes_line result }
     ensures faults { K.faults sink.old ≤ K.faults sink.new }
 {
     match write_all(sink, YES) {

@@ -1,5 +1,6 @@
 -- What is told of a call, by its words.
-use Rattle.std.proofs.Common.{inr, length}
+use Rattle.std.proofs.Common.{inr}
+use Rattle.hx_command.specs.HandedBack.{handed_back}
 use Rattle.hx_command.proofs.Wording.{nothing_told}
 use Rattle.hx_command.proofs.program.called.Goals as goal
 
@@ -14,7 +15,7 @@ returns-clause-told g c =
     let ended = c.hyperstore-done.ensures in
     let result = c.hyperstore-done.result in
     record {
-      h = record { traces = result.done.traces; seats = result.seats.items; totals = result.totals.items; ports = result.ports.items; fates = length result.fates.items };
+      h = handed_back result;
       alone = λ unthreaded. inr (ended.alone unthreaded);
       run = λ command says. let r = ended.run command says in (r.0, r.1);
       decided = ended.decided;

@@ -4,7 +4,7 @@ use Rattle.std.specs.Prelude.{Result, Ok, Err, IsErrOf, OnOk}
 use Rattle.std.specs.Io.KnownBytes.{Appends}
 use Rattle.hx_io.specs.Causes.{Rose}
 use Rattle.hx_io.specs.Pieces.{AppendsPrefix}
-use Rattle.hx_replay.specs.Calling.{Filled}
+use Rattle.hx_replay.specs.Streams.{Stream}
 use Rattle.hx_command.specs.Telling.{Prints}
 use Rattle.hx_command.specs.declared.program.Unprinted.{Unprinted}
 use Rattle.hx_command.specs.declared.program.Unprinted.TheVariants as a_reason
@@ -37,7 +37,7 @@ returns-clause-fine g c zero =
       | in-Err w ↦ absurd (not_fine w.in-Err.outcome w.in-Err.ensures (sym w.outcome-is ∙ fine))
     ]
 
-printed_by : {A : Type 0} (r : Result A Unprinted) (errors : Filled) (line : List ℕ)
+printed_by : {A : Type 0} (r : Result A Unprinted) (errors : Stream) (line : List ℕ)
     → OnOk r (Appends errors.before errors.after line)
     → (IsErrOf r a_reason.WriteFault → Rose errors.faults_before errors.faults_after × AppendsPrefix errors.before errors.after line)
     → (IsErrOf r a_reason.Memory → errors.after ≡ errors.before)

@@ -17,10 +17,10 @@ returns-in-Ok-clause-decided g c =
 
 pub returns-in-Err-clause-share : goal.returns-in-Err-clause-share
 returns-in-Err-clause-share g c =
-    let e = c.ended.ensures in (
+    let e = c.without_trace.ensures in (
       no_script,
-      unread_with version_1 (IsSharedReport no_script) (IsWornShared no_script) no_script _ _ _ c.in-Err.outcome c.ended.result.done.outcome e.nothing e.outcome c.in-Err.ensures.cause,
+      unread_with version_1 (IsSharedReport no_script) (IsWornShared no_script) no_script _ _ _ c.in-Err.outcome c.without_trace.result.done.outcome e.nothing e.outcome c.in-Err.ensures.cause,
     )
 
 pub returns-in-Err-clause-decided : goal.returns-in-Err-clause-decided
-returns-in-Err-clause-decided g c = decided_unread version_1 version_1_exact _ _ c.in-Err.outcome _ c.ended.ensures.outcome c.in-Err.ensures.judged c.in-Err.ensures.cause
+returns-in-Err-clause-decided g c = decided_unread version_1 version_1_exact _ _ c.in-Err.outcome _ c.without_trace.ensures.outcome c.in-Err.ensures.judged c.in-Err.ensures.cause

@@ -1,13 +1,13 @@
 -- The law on soaks, at the run.
-use Rattle.std.proofs.Common.{length}
 use Rattle.hx_command.specs.Threads.{IsSummed, IsWornOnThreads, SpaceRun, SumsUp, handed_by}
+use Rattle.hx_command.specs.HandedBack.{space_run}
 use Rattle.hx_command.proofs.Handing.{is_summed, of_one_run, written_handed}
 use Rattle.hx_command.proofs.soaking.write_summary.Goals as goal
 
 pub returns-in-Ok-clause-ends : goal.returns-in-Ok-clause-ends
 returns-in-Ok-clause-ends g c =
     let ran = c.args.ran in
-    let r : SpaceRun = record { trace = ran.trace; seat = ran.seat; totals = ran.totals.items; ports = ran.ports.items; fates = length ran.fates.items } in
+    let r : SpaceRun = space_run ran in
     let summed =
     is_summed c.args.command c.args.script.now r c.in-Ok.bytes.items c.soaks_sum_up_in_order.ensures c.requires.drawn c.requires.few c.requires.threaded
     c.in-Ok.ensures in

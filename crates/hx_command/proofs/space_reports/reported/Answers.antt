@@ -8,6 +8,7 @@ use Rattle.std.specs.Prelude.{reverse}
 use Rattle.hx_report.specs.BundleReporting.{IsBundleReport}
 use Rattle.hx_types.specs.declared.totals.Totals.{Totals}
 use Rattle.hx_types.specs.declared.traces.Entry.{Entry}
+use Rattle.hx_command.specs.HandedBack.{space_run}
 use Rattle.hx_command.proofs.Parts.{none_empty, of_both}
 use Rattle.hx_command.proofs.Spaced.{handed_back}
 use Rattle.hx_command.proofs.space_reports.reported.Goals as goal
@@ -22,7 +23,7 @@ pub returns-clause-handed : goal.returns-clause-handed
 returns-clause-handed g c =
     let p = c.in_ok-parts.ensures in
     let t = c.in_ok-threaded.ensures in
-    handed_back (λ r. record { trace = r.trace; seat = r.seat; totals = r.totals.items; ports = r.ports.items; fates = length r.fates.items }) (λ r. r.fates.items) (λ r. refl {a = length r.fates.items}) c.args.bundle.now.spaces c.args.runs.items _ _ _ _ _ (record {
+    handed_back space_run (λ r. r.fates.items) (λ r. refl {a = length r.fates.items}) c.args.bundle.now.spaces c.args.runs.items _ _ _ _ _ (record {
       traces = t.traces ∙ p.traces ∙ sym (none_empty c.args.bundle.now.spaces (length c.args.runs.items) _ c.requires.all);
       seats = ap (λ v. v.items) t.seats ∙ p.seats;
       totals = t.totals ∙ ap (flat_map (λ l. l)) p.totals ∙ flat_map-map (λ l. l) (λ r. r.totals.items) c.args.runs.items;

@@ -97,7 +97,7 @@ returns-in-Some-share_of-clause-unread g c command says = absurd (none_some comm
 pub returns-clause-fine : goal.returns-clause-fine
 returns-clause-fine g c =
     let e = c.hyperstore_alone.ensures in
-    rw c.unthreaded.ensures.done
+    rw c.without_threads.ensures.done
     (λ is. elim (e.fine is) [
       | inl says ↦ inr (inl (audit_answered _ _ _ c.hyperstore_alone.result.outcome says is (e.audited says)))
       | inr w ↦ inl (record {
@@ -106,34 +106,22 @@ returns-clause-fine g c =
           no_soak = λ command says. none_some command ((c.in-None-soak_of.ensures.said command).1 says);
           no_share = λ command says. none_some command ((c.in-None-share_of.ensures.said command).1 says);
         };
-        writes = record { command = w.0; text = w.1; bytes = w.2; says = w.3; reads = w.4; answer = w.5; written = w.6 };
+        writes = w;
       })
     ])
 
 pub returns-clause-alone : goal.returns-clause-alone
 returns-clause-alone g c unthreaded =
     let e = c.hyperstore_alone.ensures in
-    rw c.unthreaded.ensures.done (record {
-      fine = λ is. elim (e.fine is) [
-        | inl says ↦ inl says
-        | inr w ↦ inr (record { command = w.0; text = w.1; bytes = w.2; says = w.3; reads = w.4; answer = w.5; written = w.6 })
-      ];
+    rw c.without_threads.ensures.done (record {
+      fine = e.fine;
       usage = e.usage;
       refused = e.refused;
       too_large = e.too_large;
       read_fault = e.read_fault;
-      write_fault = λ is. (
-        e.write_fault is,
-        elim (e.prefix is) [
-          | inl says ↦ inl says
-          | inr w ↦ inr (record { command = w.0; text = w.1; bytes = w.2; says = w.3; reads = w.4; answer = w.5; written = w.6 })
-        ],
-      );
+      write_fault = λ is. (e.write_fault is, e.prefix is);
       worn = e.worn;
-      wears = λ command text worn a says replays left short is still. e.wears command text worn a says replays left short is still;
-      judged = e.judged;
-      faulty = e.faulty;
-      complete = e.complete;
+      decided = e.decided;
       audited = e.audited;
       audit_decided = e.audit_decided;
       audit_traces = e.audit_traces;

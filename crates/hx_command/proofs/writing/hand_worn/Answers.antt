@@ -6,4 +6,4 @@ pub returns-in-Ok-clause-handed : goal.returns-in-Ok-clause-handed
 returns-in-Ok-clause-handed g c = inl (c.handed.ensures.outcome, c.handed.ensures.handed ∙ c.in-Ok.ensures.handed)
 
 pub returns-in-Err-clause-handed : goal.returns-in-Err-clause-handed
-returns-in-Err-clause-handed g c = inr (c.ended.ensures.outcome, c.ended.ensures.nothing)
+returns-in-Err-clause-handed g c = inr (c.without_trace.ensures.outcome, c.without_trace.ensures.nothing)

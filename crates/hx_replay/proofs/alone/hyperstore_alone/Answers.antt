@@ -38,24 +38,24 @@ returns-then-says_audit-clause-prefix g c is = inl (c.says_audit.ensures.0 c.if-
 pub returns-then-says_audit-clause-worn : goal.returns-then-says_audit-clause-worn
 returns-then-says_audit-clause-worn g c a is = absurd (ends_at _ _ _ _ _ c.silent.ensures.outcome is c.audit_source.ensures.ends)
 
-pub returns-then-says_audit-clause-wears : goal.returns-then-says_audit-clause-wears
-returns-then-says_audit-clause-wears g c command text traces a says replays left short worn still = absurd (not_both c.args.words.now command says (c.says_audit.ensures.0 c.if-says_audit.true))
-
-pub returns-then-says_audit-clause-judged : goal.returns-then-says_audit-clause-judged
-returns-then-says_audit-clause-judged g c command says = absurd (not_both c.args.words.now command says (c.says_audit.ensures.0 c.if-says_audit.true))
-
-pub returns-then-says_audit-clause-faulty : goal.returns-then-says_audit-clause-faulty
-returns-then-says_audit-clause-faulty g c command text outcome says left faulty still = absurd (not_both c.args.words.now command says (c.says_audit.ensures.0 c.if-says_audit.true))
-
-pub returns-then-says_audit-clause-complete : goal.returns-then-says_audit-clause-complete
-returns-then-says_audit-clause-complete g c command text says left short taken still well = absurd (not_both c.args.words.now command says (c.says_audit.ensures.0 c.if-says_audit.true))
+pub returns-then-says_audit-clause-decided : goal.returns-then-says_audit-clause-decided
+returns-then-says_audit-clause-decided g c =
+    let audit = c.says_audit.ensures.0 c.if-says_audit.true in
+    record {
+      judged = λ command says. absurd (not_both c.args.words.now command says audit);
+      faulty = λ command text outcome says left faulty still. absurd (not_both c.args.words.now command says audit);
+      complete = λ command text says left short taken still well. absurd (not_both c.args.words.now command says audit);
+      wears = λ command text traces a says replays left short worn still. absurd (not_both c.args.words.now command says audit);
+    }
 
 pub returns-then-says_audit-clause-untouched : goal.returns-then-says_audit-clause-untouched
 returns-then-says_audit-clause-untouched g c usage = absurd (ends_at _ _ _ _ _ c.silent.ensures.outcome usage c.audit_source.ensures.ends)
 
 -- ---- other words
 pub returns-else-says_audit-clause-fine : goal.returns-else-says_audit-clause-fine
-returns-else-says_audit-clause-fine g c is = inr (c.command_words.ensures.fine is)
+returns-else-says_audit-clause-fine g c is =
+    let w = c.command_words.ensures.fine is in
+    inr (record { command = w.0; text = w.1; bytes = w.2; says = w.3; reads = w.4; answer = w.5; written = w.6 })
 
 pub returns-else-says_audit-clause-audited : goal.returns-else-says_audit-clause-audited
 returns-else-says_audit-clause-audited g c says = absurd (false≢true (sym c.if-says_audit.false ∙ c.says_audit.ensures.1 says))
@@ -76,4 +76,16 @@ pub returns-else-says_audit-clause-refused : goal.returns-else-says_audit-clause
 returns-else-says_audit-clause-refused g c line reason is = inr (c.command_words.ensures.refused line reason is)
 
 pub returns-else-says_audit-clause-prefix : goal.returns-else-says_audit-clause-prefix
-returns-else-says_audit-clause-prefix g c is = inr (c.command_words.ensures.prefix is)
+returns-else-says_audit-clause-prefix g c is =
+    let w = c.command_words.ensures.prefix is in
+    inr (record { command = w.0; text = w.1; bytes = w.2; says = w.3; reads = w.4; answer = w.5; written = w.6 })
+
+pub returns-else-says_audit-clause-decided : goal.returns-else-says_audit-clause-decided
+returns-else-says_audit-clause-decided g c =
+    let e = c.command_words.ensures in
+    record {
+      judged = e.judged;
+      faulty = e.faulty;
+      complete = e.complete;
+      wears = λ command text traces a says replays left short worn still. e.wears command text traces a says replays left short worn still;
+    }

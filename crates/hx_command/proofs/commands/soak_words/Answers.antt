@@ -2,7 +2,7 @@
 use Rattle.hx_command.specs.Threads.{IsSummed, IsWornOnThreads}
 use Rattle.hx_command.proofs.Deciding.{ended_well}
 use Rattle.hx_command.proofs.Handing.{risen_same}
-use Rattle.hx_command.proofs.threaded.soak_words.Goals as goal
+use Rattle.hx_command.proofs.commands.soak_words.Goals as goal
 
 pub returns-in-Ok-clause-risen : goal.returns-in-Ok-clause-risen
 returns-in-Ok-clause-risen g c trace first i f h t p q r =

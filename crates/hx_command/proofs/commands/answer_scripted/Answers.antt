@@ -4,7 +4,7 @@ use Rattle.hx_fate.specs.States.{tuned}
 use Rattle.hx_run.specs.Ran.{HasRisen}
 use Rattle.hx_command.specs.Threads.{tuning_of}
 use Rattle.hx_command.proofs.Scripts.{AreRisen, ends_in, one_risen}
-use Rattle.hx_command.proofs.threaded.answer_scripted.Goals as goal
+use Rattle.hx_command.proofs.commands.answer_scripted.Goals as goal
 
 pub returns-in-One-clause-ends : goal.returns-in-One-clause-ends
 returns-in-One-clause-ends g c =
