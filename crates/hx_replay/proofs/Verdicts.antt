@@ -9,7 +9,7 @@ use Rattle.hx_report_lines.specs.Printed.{text_of}
 use Rattle.hx_report_lines.specs.Values.{IsReportValue, ReportValue}
 use Rattle.hx_script.specs.declared.errors.Reason.TheVariants.{Order}
 use Rattle.hx_replay.specs.Audits.{IsAuditJudged}
-use Rattle.hx_replay.specs.Calling.{EndsAudit, IsAuditDecided}
+use Rattle.hx_replay.specs.Calling.{EndsAudit, IsAuditDecided, IsCommandDecided}
 use Rattle.hx_replay.specs.Causes.{limit}
 use Rattle.hx_replay.specs.Commands.{Says, SaysAudit, words_of}
 use Rattle.hx_replay.specs.Streams.{Stream}
@@ -83,6 +83,16 @@ not_both words command says audit = by command (ap first_long (sym audit ∙ say
     by (Replay false) e = absurd (omega (arith, e))
     by (Replay true) e = absurd (omega (arith, e))
     by Plan e = absurd (omega (arith, e))
+
+-- with the word `audit` there is no command to decide
+pub none_decided : (words : List (String Global)) (source sink : Stream) (outcome : Outcome) → SaysAudit words → IsCommandDecided words source sink outcome
+none_decided words source sink outcome audit =
+    record {
+      judged = λ command says. absurd (not_both words command says audit);
+      faulty = λ command text wanted says left faulty still. absurd (not_both words command says audit);
+      complete = λ command text says left short taken still well. absurd (not_both words command says audit);
+      wears = λ command text worn a says replays left short is still. absurd (not_both words command says audit);
+    }
 
 -- how an audit ends whose outcome is told
 pub ends_at : (source sink : Stream) (outcome shown wanted : Outcome) → shown ≡ outcome → shown ≡ wanted → EndsAudit source sink outcome → EndsAudit source sink wanted

@@ -1,7 +1,7 @@
 -- The words are `audit`, or they aren't.
 use Rattle.std.proofs.Common.{◌∙◌, inl, inr, refl, sym}
 use Rattle.std.proofs.lemmas.Bool.{false≢true}
-use Rattle.hx_replay.proofs.Verdicts.{decided, ends_at, not_both}
+use Rattle.hx_replay.proofs.Verdicts.{decided, ends_at, none_decided}
 use Rattle.hx_replay.proofs.alone.hyperstore_alone.Goals as goal
 
 -- ---- the word `audit`
@@ -39,14 +39,7 @@ pub returns-then-says_audit-clause-worn : goal.returns-then-says_audit-clause-wo
 returns-then-says_audit-clause-worn g c a is = absurd (ends_at _ _ _ _ _ c.silent.ensures.outcome is c.audit_source.ensures.ends)
 
 pub returns-then-says_audit-clause-decided : goal.returns-then-says_audit-clause-decided
-returns-then-says_audit-clause-decided g c =
-    let audit = c.says_audit.ensures.0 c.if-says_audit.true in
-    record {
-      judged = λ command says. absurd (not_both c.args.words.now command says audit);
-      faulty = λ command text outcome says left faulty still. absurd (not_both c.args.words.now command says audit);
-      complete = λ command text says left short taken still well. absurd (not_both c.args.words.now command says audit);
-      wears = λ command text traces a says replays left short worn still. absurd (not_both c.args.words.now command says audit);
-    }
+returns-then-says_audit-clause-decided g c = none_decided _ _ _ _ (c.says_audit.ensures.0 c.if-says_audit.true)
 
 pub returns-then-says_audit-clause-untouched : goal.returns-then-says_audit-clause-untouched
 returns-then-says_audit-clause-untouched g c usage = absurd (ends_at _ _ _ _ _ c.silent.ensures.outcome usage c.audit_source.ensures.ends)
