@@ -1,12 +1,13 @@
-ghost use Rattle.std.specs.Prelude.{◌≡◌, ◌↔◌, ◌⊎◌, ◌+◌, ◌≤◌, ◌<◌, ℕ, List, [], Some, IfOk, IfErr, IfSome, length};
+ghost use Rattle.std.specs.Prelude.{◌≡◌, ◌↔◌, ◌⊎◌, ◌+◌, ◌≤◌, ℕ, List, [], Some, IfOk, IfErr, IfSome, length};
 ghost use Rattle.std.specs.Io.KnownBytes.{Appends};
 ghost use Rattle.hx_io.specs.Causes.{Rose};
 ghost use Rattle.hx_io.specs.Pieces.{AppendsPrefix, ConsumesExactly};
 ghost use Rattle.hx_script.specs.declared.errors.Reason.{Reason};
 ghost use Rattle.hx_script.specs.declared.errors.Reason.TheVariants as a_reason;
 ghost use Rattle.hx_model.specs.Types.{Actor, Entry};
-ghost use Rattle.hx_replay.specs.Causes.{IsAnswer, IsCause, IsFaulty, IsJudged, IsJudgedResult, CommandEnds, IsStopped, IsTaken, IsWorn, ReadsText, limit};
-ghost use Rattle.hx_replay.specs.Texts.{IsRefused};
+ghost use Rattle.hx_replay.specs.Calling.{Refuses, WearsOut, Writes, WritesPrefix};
+ghost use Rattle.hx_replay.specs.Streams.{drawn, filled};
+ghost use Rattle.hx_replay.specs.Causes.{IsCause, IsFaulty, IsJudged, IsJudgedResult, CommandEnds, IsTaken, IsWorn, ReadsText, limit};
 ghost use Rattle.hx_replay.specs.Commands.{Replays, Says};
 ghost use Rattle.hx_replay.specs.Outcomes.{HasNoTraces, IsSilent, status_of};
 ghost use Rattle.hx_replay.specs.declared.outcomes.Outcome.{Outcome};
@@ -32,29 +33,15 @@ pub fn command_words<S: Source, K: Sink>(
     sink: &mut K,
 ) -> Done
     ensures status { result.status ≡ status_of result.outcome }
-    ensures fine { result.outcome ≡ Outcome.Fine → (command : Command) × (text : List ℕ) × (bytes : List ℕ)
-        × Says words.now command
-        × ReadsText (S.left source.old) (S.left source.new) text
-        × IsAnswer command text result.traces bytes
-        × Appends (K.held sink.old) (K.held sink.new) bytes }
+    ensures fine { result.outcome ≡ Outcome.Fine → Writes words.now (drawn S.Source source.old source.new) (filled K.Sink sink.old sink.new) result.traces }
     ensures usage { (result.outcome ≡ Outcome.Usage) ↔ ((command : Command) → ¬ Says words.now command) }
-    ensures refused { (line : ℕ) (reason : Reason) → result.outcome ≡ Outcome.Refused line reason → (text : List ℕ)
-        × ReadsText (S.left source.old) (S.left source.new) text
-        × (IsRefused text line reason
-        ⊎ ((reason ≡ a_reason.Step) × ((command : Command) × Says words.now command × Replays command) × IsStopped text line result.traces)) }
-    ensures too_large { result.outcome ≡ Outcome.TooLarge →
-        ConsumesExactly (S.left source.old) (S.left source.new) (limit + 1) }
+    ensures refused { (line : ℕ) (reason : Reason) → result.outcome ≡ Outcome.Refused line reason
+        → Refuses words.now (drawn S.Source source.old source.new) line reason result.traces }
+    ensures too_large { result.outcome ≡ Outcome.TooLarge → ConsumesExactly (S.left source.old) (S.left source.new) (limit + 1) }
     ensures read_fault { result.outcome ≡ Outcome.ReadFault → Rose (S.faults source.old) (S.faults source.new) }
     ensures write_fault { result.outcome ≡ Outcome.WriteFault → Rose (K.faults sink.old) (K.faults sink.new) }
-    ensures prefix { result.outcome ≡ Outcome.WriteFault → (command : Command) × (text : List ℕ) × (bytes : List ℕ)
-        × Says words.now command
-        × ReadsText (S.left source.old) (S.left source.new) text
-        × IsAnswer command text result.traces bytes
-        × AppendsPrefix (K.held sink.old) (K.held sink.new) bytes }
-    ensures worn { (a : Actor) → result.outcome ≡ Outcome.Worn a → (text : List ℕ)
-        × ((command : Command) × Says words.now command × Replays command)
-        × ReadsText (S.left source.old) (S.left source.new) text
-        × IsWorn text result.traces a }
+    ensures prefix { result.outcome ≡ Outcome.WriteFault → WritesPrefix words.now (drawn S.Source source.old source.new) (filled K.Sink sink.old sink.new) result.traces }
+    ensures worn { (a : Actor) → result.outcome ≡ Outcome.Worn a → WearsOut words.now (drawn S.Source source.old source.new) result.traces a }
     ensures wears { (command : Command) → (text : List ℕ) → (traces : List (List Entry)) → (a : Actor) → Says words.now command
         → Replays command → S.left source.old ≡ Some text → length text ≤ limit → IsWorn text traces a
         → ¬ Rose (S.faults source.old) (S.faults source.new)

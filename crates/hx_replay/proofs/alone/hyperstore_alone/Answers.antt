@@ -46,9 +46,7 @@ returns-then-says_audit-clause-untouched g c usage = absurd (ends_at _ _ _ _ _ c
 
 -- ---- other words
 pub returns-else-says_audit-clause-fine : goal.returns-else-says_audit-clause-fine
-returns-else-says_audit-clause-fine g c is =
-    let w = c.command_words.ensures.fine is in
-    inr (record { command = w.0; text = w.1; bytes = w.2; says = w.3; reads = w.4; answer = w.5; written = w.6 })
+returns-else-says_audit-clause-fine g c is = inr (c.command_words.ensures.fine is)
 
 pub returns-else-says_audit-clause-audited : goal.returns-else-says_audit-clause-audited
 returns-else-says_audit-clause-audited g c says = absurd (false≢true (sym c.if-says_audit.false ∙ c.says_audit.ensures.1 says))
@@ -69,9 +67,7 @@ pub returns-else-says_audit-clause-refused : goal.returns-else-says_audit-clause
 returns-else-says_audit-clause-refused g c line reason is = inr (c.command_words.ensures.refused line reason is)
 
 pub returns-else-says_audit-clause-prefix : goal.returns-else-says_audit-clause-prefix
-returns-else-says_audit-clause-prefix g c is =
-    let w = c.command_words.ensures.prefix is in
-    inr (record { command = w.0; text = w.1; bytes = w.2; says = w.3; reads = w.4; answer = w.5; written = w.6 })
+returns-else-says_audit-clause-prefix g c is = inr (c.command_words.ensures.prefix is)
 
 pub returns-else-says_audit-clause-decided : goal.returns-else-says_audit-clause-decided
 returns-else-says_audit-clause-decided g c =
