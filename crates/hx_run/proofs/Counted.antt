@@ -1,34 +1,33 @@
 -- What each driver's actors posted, counted in the merged trace.
-use Rattle.std.proofs.Common.{◌≡◌, ◌≢◌, ℕ, zero, suc, ◌+◌, ◌%◌, ◌<◌, ◌≤◌, ◌⊎◌, ⊎_elim, inl, inr, Bool, true, false, cond, eqb, List, [], ◌∷◌, ◌++◌, map, length, slice_get, Option, Some, None, refl, ap, sym, subst, ◌∙◌, arith}
-use Rattle.std.specs.Prelude.{not, reverse, IsPermutation}
-use Rattle.std.specs.List.{flat_map, filter, AllByRecursion}
-use Rattle.std.proofs.lemmas.Bool.{cond_both, eq-eqb, eqb-true}
+use Rattle.std.proofs.Common.{◌≡◌, ◌≢◌, ℕ, zero, suc, ◌+◌, ◌%◌, ◌<◌, inl, inr, Bool, true, false, cond, List, [], ◌∷◌, map, slice_get, Some, refl, ap, sym, subst, ◌∙◌, arith}
+use Rattle.std.specs.Prelude.{reverse}
+use Rattle.std.specs.List.{AllByRecursion}
+use Rattle.std.proofs.lemmas.Bool.{eq-eqb}
 use Rattle.hx_types.specs.declared.ids.Actor.{Actor}
 use Rattle.hx_types.specs.declared.messages.Post.{Post}
 use Rattle.hx_types.specs.declared.totals.Totals.{Totals}
 use Rattle.hx_types.specs.declared.traces.Entry.{Entry}
 use Rattle.hx_types.specs.declared.traces.Script.{Script}
-use Rattle.hx_types.specs.Words.{same_actor, IsIn}
+use Rattle.hx_types.specs.Words.{IsIn}
 use Rattle.hx_clock.specs.declared.parts.Stamped.{Stamped}
 use Rattle.hx_clock.specs.Parts.{all_of}
 use Rattle.hx_clock.specs.Views.{one, total}
-use Rattle.hx_clock.proofs.Lemmas.{each_in, total-append}
+use Rattle.hx_clock.proofs.Lemmas.{total-append}
 use Rattle.hx_law_threads.specs.Merged.{parts_in, IsMerged}
 use Rattle.hx_law_threads.specs.Own.{IsOwn}
-use Rattle.hx_law_threads.proofs.Lemmas.{in_map, in_reverse, of_filter, of_map, total_same}
+use Rattle.hx_law_threads.proofs.Lemmas.{in_map, in_reverse, total_same}
 use Rattle.hx_mail.specs.declared.views.Mailed.{Mailed}
 use Rattle.hx_fate.specs.declared.fates.FateState.{FateState}
-use Rattle.hx_outbox.specs.Offers.{asked_of, count_of, is_gone, named, raised_by, Offer}
+use Rattle.hx_outbox.specs.Offers.{asked_of, count_of, named, raised_by, Offer}
 use Rattle.hx_outbox.specs.Places.{place_of}
 use Rattle.hx_outbox.proofs.Lemmas.{total-one, offered-long}
 use Rattle.hx_driver.specs.declared.desks.Desk.{Desk}
 use Rattle.hx_driver.specs.Desks.{entries_before, made_by}
 use Rattle.hx_driver.specs.declared.crews.Crew.{Crew}
-use Rattle.hx_driver.specs.Crews.{made_weight, no_totals, weight_in, IsBooked, IsPosted}
+use Rattle.hx_driver.specs.Crews.{made_weight, no_totals, IsBooked}
 use Rattle.hx_law_drivers.specs.Crews.{desks_of, part_of, parts_of}
-use Rattle.hx_cluster.specs.Clusters.{IsNewCrew}
 use Rattle.hx_run.specs.Closed.{HasPosted}
-use Rattle.hx_run.specs.Ran.{is_any, is_asked, is_dealt, posts_by, HasRisen, IsTotalOf}
+use Rattle.hx_run.specs.Ran.{is_any, is_asked, is_dealt, posts_by, HasRisen}
 use Rattle.hx_run.proofs.Leaving.{total-map}
 use Rattle.hx_run.proofs.Onces.{total-perm}
 use Rattle.hx_run.proofs.Zipped.{no-eq, some-same}

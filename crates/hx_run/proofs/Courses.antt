@@ -1,16 +1,13 @@
 -- What the rounds keep: the course so far, and what each driver posted.
-use Rattle.std.proofs.Common.{◌≡◌, ℕ, zero, suc, ◌+◌, ◌<◌, ◌≤◌, ◌⊎◌, ⊎_elim, inl, inr, true, false, Bool, List, [], ◌∷◌, ◌++◌, map, length, slice_get, slice_index_or, slice_set, Option, Some, None, refl, ap, sym, subst, ◌∙◌, arith, append_assoc}
+use Rattle.std.proofs.Common.{◌≡◌, ℕ, zero, suc, ◌+◌, ◌<◌, ◌≤◌, ◌⊎◌, ⊎_elim, inl, inr, true, false, List, [], ◌∷◌, ◌++◌, map, length, slice_get, slice_index_or, slice_set, Option, Some, None, refl, ap, sym, subst, ◌∙◌, arith}
 use Rattle.std.specs.List.{AllByRecursion}
 use Rattle.std.specs.Option.{is_some}
 use Rattle.std.proofs.lemmas.Bool.{true≢false}
-use mathlib.Core.List.{IsPrefix}
 use Rattle.atomic_table.specs.Seated.{TableId}
 use Rattle.hx_types.specs.declared.traces.Script.{Script}
 use Rattle.hx_clock.specs.declared.parts.Stamped.{Stamped}
-use Rattle.hx_clock.specs.Views.{total}
-use Rattle.hx_clock.proofs.Lemmas.{each_in, get-front, total-append}
+use Rattle.hx_clock.proofs.Lemmas.{get-front, total-append}
 use Rattle.hx_law_threads.specs.Cuts.{is_retry}
-use Rattle.hx_mail.specs.declared.views.Mailed.{Mailed}
 use Rattle.hx_mail.specs.Boxes.{Boxed}
 use Rattle.hx_fate.specs.declared.fates.FateState.{FateState}
 use Rattle.hx_outbox.specs.Zipped.{Both}
@@ -20,12 +17,12 @@ use Rattle.hx_driver.specs.declared.faults.Fault.{Fault}
 use Rattle.hx_driver.specs.declared.faults.Fault.TheVariants.{Memory, Worn}
 use Rattle.hx_driver.specs.Desks.{HasNoRetry, HasRetried, IsLater}
 use Rattle.hx_driver.specs.declared.crews.Crew.{Crew}
-use Rattle.hx_driver.specs.Crews.{made_weight, weight_in, HasFault, HasWorn, IsCrew, IsDeskOf, IsPosted}
+use Rattle.hx_driver.specs.Crews.{weight_in, HasFault, HasWorn, IsCrew, IsDeskOf, IsPosted}
 use Rattle.hx_driver.specs.Slices.{HasFaultSince, HaveNoRetry, HaveRetried, IsLaterCrew, MayHaveRetried}
-use Rattle.hx_law_drivers.specs.Courses.{AreRetried, AreSliced, IsCourse, IsCutAt, IsSliced}
+use Rattle.hx_law_drivers.specs.Courses.{AreRetried, AreSliced, IsCourse, IsSliced}
 use Rattle.hx_law_drivers.specs.Rests.{AreAtRest, SomeGoesOn}
 use Rattle.hx_run.specs.Rounds.{Advance, HasMachine, HaveMachines, StayCrews, StaysCrew}
-use Rattle.hx_run.proofs.Zipped.{both-each, both-map, both-put-map, both-refl, both-trans}
+use Rattle.hx_run.proofs.Zipped.{both-each, both-put-map, both-refl, both-trans}
 
 pub later-refl : (d : Desk) → IsLater d d
 later-refl d = record { actor = refl; part = begins-refl d.part.items; ins = begins-refl _ }

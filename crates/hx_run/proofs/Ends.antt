@@ -9,7 +9,7 @@ use Rattle.hx_types.specs.declared.traces.Script.{Script}
 use Rattle.hx_types.specs.Fitting.{IsScript}
 use Rattle.hx_clock.specs.declared.parts.Stamped.{Stamped}
 use Rattle.hx_clock.specs.Seats.{Seated}
-use Rattle.hx_law_threads.specs.Merged.{parts_in, ActorPart, AreWholeParts, HasStampsAsPlaces, IsMerged}
+use Rattle.hx_law_threads.specs.Merged.{parts_in, AreWholeParts, HasStampsAsPlaces, IsMerged}
 use Rattle.hx_mail.specs.Boxes.{Boxed, Ported}
 use Rattle.hx_fate.specs.declared.fates.FateState.{FateState}
 use Rattle.hx_outbox.specs.Places.{AreBoxes}

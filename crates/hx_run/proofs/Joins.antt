@@ -1,10 +1,9 @@
 -- A port that takes in the drivers' ports of its box.
-use Rattle.std.proofs.Common.{◌≡◌, ℕ, zero, suc, ◌+◌, ◌<◌, ◌≤◌, ◌⊎◌, ⊎_elim, inl, inr, List, [], ◌∷◌, ◌++◌, length, slice_index_or, slice_set, Option, Some, refl, ap, sym, subst, ◌∙◌, arith, append_assoc, length-append}
+use Rattle.std.proofs.Common.{◌≡◌, ℕ, zero, suc, ◌+◌, ◌<◌, ◌≤◌, ⊎_elim, inl, inr, List, [], ◌∷◌, ◌++◌, length, slice_index_or, slice_set, Option, Some, refl, ap, sym, subst, ◌∙◌, arith, append_assoc, length-append}
 use Rattle.std.specs.List.{AllByRecursion}
 use mathlib.Core.List.{IsPrefix}
 use Rattle.hx_types.specs.declared.traces.Script.{Script}
 use Rattle.hx_types.specs.Words.{IsIn}
-use Rattle.hx_clock.specs.Views.{one}
 use Rattle.hx_clock.proofs.Lemmas.{one-same, each_all, in_left, in_right}
 use Rattle.hx_law_threads.proofs.Lemmas.{in_append}
 use Rattle.hx_mail.specs.declared.views.BoxNames.{BoxNames}

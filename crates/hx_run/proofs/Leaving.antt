@@ -1,11 +1,11 @@
 -- What is left of drivers whose ports are joined.
-use Rattle.std.proofs.Common.{◌≡◌, ◌≢◌, ℕ, true, false, zero, suc, ◌+◌, ◌<◌, ◌≤◌, ◌⊎◌, ⊎_elim, inl, inr, cond, eqb, List, [], ◌∷◌, ◌++◌, map, length, slice_index_or, Option, Some, refl, ap, sym, subst, ◌∙◌, arith, append-nil, length-append}
+use Rattle.std.proofs.Common.{◌≡◌, ◌≢◌, ℕ, true, false, zero, suc, ◌+◌, ◌<◌, ◌≤◌, ◌⊎◌, ⊎_elim, inl, inr, cond, eqb, List, [], ◌∷◌, ◌++◌, map, length, slice_index_or, Some, refl, ap, sym, subst, ◌∙◌, arith, append-nil, length-append}
 use Rattle.std.specs.Prelude.{IsPermutation, ⊤}
-use Rattle.std.specs.List.{flat_map, AllByRecursion, IsDistinct}
+use Rattle.std.specs.List.{AllByRecursion, IsDistinct}
 use Rattle.std.specs.List.Sorted.{IsNonDecreasingBy}
 use Rattle.std.proofs.lemmas.Bool.{eq-eqb}
 use Rattle.std.proofs.lemmas.Bool.Decides.{eqb_tells}
-use Rattle.std.proofs.lemmas.List.Sorted.{length_permutation, IsPermutation-map, IsPermutation-sym}
+use Rattle.std.proofs.lemmas.List.Sorted.{IsPermutation-map, IsPermutation-sym}
 use Rattle.std.proofs.lemmas.Map.Keys.{IsDistinct-IsPermutation}
 use Rattle.atomic_table.specs.Seated.{TableId}
 use Rattle.hx_types.specs.declared.ids.Actor.{Actor}
@@ -13,18 +13,16 @@ use Rattle.hx_types.specs.declared.ids.Actor.TheVariants.{Coordinator, Server, S
 use Rattle.hx_types.specs.declared.totals.Totals.{Totals}
 use Rattle.hx_types.specs.declared.traces.Script.{Script}
 use Rattle.hx_types.specs.Words.{below, same_actor, IsIn}
-use Rattle.hx_model.specs.Runs.{is_actor}
 use Rattle.hx_clock.specs.Views.{total, Owns}
 use Rattle.hx_clock.proofs.Lemmas.{each_all, each_append, each_in, each_map, in_left, in_right}
-use Rattle.hx_law_threads.specs.Merged.{ActorPart}
-use Rattle.hx_law_threads.proofs.Lemmas.{same_actor_is, same_as_itself, in_map, in_permuted, of_below, of_map}
+use Rattle.hx_law_threads.proofs.Lemmas.{in_map, in_permuted, of_below, of_map}
 use Rattle.hx_mail.specs.declared.views.BoxNames.{BoxNames}
 use Rattle.hx_mail.specs.declared.views.Mailed.{Mailed}
 use Rattle.hx_mail.specs.declared.views.PortLists.{PortLists}
 use Rattle.hx_mail.specs.declared.views.PortView.{PortView}
 use Rattle.hx_mail.specs.declared.views.Sent.{Sent}
 use Rattle.hx_mail.specs.Boxes.{Boxed, Ported}
-use Rattle.hx_mail.specs.Ports.{lists_of, port, CarriesAll, TookAlone}
+use Rattle.hx_mail.specs.Ports.{lists_of, CarriesAll, TookAlone}
 use Rattle.hx_outbox.specs.declared.outboxes.Outbox.{Outbox}
 use Rattle.hx_outbox.specs.Outboxes.{out_weight, IsOutbox}
 use Rattle.hx_outbox.specs.Places.{names_for, place_of, AreBoxes, Exists}
@@ -35,12 +33,12 @@ use Rattle.hx_driver.specs.Desks.{IsDesk}
 use Rattle.hx_driver.specs.Inboxes.{ins_of}
 use Rattle.hx_driver.specs.declared.crews.Crew.{Crew}
 use Rattle.hx_driver.specs.Crews.{IsCrew, IsDeskOf}
-use Rattle.hx_law_drivers.specs.Crews.{desks_of, part_of, parts_of, AreNumbered, HaveAllActors}
+use Rattle.hx_law_drivers.specs.Crews.{desks_of, part_of, AreNumbered, HaveAllActors}
 use Rattle.hx_law_drivers.specs.Joined.{outs_at, put_total, taken_weight, AreInOrder, AreOnce, IsInOrderOf}
 use Rattle.hx_law_drivers.proofs.Lemmas.{outs_owned}
 use Rattle.hx_cluster.specs.Everyone.{actors_of}
 use Rattle.hx_gather.specs.declared.gathering.SeatedPart.{SeatedPart}
-use Rattle.hx_gather.specs.Gathered.{part_by, parts_by, HasNumber, IsSeated}
+use Rattle.hx_gather.specs.Gathered.{parts_by, HasNumber, IsSeated}
 use Rattle.hx_run.specs.declared.joining.Taker.{Taker}
 use Rattle.hx_run.specs.Closed.{seated_of, taker_of, HasPut, IsFirstPort, IsLeft}
 use Rattle.hx_run.specs.Joined.{joined_lists, place_at, AreInPlaces, HaveIndexes, IsJoined, IsKeptTaker, TookInOrder, TookOnce}
@@ -49,7 +47,7 @@ use Rattle.hx_run.proofs.Arranged.{actor-at, actor-exists, filled, is-actor, pla
 use Rattle.hx_run.proofs.Courses.{below-or-not}
 use Rattle.hx_run.proofs.Joins.{joined-alone, joined-has, list-of, list-took, some-at}
 use Rattle.hx_run.proofs.Onces.{total-perm}
-use Rattle.hx_run.proofs.Zipped.{each-map, map-each, no-eq}
+use Rattle.hx_run.proofs.Zipped.{map-each, no-eq}
 
 pub map-map : {A B C : Type 0} (g : B → C) (f : A → B) (xs : List A) → map g (map f xs) ≡ map (λ x. g (f x)) xs
 map-map g f [] = refl

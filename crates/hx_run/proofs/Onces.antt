@@ -1,6 +1,6 @@
 -- What was taken weighs at most what was put.
-use Rattle.std.proofs.Common.{◌≡◌, ℕ, zero, suc, ◌+◌, ◌<◌, ◌≤◌, ◌⊎◌, ⊎_elim, List, [], ◌∷◌, ◌++◌, map, take, length, Option, Some, refl, ap, sym, subst, ◌∙◌, arith, append_assoc, append-nil}
-use Rattle.std.specs.Prelude.{flat_map, IsPermutation}
+use Rattle.std.proofs.Common.{◌≡◌, ℕ, zero, suc, ◌+◌, ◌<◌, ◌≤◌, ⊎_elim, List, [], ◌∷◌, ◌++◌, map, take, length, Option, Some, refl, ap, sym, subst, ◌∙◌, arith, append_assoc, append-nil}
+use Rattle.std.specs.Prelude.{IsPermutation}
 use Rattle.std.specs.List.{sum_by, AllByRecursion}
 use Rattle.std.proofs.lemmas.List.Sums.{sum_by-cons}
 use Rattle.std.proofs.lemmas.List.Sorted.{sum_by-IsPermutation}
@@ -15,7 +15,7 @@ use Rattle.hx_mail.specs.declared.views.Sent.{Sent}
 use Rattle.hx_mail.specs.Boxes.{Boxed, Ported}
 use Rattle.hx_mail.specs.Ports.{all_put, all_taken, lists_of, port, sent, IsOnce}
 use Rattle.hx_outbox.specs.declared.outboxes.Outbox.{Outbox}
-use Rattle.hx_outbox.specs.Outboxes.{out_weight, outs_of}
+use Rattle.hx_outbox.specs.Outboxes.{out_weight}
 use Rattle.hx_outbox.specs.Zipped.{Both}
 use Rattle.hx_run.specs.declared.joining.Taker.{Taker}
 use Rattle.hx_driver.specs.Inboxes.{ins_of}

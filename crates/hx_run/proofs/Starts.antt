@@ -1,5 +1,5 @@
 -- From new drivers to what is left of them.
-use Rattle.std.proofs.Common.{◌≡◌, ℕ, zero, suc, ◌+◌, ◌%◌, ◌<◌, ◌≤◌, inl, inr, ⊎_elim, eqb, List, [], ◌∷◌, ◌++◌, map, take, drop, length, slice_get, Option, Some, None, refl, ap, sym, subst, ◌∙◌, arith}
+use Rattle.std.proofs.Common.{◌≡◌, ℕ, zero, suc, ◌+◌, ◌%◌, inl, inr, ⊎_elim, eqb, List, [], ◌∷◌, ◌++◌, map, take, length, slice_get, Option, Some, None, refl, ap, sym, subst, ◌∙◌, arith}
 use Rattle.std.specs.List.{AllByRecursion, IsDistinct}
 use Rattle.std.proofs.lemmas.Bool.{eqb-true}
 use Rattle.std.proofs.Math.Seq.{take-append_seam}
@@ -8,13 +8,12 @@ use Rattle.hx_types.specs.declared.ids.Actor.{Actor}
 use Rattle.hx_types.specs.declared.traces.Script.{Script}
 use Rattle.hx_types.specs.Fitting.{IsScript}
 use Rattle.hx_types.specs.Words.{same_actor, IsIn}
-use Rattle.hx_clock.proofs.Lemmas.{each_all, each_in, each_map, in_left, in_right}
+use Rattle.hx_clock.proofs.Lemmas.{each_all, each_in, each_map}
 use Rattle.hx_law_threads.proofs.Lemmas.{in_append, in_map, map_append, of_filter}
 use Rattle.hx_mail.specs.Boxes.{Boxed}
 use Rattle.hx_fate.specs.declared.fates.FateState.{FateState}
 use Rattle.hx_outbox.specs.Places.{place_of, AreBoxes}
 use Rattle.hx_outbox.specs.Zipped.{Both}
-use Rattle.hx_outbox.proofs.Lemmas.{map-length}
 use Rattle.hx_driver.specs.declared.desks.Desk.{Desk}
 use Rattle.hx_driver.specs.declared.faults.Fault.{Fault}
 use Rattle.hx_driver.specs.Desks.{IsLater}

@@ -1,13 +1,11 @@
 -- What a trace of drivers that ran to their end tells.
-use Rattle.std.proofs.Common.{◌≡◌, ◌≢◌, ℕ, zero, suc, ◌+◌, ◌%◌, ◌<◌, ◌≤◌, ◌⊎◌, ⊎_elim, inl, inr, Bool, true, false, cond, List, [], ◌∷◌, ◌++◌, map, length, slice_get, Option, Some, None, refl, ap, sym, subst, ◌∙◌, arith, append_assoc, append-nil, length-append}
-use Rattle.std.specs.Prelude.{reverse, IsSome}
+use Rattle.std.proofs.Common.{◌≡◌, ◌≢◌, ℕ, zero, suc, ◌+◌, ◌≤◌, ⊎_elim, inl, inr, Bool, true, false, cond, List, [], ◌∷◌, ◌++◌, map, length, slice_get, Option, Some, None, refl, ap, sym, subst, ◌∙◌, arith, append_assoc, append-nil, length-append}
+use Rattle.std.specs.Prelude.{reverse}
 use Rattle.std.specs.List.{flat_map, filter, AllByRecursion}
-use Rattle.std.proofs.lemmas.Bool.{cond_both, true≢false}
-use Rattle.std.proofs.lemmas.List.{reverse-append}
+use Rattle.std.proofs.lemmas.Bool.{true≢false}
 use Rattle.std.proofs.lemmas.List.Sorted.{IsPermutation-sym}
 use mathlib.Core.List.{IsPrefix}
 use Rattle.atomic_table.specs.Seated.{TableId}
-use Rattle.hx_types.specs.declared.calls.Caller.{Caller}
 use Rattle.hx_types.specs.declared.ids.Actor.{Actor}
 use Rattle.hx_types.specs.declared.limits.TheConstants.{MOST_ENTRIES}
 use Rattle.hx_types.specs.declared.totals.Totals.{Totals}
@@ -15,9 +13,7 @@ use Rattle.hx_types.specs.declared.traces.Entry.{Entry}
 use Rattle.hx_types.specs.declared.traces.Input.{Input}
 use Rattle.hx_types.specs.declared.traces.Script.{Script}
 use Rattle.hx_types.specs.declared.traces.Input.TheVariants.{Tick, Halt, Deliver}
-use Rattle.hx_types.specs.Fitting.{call_of}
 use Rattle.hx_types.specs.Words.{first_some, same_actor, IsIn}
-use Rattle.hx_model.specs.Histories.{note_of_end}
 use Rattle.hx_model.specs.Runs.{entry_at, is_actor, IsRun}
 use Rattle.hx_model.specs.Schedule.{entries_of}
 use Rattle.hx_clock.specs.declared.parts.Stamped.{Stamped}
@@ -26,22 +22,20 @@ use Rattle.hx_clock.specs.Seats.{Seated}
 use Rattle.hx_clock.specs.Views.{total}
 use Rattle.hx_clock.proofs.Lemmas.{each_all, each_in, each_map}
 use Rattle.hx_law_threads.specs.Own.{own_entries, past_of, IsOwn}
-use Rattle.hx_law_threads.specs.Merged.{parts_in, ActorPart, AreOwnParts, AreWholeParts, HasOwnParts, IsMerged}
+use Rattle.hx_law_threads.specs.Merged.{parts_in, ActorPart, AreOwnParts, AreWholeParts, IsMerged}
 use Rattle.hx_law_threads.specs.Laws.{IsRunOfParts}
 use Rattle.hx_law_threads.specs.Pacing.{IsPaced, IsPacedToEnd}
-use Rattle.hx_law_threads.proofs.Lemmas.{same_actor_is, in_append, in_permuted, in_map, in_reverse, map_reverse, of_map, reverse_cons, reverse_snoc, merged_run}
+use Rattle.hx_law_threads.proofs.Lemmas.{same_actor_is, in_append, in_permuted, in_map, in_reverse, of_map, reverse_cons, reverse_snoc, merged_run}
 use Rattle.hx_law_threads.specs.Feeding.{IsFed, IsFedBy}
-use Rattle.hx_mail.specs.declared.views.Mailed.{Mailed}
 use Rattle.hx_mail.specs.declared.views.Sent.{Sent}
 use Rattle.hx_mail.specs.Boxes.{Boxed, Ported}
 use Rattle.hx_fate.specs.declared.fates.FateState.{FateState}
-use Rattle.hx_outbox.specs.Places.{place_of}
 use Rattle.hx_outbox.specs.Zipped.{Both}
-use Rattle.hx_outbox.proofs.Lemmas.{map-length, both-long}
+use Rattle.hx_outbox.proofs.Lemmas.{map-length}
 use Rattle.hx_driver.specs.declared.desks.Desk.{Desk}
 use Rattle.hx_driver.specs.declared.faults.Fault.{Fault}
 use Rattle.hx_driver.specs.declared.faults.Fault.TheVariants.{Memory, Worn}
-use Rattle.hx_driver.specs.Desks.{entries_before, told, IsDesk}
+use Rattle.hx_driver.specs.Desks.{entries_before, told}
 use Rattle.hx_driver.specs.Told.{told_by}
 use Rattle.hx_driver.specs.Inboxes.{ins_of}
 use Rattle.hx_driver.specs.declared.crews.Crew.{Crew}
@@ -52,9 +46,9 @@ use Rattle.hx_law_drivers.specs.Laws.{ArePostsBy, EndedRunsEndCalls, HaveRun, Is
 use Rattle.hx_law_drivers.proofs.Lemmas.{one_desk, actors_now}
 use Rattle.hx_cluster.specs.Everyone.{actors_of}
 use Rattle.hx_gather.specs.Gathered.{IsDrawn}
-use Rattle.hx_run.specs.Closed.{fault_of, worn_in, AreClosed, HasPosted, IsFirstPort, IsLeft}
-use Rattle.hx_run.specs.Ran.{delivered_to, doubled_in, is_any, is_asked, is_dealt, is_halt, lost_in, lowest_of, posts_by, taken_under, ArePortsOfActors, AreTotalsOf, HasEnd, HasNoHalts, HasOneMore, HasRisen, HaveCallsEnded, HaveMetWorn, IsPortOfActor, IsRan, IsTotalOf, IsWorn}
-use Rattle.hx_run.specs.Rounds.{first_fault, AreOver}
+use Rattle.hx_run.specs.Closed.{fault_of, worn_in, AreClosed, HasPosted, IsFirstPort}
+use Rattle.hx_run.specs.Ran.{delivered_to, doubled_in, is_any, is_asked, is_dealt, is_halt, lost_in, lowest_of, posts_by, taken_under, ArePortsOfActors, AreTotalsOf, HasEnd, HasNoHalts, HasOneMore, HasRisen, HaveMetWorn, IsPortOfActor, IsRan, IsTotalOf, IsWorn}
+use Rattle.hx_run.specs.Rounds.{first_fault}
 use Rattle.hx_run.proofs.Counted.{booked-posts, part-actor, posted-risen, posts-of-crew, worth, AreDealtFrom}
 use Rattle.hx_run.proofs.Leaving.{all-desks, total-map, IsSome as IsADesk}
 use Rattle.hx_run.proofs.Putting.{dealt-at, entry-stays, puts-for}

@@ -1,21 +1,17 @@
 ghost use Rattle.std.specs.Prelude.{ℕ, List, ◌≡◌, ◌≤◌, ◌++◌, ◌∷◌, [], map, IfOk, OnOk};
-ghost use Rattle.std.specs.List.{AllByRecursion};
-ghost use Rattle.atomic_table.specs.Seated.{TableId};
-ghost use Rattle.hx_types.specs.Fitting.{IsScript};
-ghost use Rattle.hx_outbox.specs.Places.{AreBoxes};
-ghost use Rattle.hx_driver.specs.Crews.{IsCrew};
 ghost use Rattle.hx_law_drivers.specs.Crews.{desks_of, AreNumbered, HaveAllActors};
 ghost use Rattle.hx_law_drivers.specs.Joined.{AreInOrder, AreOnce};
 ghost use Rattle.hx_run.specs.Closed.{seated_of, taker_of, IsLeft};
+ghost use Rattle.hx_run.specs.Floors.{AreCrewsOn};
 
 use crate::joining::{Taker, join_all, sort_by_place};
-use hx_clock::{Clock, Part};
+use hx_clock::Part;
 use hx_driver::{Crew, Desk, Driver};
 use hx_fate::Fate;
 use hx_gather::SeatedPart;
-use hx_mail::{Mailbox, Port};
-use hx_outbox::Outbox;
-use hx_types::{Memory, Script, Totals};
+use hx_mail::Port;
+use hx_outbox::{Floor, Outbox};
+use hx_types::{Memory, Totals};
 use std::alloc::Global;
 use std::sync::Wait;
 
@@ -139,26 +135,15 @@ fn ports_of(alloc: Global, takers: Vec<Taker>) -> Result<Vec<Port>, Memory>
 }
 
 /// Takes drivers apart and joins all ports of each box into its first one.
-pub fn close<R: Wait>(
-    rt: &R,
-    alloc: Global,
-    script: &Script,
-    clock: &Clock,
-    boxes: &[Mailbox<'_>],
-    drivers: Vec<Driver>,
-) -> Result<Left, Memory>
-    requires script { IsScript script.now }
-    requires boxes { AreBoxes script.now clock.now boxes.now }
-    requires crews { (w : ℕ) × (1 ≤ w) × AreNumbered w (map (λ d. d.crew) drivers.items) × AllByRecursion (IsCrew script.now clock.now boxes.now w) (map (λ d. d.crew) drivers.items) }
-    requires actors { HaveAllActors script.now (map (λ d. d.crew) drivers.items) }
-    ensures left { IfOk result (λ left. IsLeft script.now clock.now (map (λ d. d.crew) drivers.items) left.actors.items left.totals.items left.ports.items) }
+pub fn close<R: Wait, G>(floor: &Floor<'_, R, G>, drivers: Vec<Driver>) -> Result<Left, Memory>
+    requires crews { (w : ℕ) × (1 ≤ w) × AreNumbered w (map (λ d. d.crew) drivers.items) × AreCrewsOn floor.now w (map (λ d. d.crew) drivers.items) }
+    requires actors { HaveAllActors floor.now.script.now (map (λ d. d.crew) drivers.items) }
+    ensures left { IfOk result (λ left. IsLeft floor.now.script.now floor.now.clock.now (map (λ d. d.crew) drivers.items) left.actors.items left.totals.items left.ports.items) }
     ensures fates { IfOk result (λ left. left.fates.items ≡ map (λ d. d.fate) drivers.items) }
-    ensures order { IfOk result (λ left. AreInOrder script.now (map (λ d. d.crew) drivers.items)) }
+    ensures order { IfOk result (λ left. AreInOrder floor.now.script.now (map (λ d. d.crew) drivers.items)) }
     ensures once { IfOk result (λ left. AreOnce (map (λ d. d.crew) drivers.items)) }
 {
-    // The contract alone reads the clock.
-    let _ = clock;
-    let apart = take_apart(alloc, drivers)?;
+    let apart = take_apart(floor.alloc, drivers)?;
     let Apart {
         actors,
         mut takers,
@@ -166,9 +151,9 @@ pub fn close<R: Wait>(
         totals,
         fates,
     } = apart;
-    sort_by_place(script, &mut takers)?;
-    join_all(rt, script, boxes, &mut takers, outs);
-    let ports = ports_of(alloc, takers)?;
+    sort_by_place(floor.script, &mut takers)?;
+    join_all(floor.rt, floor.script, floor.boxes, &mut takers, outs);
+    let ports = ports_of(floor.alloc, takers)?;
     Ok(Left {
         actors,
         totals,

@@ -16,6 +16,7 @@ use hx_fate::Fate;
 use hx_gather::{Gathered, gather};
 use hx_law_drivers::{puts_are_posts, runs_of_drivers_are_paced, traces_go_on};
 use hx_mail::Port;
+use hx_outbox::Floor;
 use hx_trace::Trace;
 use hx_types::{Actor, Memory, Script, Totals};
 use std::alloc::Global;
@@ -92,7 +93,15 @@ fn run_drivers<R: Threads + Wait + Sync, G: Gate + Sync>(
     let mut drivers = deal(alloc, script, clock, held, seats, ports, workers, fates)?;
     let fault = run_rounds(rt, alloc, script, clock, held, gate, drivers.as_mut_slice());
     let met_worn = met_worn(alloc, drivers.as_slice())?;
-    let left = close(rt, alloc, script, clock, held, drivers)?;
+    let floor = Floor {
+        rt,
+        alloc,
+        script,
+        clock,
+        boxes: held,
+        gate,
+    };
+    let left = close(&floor, drivers)?;
     Ok(Driven {
         left,
         fault,

@@ -1,4 +1,4 @@
-use Rattle.std.proofs.Common.{◌≡◌, ◌++◌, ◌∷◌, [], map, ap, ◌∙◌}
+use Rattle.std.proofs.Common.{◌++◌, ◌∷◌, [], map, ap, ◌∙◌}
 use Rattle.hx_driver.specs.declared.crews.Crew.{Crew}
 use Rattle.hx_run.specs.Closed.{seated_of, taker_of}
 use Rattle.hx_run.proofs.Apart.{more-desks, more-crews, more-items}

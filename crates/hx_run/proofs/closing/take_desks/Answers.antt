@@ -1,4 +1,4 @@
-use Rattle.std.proofs.Common.{◌≡◌, ◌++◌, ◌∷◌, [], ap, sym, ◌∙◌, append_assoc}
+use Rattle.std.proofs.Common.{◌++◌, ◌∷◌, [], ap, ◌∙◌}
 use Rattle.hx_run.specs.Closed.{seated_of, taker_of}
 use Rattle.hx_run.proofs.Apart.{one-more}
 use Rattle.hx_run.proofs.closing.take_desks.Goals as goal

@@ -1,7 +1,6 @@
-use Rattle.std.proofs.Common.{arith, ◌≡◌, ◌+◌, ◌≤◌, ◌∙◌, refl, subst, [], ◌∷◌, length, append-nil}
-use Rattle.std.specs.List.{AllByRecursion}
+use Rattle.std.proofs.Common.{arith, ◌≡◌, ◌∙◌, [], ◌∷◌, length, append-nil}
 use Rattle.hx_outbox.proofs.Lemmas.{both-long}
-use Rattle.hx_run.specs.Joined.{IsKeptTaker, IsJoined}
+use Rattle.hx_run.specs.Joined.{IsKeptTaker}
 use Rattle.hx_run.proofs.Zipped.{both-refl, both-trans}
 use Rattle.hx_run.proofs.Joins.{kept-refl, kept-trans, joined-all, places-kept, order-each, seam}
 use Rattle.hx_run.proofs.Onces.{took-once}

@@ -1,5 +1,4 @@
-use Rattle.std.proofs.Common.{arith, ◌≡◌, ◌+◌, ◌<◌, ◌∙◌, sym, ap, subst, refl, length, List, slice_set}
-use Rattle.hx_outbox.proofs.Lemmas.{both-long}
+use Rattle.std.proofs.Common.{arith, ◌≡◌, ◌∙◌, sym, ap, subst, length, slice_set}
 use Rattle.hx_law_drivers.specs.Joined.{outs_at}
 use Rattle.hx_run.specs.Joined.{place_at, IsKeptTaker, AreJoinedFrom}
 use Rattle.hx_run.proofs.Zipped.{both-put}

@@ -1,4 +1,4 @@
-use Rattle.std.proofs.Common.{arith, ◌≡◌, ◌+◌, ◌≤◌, ◌∙◌, refl, [], length, append-nil}
+use Rattle.std.proofs.Common.{arith, ◌≡◌, ◌≤◌, ◌∙◌, refl, [], length, append-nil}
 use Rattle.hx_outbox.specs.Outboxes.{IsOutPort}
 use Rattle.hx_outbox.proofs.Lemmas.{both-long}
 use Rattle.hx_run.specs.Joined.{IsKeptTaker}

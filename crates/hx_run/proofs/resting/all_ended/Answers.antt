@@ -1,4 +1,4 @@
-use Rattle.std.proofs.Common.{◌≡◌, ◌≤◌, length, arith, map, subst, sym, append-nil}
+use Rattle.std.proofs.Common.{◌≤◌, length, arith, map, subst, sym, append-nil}
 use Rattle.std.specs.List.{AllByRecursion}
 use Rattle.hx_types.specs.Words.{IsIn}
 use Rattle.hx_driver.specs.declared.crews.Crew.{Crew}

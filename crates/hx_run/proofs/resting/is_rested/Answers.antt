@@ -1,4 +1,4 @@
-use Rattle.std.proofs.Common.{arith, sym, ◌≡◌, ◌∙◌, length}
+use Rattle.std.proofs.Common.{arith, sym, ◌∙◌}
 use Rattle.hx_driver.specs.Desks.{entries_before}
 use Rattle.hx_law_drivers.specs.Rests.{HasHeard}
 use Rattle.hx_run.proofs.Zipped.{each-map, map-each, nil}

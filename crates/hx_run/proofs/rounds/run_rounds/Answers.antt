@@ -1,4 +1,4 @@
-use Rattle.std.proofs.Common.{List, [], map}
+use Rattle.std.proofs.Common.{[], map}
 use Rattle.hx_run.proofs.Zipped.{both-refl, both-trans}
 use Rattle.hx_run.proofs.Courses.{are-sliced-refl, course-on, course-same, posted-refl, posted-trans, stay-each, stay-refl, stay-trans}
 use Rattle.hx_run.proofs.rounds.run_rounds.Goals as goal

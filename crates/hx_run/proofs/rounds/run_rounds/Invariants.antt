@@ -9,9 +9,9 @@ use Rattle.hx_run.proofs.rounds.run_rounds.Given as goal
 
 abbrev pub invariant-loop-round : goal.invariant-loop-round
 invariant-loop-round g l =
-    StayCrews l.script l.clock l.boxes (map (λ d. d.crew) l.initial.drivers) (map (λ d. d.crew) l.drivers)
-    × ((w : ℕ) → AllByRecursion (IsCrew l.script l.clock l.boxes w) (map (λ d. d.crew) l.initial.drivers)
-    → (cuts : List (List Crew)) × IsCourse l.script l.clock l.boxes w (map (λ d. d.crew) l.initial.drivers) cuts (map (λ d. d.crew) l.drivers))
+    StayCrews l.fn.script l.fn.clock l.fn.boxes (map (λ d. d.crew) l.initial.drivers) (map (λ d. d.crew) l.drivers)
+    × ((w : ℕ) → AllByRecursion (IsCrew l.fn.script l.fn.clock l.fn.boxes w) (map (λ d. d.crew) l.initial.drivers)
+    → (cuts : List (List Crew)) × IsCourse l.fn.script l.fn.clock l.fn.boxes w (map (λ d. d.crew) l.initial.drivers) cuts (map (λ d. d.crew) l.drivers))
     × Both (λ d d'. IsPosted d.crew d'.crew
     ((goal.Fate-dyn g (d.fate.vtable, d.fate.value)).state d.fate.value)
     ((goal.Fate-dyn g (d'.fate.vtable, d'.fate.value)).state d'.fate.value)) l.initial.drivers l.drivers

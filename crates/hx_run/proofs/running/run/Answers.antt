@@ -1,6 +1,5 @@
-use Rattle.std.proofs.Common.{◌≡◌, ◌∙◌, ℕ, ◌+◌, List, length, ap, sym, subst, arith, slice_get, Some}
+use Rattle.std.proofs.Common.{◌≡◌, ◌∙◌, ◌+◌, length, ap, sym, subst, arith, Some}
 use Rattle.hx_cluster.specs.Clusters.{AreNewSeats}
-use Rattle.hx_cluster.specs.Everyone.{actors_of}
 use Rattle.hx_run.proofs.Leaving.{how-many}
 use Rattle.hx_run.proofs.Ends.{left-counts, lowest-of, met-of, ran-of, risen-of}
 use Rattle.hx_run.proofs.running.run.Goals as goal
