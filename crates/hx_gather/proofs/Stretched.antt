@@ -3,7 +3,7 @@ use Rattle.std.proofs.Common.{cond, ◌≡◌, ℕ, zero, suc, ◌+◌, ◌<◌,
 use Rattle.std.specs.Prelude.{nat_lt, ⊤}
 use Rattle.std.specs.List.{AllByRecursion}
 use Rattle.std.proofs.lemmas.Bool.{cond_both, eq-eqb, eqb-true}
-use Rattle.std.proofs.lemmas.List.{append_assoc, length-append}
+use Rattle.std.proofs.lemmas.List.{append_assoc, drop_more, length-append}
 use Rattle.hx_clock.specs.declared.parts.Stamped.{Stamped}
 use Rattle.hx_clock.specs.Parts.{all_of}
 use Rattle.hx_trace.specs.declared.turns.Turn.{Turn}
@@ -42,6 +42,11 @@ some_or_none false k m le = omega arith
 pub following_bound : (n : ℕ) (xs : List Stamped) → following n xs ≤ length xs
 following_bound n [] = omega arith
 following_bound n (x ∷ xs) = let h = some_or_none (eqb x.stamp.0 n) (following (n + 1) xs) (length xs) (following_bound (n + 1) xs) in omega (arith, h)
+
+pub following_step : (n : ℕ) (xs : List Stamped) (k : ℕ) (x : Stamped) → k < length xs → x ≡ get_or xs k x
+    → following (n + k) (drop k xs) ≡ cond (eqb x.stamp.0 (n + k)) (suc (following (n + k + 1) (drop (k + 1) xs))) 0
+following_step n xs k x lt is =
+    ap (following (n + k)) (drop_more xs k x lt) ∙ ap (λ (y : Stamped). cond (eqb y.stamp.0 (n + k)) (suc (following (n + k + 1) (drop (k + 1) xs))) 0) (sym is)
 
 -- ---- items with their numbers
 pub numbered_more : {A B : Type 0} (f : ℕ → A → B) (n : ℕ) (xs : List A) (k : ℕ) (d : A) → k < length xs → numbered f n (take (suc k) xs) ≡ numbered f n (take k xs) ++ f (n + k) (get_or xs k d) ∷ []

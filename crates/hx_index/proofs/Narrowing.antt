@@ -1,5 +1,5 @@
 -- The shortest run of the terms.
-use Rattle.std.proofs.Common.{◌≡◌, ℕ, zero, suc, ◌+◌, ◌-◌, ◌<◌, Bool, true, false, cond, List, [], ◌∷◌, length, drop, get_or, min, Option, refl, ap, sym, ◌∙◌, arith, ltb}
+use Rattle.std.proofs.Common.{◌≡◌, ℕ, zero, suc, ◌+◌, ◌-◌, ◌<◌, Bool, true, false, cond, List, [], ◌∷◌, length, take, drop, slice_range, get_or, min, Option, refl, ap, sym, ◌∙◌, arith, ltb}
 use Rattle.std.specs.List.{filter}
 use Rattle.std.proofs.lemmas.Bool.{and_parts, cond_both, cond-false, cond-true, ltb-true, false≢true, lt-ltb}
 use Rattle.hx_model.specs.Types.{Row, Term}
@@ -58,3 +58,19 @@ module _ (index : IndexState) (rows : ℕ → Option Row) (terms : List Term) (k
       ends = run.ends;
       all = filter-within (matches_at rows terms) (meets_at rows term) (matches-meets rows terms k term l is) (order_of index (attribute_of term)) ∙ ap (filter (matches_at rows terms)) (run-is rows term (order_of index (attribute_of term)) first end run);
     }
+
+-- all of an order has all that match
+pub whole-span : (index : IndexState) (rows : ℕ → Option Row) (terms : List Term) (attribute : ℕ) → attribute < length index.orders → IsSpan index rows terms attribute 0 (length (order_of index attribute))
+whole-span index rows terms attribute l = record {
+  attribute_is = l;
+  within = omega arith;
+  ends = omega arith;
+  all = ap (filter (matches_at rows terms)) (sym (whole (order_of index attribute)));
+}
+  where
+    whole : (xs : List ℕ) → slice_range xs 0 (length xs) ≡ xs
+    whole xs = ap (λ n. take n xs) (let e : length xs - 0 ≡ length xs = omega arith in e) ∙ all xs
+      where
+        all : (ys : List ℕ) → take (length ys) ys ≡ ys
+        all [] = refl
+        all (y ∷ ys) = ap (λ (zs : List ℕ). y ∷ zs) (all ys)

@@ -4,7 +4,7 @@ use Rattle.std.specs.Prelude.{⊤}
 use Rattle.std.specs.Option.{option_map}
 use Rattle.std.proofs.lemmas.Bool.{ltb-true}
 use Rattle.hx_lex.specs.Numbers.{digits_len, value}
-use Rattle.hx_report_lines.specs.Readers.{◌>>=◌, Reader, check, give, number, on_some, short_number}
+use Rattle.hx_report_lines.specs.Readers.{◌>>=◌, Reader, check, found, give, number, on_some, short_number}
 use Rattle.hx_report_lines.specs.Values.{Is32, Is64}
 
 -- what was bound to what
@@ -45,6 +45,9 @@ tells_any p = record { at = λ bs x e. tt }
 
 pub tells_check : (b : Bool) → Tells (check b) (λ u. b ≡ true)
 tells_check b = record { at = λ bs x e. (where_so b (Some (tt, bs)) x e).0 }
+
+pub tells_found : {A : Type 0} (o : Option A) → Tells (found o) (λ a. o ≡ Some a)
+tells_found {A} o = record { at = λ bs x e. let b = bound o (λ y. Some (y, bs)) x e in subst (λ (y : A × List ℕ). o ≡ Some y.0) (some_is (b.0, bs) x b.2) b.1 }
 
 pub tells_number : Tells number Is64
 tells_number = record {

@@ -1,10 +1,10 @@
 -- What the entries that a drain makes one by one come to.
-use Rattle.std.proofs.Common.{◌≡◌, ℕ, suc, ◌+◌, Bool, true, List, ◌∷◌, length, Option, Some, None, sym, ap, ◌∙◌, subst, arith}
+use Rattle.std.proofs.Common.{◌≡◌, ℕ, suc, ◌+◌, Bool, true, false, List, ◌∷◌, length, Option, Some, None, refl, sym, ap, ◌∙◌, subst, arith}
 use Rattle.std.specs.Prelude.{is_some, reverse}
 use Rattle.std.proofs.lemmas.List.{length-reverse}
 use Rattle.hx_model.specs.Types.{Entry, Script}
 use Rattle.hx_model.specs.Runs.{IsRun}
-use Rattle.hx_model.specs.Schedule.{next_entry, with_entry}
+use Rattle.hx_model.specs.Schedule.{IsQuiet, next_entry, with_entry}
 use Rattle.hx_law_growing.specs.Serving.{IsServed, SchedulesServe}
 use Rattle.hx_world.specs.Worlds.{Advances, WorldState}
 use Rattle.hx_service.specs.Services.{IsDrained}
@@ -31,6 +31,14 @@ longer script mid new made advances is = by (next_entry script mid) advances.tra
     by : (o : Option Entry) → new ≡ with_entry mid o → true ≡ is_some o → length new ≡ length mid + 1
     by None e t = absurd (cc)
     by (Some x) e t = ap length e ∙ (let q : length (x ∷ mid) ≡ length mid + 1 = omega arith in q)
+
+-- where none was made there is none
+pub quiet-now : (script : Script) (mid new : List Entry) (made : Bool) → Advances script mid new made → made ≡ false → IsQuiet script new × (new ≡ mid)
+quiet-now script mid new made advances is = by (next_entry script mid) refl advances.trace (sym is ∙ advances.told)
+  where
+    by : (o : Option Entry) → next_entry script mid ≡ o → new ≡ with_entry mid o → false ≡ is_some o → IsQuiet script new × (new ≡ mid)
+    by None f e t = (ap (next_entry script) e ∙ f, e)
+    by (Some x) f e t = absurd (cc)
 
 -- what a loop of such entries keeps
 pub kept : (old mid new : WorldState) (n : ℕ) (made : Bool) → mid.script ≡ old.script → IsDrained old.script (reverse old.trace) (reverse mid.trace)

@@ -1,13 +1,14 @@
 -- Before the space of the first delivery none has one.
-use Rattle.std.proofs.Common.{◌≡◌, ℕ, zero, suc, ◌+◌, ◌<◌, ◌≤◌, Bool, true, false, List, [], ◌∷◌, length, drop, min, refl, sym, ap, ◌∙◌, arith, ltb}
+use Rattle.std.proofs.Common.{◌≡◌, ℕ, zero, suc, ◌+◌, ◌<◌, ◌≤◌, Bool, true, false, List, [], ◌∷◌, length, drop, min, refl, sym, ap, ◌∙◌, subst, arith, ltb}
 use Rattle.std.proofs.lemmas.Bool.{ltb-false, ltb-true}
 use Rattle.std.specs.Prelude.{slice_get, slice_set, Option, Some, None}
 use Rattle.hx_types.specs.Words.{when_some}
 use Rattle.hx_model.specs.Schedule.{Next}
 use Rattle.hx_world.specs.Worlds.{WorldState}
 use Rattle.hx_world.specs.Nexts.{delivery_in}
+use Rattle.hx_bundle.specs.declared.bundles.Bundle.{Bundle}
 use Rattle.hx_spaces.specs.Courses.{Turn, first_delivery_from, run_with, runs_with}
-use Rattle.hx_spaces.specs.Keeping.{RestBefore}
+use Rattle.hx_spaces.specs.Keeping.{IsKeptFrom, RestBefore, course_of}
 use Rattle.hx_spaces.specs.Walks.{DeliversIn, delivery_at}
 use Rattle.hx_spaces.proofs.Deliveries.{walked}
 use Rattle.hx_spaces.proofs.Places.{drop-none, get-set-other, none-some, some-same, suc-is}
@@ -84,6 +85,12 @@ rest_delivered old new space (next, first, made) k less =
 -- where there was none
 pub rest_quiet : (old new : List WorldState) (first : ℕ) → DeliversIn old new None → RestBefore first new
 rest_quiet old new first (none, same) k less = ap (λ l. delivery_at l k) same ∙ none-at-all 0 old none k
+
+-- where a call failed
+pub rest_failed : (bundle : Bundle) (worlds new : List WorldState) (order held begun : List ℕ) (first : ℕ) → IsKeptFrom (course_of bundle worlds order) begun first → new ≡ worlds → held ≡ order
+    → IsKeptFrom (course_of bundle new held) begun first
+rest_failed bundle worlds new order held begun first i w h =
+    subst (λ (l : List WorldState). IsKeptFrom (course_of bundle l held) begun first) (sym w) (subst (λ (l : List ℕ). IsKeptFrom (course_of bundle worlds l) begun first) (sym h) i)
 
 -- at the start
 pub rest_at_start : (runs : List WorldState) (first : ℕ) → first ≡ 0 → RestBefore first runs

@@ -129,6 +129,10 @@ seated bundle worlds order i = record {
   sessions = all-from (HasSessions (length bundle.turns)) worlds (λ k w at. sessions-at (course_of bundle worlds order) i k (newest w) (get-map newest worlds k w at));
 }
 
+-- a world stands for each space
+pub worlds_count : (bundle : Bundle) (worlds : List WorldState) (order : List ℕ) → IsCourse (course_of bundle worlds order) → length worlds ≡ length bundle.spaces
+worlds_count bundle worlds order i = sym (length-map newest worlds) ∙ runs-count (course_of bundle worlds order) i
+
 -- a run is that of a world
 pub world-of : (worlds : List WorldState) (k : ℕ) (r : WorldState) → slice_get (map newest worlds) k ≡ Some r → (w : WorldState) × (slice_get worlds k ≡ Some w) × (r ≡ newest w)
 world-of worlds k r h = get-mapped newest worlds k r h

@@ -1,5 +1,5 @@
 -- Drains: the entries that the schedule makes one after another.
-use Rattle.std.proofs.Common.{◌≡◌, ℕ, zero, suc, ◌+◌, ◌-◌, ◌≤◌, true, false, List, Option, Some, None, refl, sym, ap, ◌∙◌, subst, arith, add-one, add-zero}
+use Rattle.std.proofs.Common.{◌≡◌, ℕ, zero, suc, ◌+◌, ◌-◌, ◌≤◌, Bool, true, false, List, Option, Some, None, refl, sym, ap, ◌∙◌, subst, arith, add-one, add-zero}
 use Rattle.std.specs.Prelude.{is_some}
 use Rattle.hx_types.specs.Words.{first_some}
 use Rattle.hx_world.specs.Worlds.{WorldState}
@@ -55,6 +55,13 @@ pub delivers_next : (old new : Course) → Takes (first_delivery_from 0 old.runs
 delivers_next old new t =
     subst (λ (o : Option Turn). Takes o old new true) (sym (delivered-is (first_delivery_from 0 old.runs) (first_begin old.bundle old.runs) t.told)) t
 
+-- without one a begin is
+pub begins_next : (old now new : Course) (made : Bool) → Takes (first_delivery_from 0 old.runs) old now false → Takes (first_begin now.bundle now.runs) now new made → Takes (next_turn old) old new made
+begins_next old now new made none t =
+    let s = stays_none (first_delivery_from 0 old.runs) old now none in
+    subst (λ (o : Option Turn). Takes o old new made) (sym (ap (λ (o : Option Turn). first_some o (first_begin old.bundle old.runs)) s.0))
+    (subst (λ (c : Course). Takes (first_begin c.bundle c.runs) c new made) s.1 t)
+
 -- why a delivery failed
 fails-first : (runs : List WorldState) (o p : Option Turn) (e : DrainError) → FailsIn runs o e → FailsIn runs (first_some o p) e
 fails-first runs o p Memory f = tt
@@ -62,6 +69,9 @@ fails-first runs None p (Worn a) f = cc-none f where
   cc-none : IsWornTurn runs None a → IsWornTurn runs p a
   cc-none w = let no = w.is_next in cc
 fails-first runs (Some t) p (Worn a) f = f
+
+pub delivery_fails : (c : Course) (e : DrainError) → FailsIn c.runs (first_delivery_from 0 c.runs) e → FailsIn c.runs (next_turn c) e
+delivery_fails c e f = fails-first c.runs (first_delivery_from 0 c.runs) (first_begin c.bundle c.runs) e f
 
 -- or a begin
 pub begin_fails : (old now : Course) (e : DrainError) → Takes (first_delivery_from 0 old.runs) old now false → FailsIn now.runs (first_begin now.bundle now.runs) e → FailsIn old.runs (next_turn old) e
