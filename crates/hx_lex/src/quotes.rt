@@ -102,6 +102,7 @@ fn text_of(bytes: Vec<u8>) -> Result<Text, Memory>
 {
     match String::from_utf8(bytes) {
         Ok(text) => Text::from_string(text),
+        // The bytes are UTF-8.
         Err(_) => unreachable!(),
     }
 }

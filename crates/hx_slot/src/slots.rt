@@ -529,6 +529,7 @@ impl Slot {
     {
         let pending = rest_of(self.accepted.as_slice(), self.committed);
         let Some(place) = place_of(pending, version) else {
+            // The version is pending.
             unreachable!()
         };
         self.accepted[self.committed + place].acknowledged = true;

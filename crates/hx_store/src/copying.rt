@@ -42,6 +42,7 @@ pub fn add_pending(alloc: Global, slot: &Slot, updates: &mut Updates) -> Result<
     for i in 0..slot.pending_count() {
         match slot.pending(i) {
             Some(update) => updates.push(update.copy(alloc)?)?,
+            // There are more than i pending updates.
             None => unreachable!(),
         }
     }

@@ -148,6 +148,7 @@ impl Indexed {
         ensures attributes { length self.new.index.orders ≡ length self.old.index.orders }
     {
         let Some(place) = self.stale.last() else {
+            // Some place is marked.
             unreachable!()
         };
         let place = *place;

@@ -171,6 +171,7 @@ impl Slots {
     {
         match self.keys.get_index_mut(place) {
             Some(listed) => *listed = true,
+            // The place is below the number of keys.
             None => unreachable!(),
         }
     }

@@ -171,6 +171,7 @@ impl Store {
         for i in 0..self.len() {
             match self.nth(i) {
                 Some(slot) => add_kept(alloc, slot, &mut snapshot)?,
+                // There are more than i slots.
                 None => unreachable!(),
             }
         }
@@ -186,6 +187,7 @@ impl Store {
         for i in 0..self.len() {
             match self.nth(i) {
                 Some(slot) => add_pending(alloc, slot, &mut updates)?,
+                // There are more than i slots.
                 None => unreachable!(),
             }
         }
@@ -407,6 +409,7 @@ impl Store {
         ensures others { KeepsOtherRooms slot.state.base.key self.old.rooms self.new.rooms }
     {
         let Some(place) = self.place_of(slot.key()) else {
+            // The slot's key has a place.
             unreachable!()
         };
         self.open(place);
