@@ -124,7 +124,7 @@ fn changes_of<'a>(
     Ok(latest)
 }
 
-/// The same of each history of a block.
+/// The changes of each history of a block that began before all later ones of it, the newest first.
 pub fn latest_of<'a>(alloc: Global, block: &'a Block) -> Result<Vec<LatestChanges<'a>>, Memory>
     requires { IsOrdered block.now }
     ensures { IfOk result (λ histories. AreLatest block.now histories.items) }

@@ -100,7 +100,7 @@ pub fn standing(alloc: Global, block: &Block) -> Result<BTreeSet<usize>, Memory>
     standing_in(alloc, block.calls.as_slice(), block.histories.as_slice())
 }
 
-/// The same where the clause asks for it; else none.
+/// The places of the calls that stand in histories, where the clause asks for them; else none.
 pub fn marked_for(alloc: Global, clause: Clause, block: &Block) -> Result<BTreeSet<usize>, Memory>
     requires { IsOrdered block.now }
     ensures { IfOk result (λ marked. AreMarkedFor clause block.now (contains nat_cmp marked)) }

@@ -127,7 +127,7 @@ fn copies_of(alloc: Global, listed: &[KeyItems<'_>]) -> Result<Histories, Memory
     Ok(made)
 }
 
-/// The same as copies.
+/// The histories of all keys of a trace's events that have one with items, as copies.
 pub fn histories_from(
     alloc: Global,
     script: &Script,

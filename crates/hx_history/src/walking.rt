@@ -111,7 +111,8 @@ pub fn records_and_histories(
     Ok(RecordsAndHistories { records, histories })
 }
 
-/// The same, of which the histories are no copies, and whether a configuration was issued.
+/// The records and histories of a trace, of which the histories are no copies, and whether a
+/// configuration was issued.
 pub fn records_and_items<'a>(
     alloc: Global,
     script: &'a Script,

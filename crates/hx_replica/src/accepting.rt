@@ -50,7 +50,7 @@ pub fn accepted(
     )
 }
 
-/// The same of a slot that holds no other update: no list of updates is made for it.
+/// What a slot that holds no other update accepts: no list of updates is made for it.
 #[inline(always)]
 fn accepted_alone(
     alloc: Global,

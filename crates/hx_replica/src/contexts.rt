@@ -90,7 +90,7 @@ pub fn post_update(
     post_update_at(alloc, context, update, place, posts, tail_versions)
 }
 
-/// The same of an update with this place in the region of the context.
+/// Posts an update on to the next replica of its chain, by its place in the region of the context.
 pub fn post_update_at(
     alloc: Global,
     context: &SlotContext,
@@ -197,7 +197,7 @@ pub fn post_commit(
     post_commit_at(alloc, context, update, place, posts)
 }
 
-/// The same of an update with this place in the region of the context.
+/// Tells of an update that is committed, by its place in the region of the context.
 pub fn post_commit_at(
     alloc: Global,
     context: &SlotContext,

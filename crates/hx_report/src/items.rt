@@ -37,7 +37,7 @@ pub fn put_state(out: &mut Vec<u8>, space: &Space, object: &Option<Object>) -> R
     put_state_of(out, space, object.as_ref())
 }
 
-/// The same of an object that lies elsewhere.
+/// Appends the state of an object that is lent, or that there is none.
 #[tactic(auto, unfolding(crate::specs::Reporting::state_text))]
 fn put_state_of(out: &mut Vec<u8>, space: &Space, object: Option<&Object>) -> Result<(), Memory>
     ensures { OnOk result (out.new.items ≡ out.old.items ++ state_text space.now (option_copied object.entry)) }

@@ -23,7 +23,7 @@ fn has_heard(script: &Script, crew: &Crew, desk: &Desk) -> bool
     desk.heard[name] == crew.out.sent[place]
 }
 
-/// The same of all drivers.
+/// Whether as many envelopes of each driver's name were taken for an actor as that driver put for it.
 fn has_heard_all(script: &Script, drivers: &[Driver], desk: &Desk) -> bool
     ensures yes { result ≡ true → AllByRecursion (λ d. HasHeard script.now desk.now d.crew) drivers.now }
     ensures no { AllByRecursion (λ d. HasHeard script.now desk.now d.crew) drivers.now → result ≡ true }

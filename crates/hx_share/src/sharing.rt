@@ -48,7 +48,7 @@ pub fn share<R: Threads + Wait + Sync, G: Gate + Sync>(
     share_plan::<Brand, R, G>(rt, alloc, script, workers, gate)
 }
 
-/// The same of a script that a type names.
+/// Shares the calls of a script that a type names.
 fn share_plan<C: Charter + Send + Sync, R: Threads + Wait + Sync, G: Gate + Sync>(
     rt: &R,
     alloc: Global,

@@ -18,7 +18,7 @@ pub fn prefix_of(text: &str) -> u64
     }
 }
 
-/// The same number, from one byte after another.
+/// The first eight bytes as a number, taken one after another.
 fn prefix_by_bytes(bytes: &[u8]) -> u64
     ensures { result ≡ prefix_of bytes.now }
 {
