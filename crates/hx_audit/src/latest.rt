@@ -1,8 +1,8 @@
 //! The changes of a key that were the latest to have begun for a while.
 //!
 //! A change is asked for where a search has to show the last change of a key that began before it
-//! ended. That is never a change before which a later one began. Of the others each began after those
-//! that stand below it, so the one that is asked for is found by halving.
+//! ended. That is never a change before which a later one began. Of the others each began after
+//! those that stand below it, so the one that is asked for is found by halving.
 
 ghost use Rattle.std.specs.Prelude.{◌≡◌, ◌≤◌, ◌<◌, ◌-◌, ◌&&◌, ◌++◌, ◌∷◌, [], ℕ, IfOk, OnOk, Some, true, false, length, slice_get, slice_index_or};
 ghost use Rattle.std.specs.List.{find};

@@ -57,7 +57,8 @@ fn halved_place_of(calls: &[CallLine], caller: Caller) -> Option<usize>
     }
 }
 
-/// Where a caller's call stands if each session has made as many calls as every other. No contract reads it.
+/// Where a caller's call stands if each session has made as many calls as every other. No contract
+/// reads it.
 fn likely_place(calls: &[CallLine], caller: Caller) -> usize {
     let sessions = match calls.last() {
         Some(last) => last.caller.session.0 as usize,
@@ -69,8 +70,9 @@ fn likely_place(calls: &[CallLine], caller: Caller) -> usize {
     each.saturating_mul(before).saturating_add(number)
 }
 
-/// The place of a caller's call among calls by caller: the likely one, or else found by halving. An audit looks for the
-/// call of each item again and again, and in most reports sessions make as many calls each.
+/// The place of a caller's call among calls by caller: the likely one, or else found by halving. An
+/// audit looks for the call of each item again and again, and in most reports sessions make as many
+/// calls each.
 pub fn place_of(calls: &[CallLine], caller: Caller) -> Option<usize>
     requires { CallsAscend calls.now }
     ensures { result ≡ place_at calls.now caller }

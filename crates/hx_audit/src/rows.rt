@@ -60,8 +60,8 @@ fn has_cut(block: &Block, search: &Finished<'_>, row: &Row, items: &[ItemLine]) 
     false
 }
 
-/// Whether the row's change stands in the history of its key, and no change after it was over before
-/// the search began.
+/// Whether the row's change stands in the history of its key, and no change after it was over
+/// before the search began.
 fn has_change(block: &Block, search: &Finished<'_>, row: &Row) -> bool
     requires { IsOrdered block.now }
     ensures { IsTrue result ↔ HasCut (account_of block.now) (finished_view search.now) row.now [] (reverse (map (item_told block.now.calls) (items_at block.now.histories row.now.key))) }

@@ -11,7 +11,8 @@ pub enum Clause {
     Foreign,
     /// Each item is the effect of its call's operation on the object before it.
     Legal,
-    /// Each call on a key that ended and wasn't refused stands in the key's history with its answer.
+    /// Each call on a key that ended and wasn't refused stands in the key's history with its
+    /// answer.
     Missing,
     /// No item stands after one of a call that began after its own call had ended.
     Order,

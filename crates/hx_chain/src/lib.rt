@@ -3,8 +3,8 @@
 //!
 //! An update goes through the key region and, in each declared subspace, through the region of the
 //! old object and then that of the new one (HyperDex's value-dependent chaining). In each of these
-//! places it goes from member to member in list order (chain replication). The first member of the key's
-//! region leads the key: it gives each write its version, or its answer.
+//! places it goes from member to member in list order (chain replication). The first member of the
+//! key's region leads the key: it gives each write its version, or its answer.
 //!
 //! Servers of different configurations work side by side. What protects a replica is whom it hears,
 //! by its own server's configuration: an update only from the position before it in the update's

@@ -125,8 +125,8 @@ impl Clock {
         self.table.shared.join_seat::<Learn>(&mut seat.token, token);
     }
 
-    /// How many stamps were drawn by now: more than any stamp of an entry that the seat has. It waits
-    /// for nobody.
+    /// How many stamps were drawn by now: more than any stamp of an entry that the seat has. It
+    /// waits for nobody.
     pub fn now(&self, seat: &mut Seat) -> u64
         requires clock { seat.old.clock ≡ self.now }
         ensures clock { seat.new.clock ≡ self.now }
@@ -137,8 +137,9 @@ impl Clock {
         self.table.shared.load::<Load>(&mut seat.token, 0)
     }
 
-    /// The number of stamps that were drawn, after which none is drawn. Where the seat has taken in every
-    /// actor's seat, they are the stamps of its parts. It keeps these, and so tells each entry's stamp.
+    /// The number of stamps that were drawn, after which none is drawn. Where the seat has taken in
+    /// every actor's seat, they are the stamps of its parts. It keeps these, and so tells each
+    /// entry's stamp.
     pub fn close(self, seat: &mut Seat) -> u64
         requires clock { seat.old.clock ≡ self }
         ensures clock { seat.new.clock ≡ self }

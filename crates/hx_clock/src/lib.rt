@@ -1,10 +1,10 @@
 //! The clock: one history of all actors, whichever threads they run on.
 //!
 //! An entry's place in the history is its [`Stamp`](hx_types::Stamp), which [`Clock::act`] draws by
-//! one atomic addition and waits for nobody. What an actor has seen it carries in its [`Seat`], which
-//! has no bytes: so whoever takes a post knows that the entry that made it stands before its own.
-//! The form is this project's choice: a ticket counter for a history, and vector clocks in the proof
-//! alone.
+//! one atomic addition and waits for nobody. What an actor has seen it carries in its [`Seat`],
+//! which has no bytes: so whoever takes a post knows that the entry that made it stands before its
+//! own. The form is this project's choice: a ticket counter for a history, and vector clocks in the
+//! proof alone.
 //!
 //! No contract says that there is memory for a clock. A test makes one and draws stamps by it.
 #![tactic(auto)]

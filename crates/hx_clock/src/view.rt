@@ -12,7 +12,8 @@ pub struct NumberedPart {
 pub struct View {
     /// The parts that this seat alone carries, each whole.
     pub carried: Sequence<NumberedPart>,
-    /// What the seat knows of any part. Of one number there may be several, one a prefix of the other.
+    /// What the seat knows of any part. Of one number there may be several, one a prefix of the
+    /// other.
     pub known: Sequence<NumberedPart>,
     /// The number of actors enrolled, in the one seat that counts them.
     pub count: Option<u64>,

@@ -87,8 +87,8 @@ fn give_fates(
     Ok(drivers)
 }
 
-/// The drivers of a script before the first turn, each with its actors, its ports and its fate: driver
-/// i has the i-th fate, and those that no driver has are dropped.
+/// The drivers of a script before the first turn, each with its actors, its ports and its fate:
+/// driver i has the i-th fate, and those that no driver has are dropped.
 pub fn deal(
     alloc: Global,
     script: &Script,

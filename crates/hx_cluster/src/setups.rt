@@ -8,10 +8,10 @@ use hx_mail::Mailbox;
 use hx_types::Script;
 use std::alloc::Global;
 
-/// What a script's actors are dealt out with: the allocator, the script, the clock, the boxes of the
-/// actors in their order, and the number of drivers. The script is within the limits, the boxes are
-/// of this script and this clock, and there is a driver: so no function that takes a setup asks for
-/// any of it.
+/// What a script's actors are dealt out with: the allocator, the script, the clock, the boxes of
+/// the actors in their order, and the number of drivers. The script is within the limits, the boxes
+/// are of this script and this clock, and there is a driver: so no function that takes a setup asks
+/// for any of it.
 #[derive(Drop)]
 pub struct Setup<'a> {
     pub alloc: Global,

@@ -102,8 +102,8 @@ where
     S: Source,
     K: Sink,
     E: Sink,
-    // The status is that of the call with some words, or that of words that couldn't be read, with which
-    // nothing is read or written; and the line of that outcome was printed.
+    // The status is that of the call with some words, or that of words that couldn't be read, with
+    // which nothing is read or written; and the line of that outcome was printed.
     ensures told { (outcome : Outcome) × (result ≡ status_of outcome)
         × (((words : List (String Global)) × EndsProgram words (drawn S.Source source.old source.new) (filled K.Sink sink.old sink.new) outcome)
         ⊎ (IsUnread outcome × (source.new ≡ source.old) × (sink.new ≡ sink.old)))
@@ -151,7 +151,8 @@ fn command<R: Threads + Wait + Sync, S: Source, K: Sink>(
     }
 }
 
-/// How many drivers the words may start, and the seed that their fates draw from, where they say one.
+/// How many drivers the words may start, and the seed that their fates draw from, where they say
+/// one.
 fn drivers_of(words: &[String]) -> (u32, Option<u64>)
     ensures { HasEnough words.now result.0 }
 {
@@ -164,8 +165,8 @@ fn drivers_of(words: &[String]) -> (u32, Option<u64>)
     }
 }
 
-/// Makes the call with fates that lose and repeat by number, or by a draw where the words say a seed, and
-/// a gate that holds nobody.
+/// Makes the call with fates that lose and repeat by number, or by a draw where the words say a
+/// seed, and a gate that holds nobody.
 fn called<R: Threads + Wait + Sync, S: Source, K: Sink>(
     rt: &R,
     alloc: Global,

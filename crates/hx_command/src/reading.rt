@@ -15,8 +15,9 @@ use std::alloc::Global;
 ///
 /// # Errors
 ///
-/// `Refused` exactly where the text is no script of one space, with its first faulty line; `TooLarge`
-/// exactly where the source gave more bytes than a script may have; `ReadFault`; `Memory`.
+/// `Refused` exactly where the text is no script of one space, with its first faulty line;
+/// `TooLarge` exactly where the source gave more bytes than a script may have; `ReadFault`;
+/// `Memory`.
 pub fn read_script<S: Source>(alloc: Global, source: &mut S) -> Result<Script, Outcome>
     ensures script { IfOk result (ReadsAs version_1 (drawn S.Source source.old source.new)) }
     ensures valid { IfOk result IsScript }

@@ -56,7 +56,8 @@ pub fn answer_run<R: Threads + Wait + Sync, K: Sink, G: Gate + Sync>(
     }
 }
 
-/// Hands back a run that a worn actor ended, or writes the report of one that had nothing left to do.
+/// Hands back a run that a worn actor ended, or writes the report of one that had nothing left to
+/// do.
 fn report_run<K: Sink>(
     alloc: Global,
     command: Run,

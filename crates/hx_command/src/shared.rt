@@ -24,8 +24,8 @@ use std::alloc::Global;
 use std::sync::Wait;
 use std::thread::Threads;
 
-/// Makes the calls of the script of the source by callers on threads, one at a time behind one lock, and
-/// writes the report.
+/// Makes the calls of the script of the source by callers on threads, one at a time behind one
+/// lock, and writes the report.
 pub fn share_words<R: Threads + Wait + Sync, S: Source, K: Sink, G: Gate + Sync>(
     rt: &R,
     alloc: Global,
@@ -70,8 +70,8 @@ fn answer_share<R: Threads + Wait + Sync, K: Sink, G: Gate + Sync>(
     }
 }
 
-/// Makes the calls of the script by callers on threads: all that the laws over every run say holds of
-/// what they did.
+/// Makes the calls of the script by callers on threads: all that the laws over every run say holds
+/// of what they did.
 fn share_script<R: Threads + Wait + Sync, G: Gate + Sync>(
     rt: &R,
     alloc: Global,

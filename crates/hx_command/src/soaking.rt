@@ -59,7 +59,8 @@ pub fn answer_soak<R: Threads + Wait + Sync, K: Sink, G: Gate + Sync>(
     }
 }
 
-/// Hands back a run that a worn actor ended, or writes the summary of one that had nothing left to do.
+/// Hands back a run that a worn actor ended, or writes the summary of one that had nothing left to
+/// do.
 fn sum_run<K: Sink>(
     alloc: Global,
     command: Soak,

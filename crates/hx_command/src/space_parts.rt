@@ -13,8 +13,8 @@ use hx_trace::Trace;
 use hx_types::{Memory, Script, Sequence, Totals};
 use std::alloc::Global;
 
-/// What threads made of several spaces, part by part, in the order of the spaces. The totals of each
-/// space stand apart.
+/// What threads made of several spaces, part by part, in the order of the spaces. The totals of
+/// each space stand apart.
 #[derive(Drop)]
 pub struct Parts {
     pub traces: Traces,

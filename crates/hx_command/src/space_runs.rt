@@ -22,16 +22,16 @@ use std::thread::Threads;
 /// How many threads can work for all spaces of a bundle together.
 pub const MOST_DRIVERS: u32 = 16;
 
-/// What threads made of the spaces of a bundle, one after the other: of all, or of those up to one in
-/// which an actor was worn, and then that actor.
+/// What threads made of the spaces of a bundle, one after the other: of all, or of those up to one
+/// in which an actor was worn, and then that actor.
 #[derive(Drop)]
 pub struct SpacesRan {
     pub runs: Vec<Ran>,
     pub worn: Option<Actor>,
 }
 
-/// How many threads work for each space of a bundle where so many are asked for: no more than leave 16
-/// for all spaces together.
+/// How many threads work for each space of a bundle where so many are asked for: no more than leave
+/// 16 for all spaces together.
 pub fn workers_of(bundle: &Bundle, workers: u32) -> u32
     requires bundle { IsBundle bundle.now }
     requires workers { 1 ≤ workers }
@@ -80,8 +80,8 @@ fn run_next<R: Threads + Wait + Sync, G: Gate + Sync>(
     run_threads(rt, alloc, script, threading, own, gate)
 }
 
-/// Runs the scripts on threads, one after the other, until all were run or an actor is worn. Space k,
-/// from 0, has the fates from k times the number of threads on.
+/// Runs the scripts on threads, one after the other, until all were run or an actor is worn. Space
+/// k, from 0, has the fates from k times the number of threads on.
 pub fn run_spaces<R: Threads + Wait + Sync, G: Gate + Sync>(
     rt: &R,
     alloc: Global,

@@ -30,18 +30,18 @@ use std::alloc::Global;
 use std::sync::Wait;
 use std::thread::Threads;
 
-/// The program with threads: it takes its words, the source of its script and the sink of its answer,
-/// a fate for each driver that the words may start, and a gate.
+/// The program with threads: it takes its words, the source of its script and the sink of its
+/// answer, a fate for each driver that the words may start, and a gate.
 ///
 /// With the words of `run` it runs the script of the source on threads, space after space, and with
 /// those of `soak` a script that it draws itself; with those of `share` callers on threads make the
-/// calls of the source's script, one at a time behind one lock. All other words, `audit` among them, it hands on to
-/// [`hyperstore_alone`]. Fates that no driver has are dropped.
+/// calls of the source's script, one at a time behind one lock. All other words, `audit` among
+/// them, it hands on to [`hyperstore_alone`]. Fates that no driver has are dropped.
 ///
 /// # Errors
 ///
-/// Those of `hyperstore_alone`. `Worn` comes where an actor has made 1,048,576 entries and has one more
-/// to make.
+/// Those of `hyperstore_alone`. `Worn` comes where an actor has made 1,048,576 entries and has one
+/// more to make.
 pub fn hyperstore<R: Threads + Wait + Sync, S: Source, K: Sink, G: Gate + Sync>(
     rt: &R,
     alloc: Global,
@@ -63,21 +63,21 @@ pub fn hyperstore<R: Threads + Wait + Sync, S: Source, K: Sink, G: Gate + Sync>(
         → Ends words.now (drawn S.Source source.old source.new) (filled K.Sink sink.old sink.new) result.done.outcome result.done.traces }
     ensures empty { IsUnthreaded words.now → (result.seats.items ≡ []) × (result.totals.items ≡ []) × (result.fates.items ≡ []) × (result.ports.items ≡ []) }
 
-    // Under `run` the text that the source gave is that of a script, of one space or several, which are
-    // run one after the other. Each fate was tuned as the words say, and nothing tuned it otherwise:
-    // space k, from 0, has those from k times its number of threads on. With status 0 the trace of each
-    // space is a run of its script without halts in which every call has ended, paced by retries that
-    // come only where nothing else is left but what was lost; all that the laws say of runs holds of it,
-    // and the report was written and nothing else. A worn actor hands back the runs up to there, with
-    // empty traces for the spaces that were not run.
+    // Under `run` the text that the source gave is that of a script, of one space or several, which
+    // are run one after the other. Each fate was tuned as the words say, and nothing tuned it
+    // otherwise: space k, from 0, has those from k times its number of threads on. With status 0
+    // the trace of each space is a run of its script without halts in which every call has ended,
+    // paced by retries that come only where nothing else is left but what was lost; all that the
+    // laws say of runs holds of it, and the report was written and nothing else. A worn actor hands
+    // back the runs up to there, with empty traces for the spaces that were not run.
     ensures run { (command : RunSeen) → SaysRun words.now command → (scripted : ScriptedSeen)
         × EndsRun command scripted (drawn S.Source source.old source.new) (filled K.Sink sink.old sink.new) (handed_back result) result.done.outcome
         × HaveRisenInEach state (tuning_of command) (spaces_of scripted) (workers_in scripted command.workers) fates.items result.fates.items (handed_back result) }
     ensures decided { (command : RunSeen) → SaysRun words.now command
         → IsDecided any_version (drawn S.Source source.old source.new) (filled K.Sink sink.old sink.new) result.done.outcome }
 
-    // Under `soak` the bytes are the summary of the calls one after the other on one map, the same for
-    // every number of threads.
+    // Under `soak` the bytes are the summary of the calls one after the other on one map, the same
+    // for every number of threads.
     ensures soak { (command : SoakSeen) → SaysSoak words.now command
         → EndsSoak command (filled K.Sink sink.old sink.new) (handed_back result) result.done.outcome
         × HaveRisen state never (script_drawn command.seed command.calls) command.workers fates.items result.fates.items (handed_back result) }
@@ -85,18 +85,19 @@ pub fn hyperstore<R: Threads + Wait + Sync, S: Source, K: Sink, G: Gate + Sync>(
         → (result.done.outcome ≡ Outcome.Fine) ⊎ (result.done.outcome ≡ Outcome.Memory) ⊎ ((a : Actor) × (result.done.outcome ≡ Outcome.Worn a)) }
     ensures unread { (command : SoakSeen) → SaysSoak words.now command → source.new ≡ source.old }
 
-    // Under `share` the text that the source gave is that of a script, whose steps aren't taken. With
-    // status 0 the trace is a run of it after which there is nothing left to do, in which each entry
-    // begins a call or delivers a post that none before it delivers; all that the laws say of runs holds
-    // of it, and the report was written and nothing else. A worn actor hands back the run up to there.
+    // Under `share` the text that the source gave is that of a script, whose steps aren't taken.
+    // With status 0 the trace is a run of it after which there is nothing left to do, in which each
+    // entry begins a call or delivers a post that none before it delivers; all that the laws say of
+    // runs holds of it, and the report was written and nothing else. A worn actor hands back the
+    // run up to there.
     ensures share { (command : ShareSeen) → SaysShare words.now command → (script : ScriptSeen)
         × EndsShare script (drawn S.Source source.old source.new) (filled K.Sink sink.old sink.new) (handed_back result) result.done.outcome }
     ensures share_decided { (command : ShareSeen) → SaysShare words.now command
         → IsDecided version_1 (drawn S.Source source.old source.new) (filled K.Sink sink.old sink.new) result.done.outcome }
 
-    // Whatever the words are: a fault has its cause, nothing is written but with an answer, there is no
-    // trace but with one or where an actor is worn or a step refused, and words that are no command leave
-    // the source alone.
+    // Whatever the words are: a fault has its cause, nothing is written but with an answer, there
+    // is no trace but with one or where an actor is worn or a step refused, and words that are no
+    // command leave the source alone.
     ensures read_fault { result.done.outcome ≡ Outcome.ReadFault → Rose (S.faults source.old) (S.faults source.new) }
     ensures write_fault { result.done.outcome ≡ Outcome.WriteFault → Rose (K.faults sink.old) (K.faults sink.new) }
     ensures silent { IsSilent result.done.outcome → sink.new ≡ sink.old }

@@ -13,9 +13,9 @@ use std::marker::Model;
 /// What the state of the generator moves by for each draw.
 const STEP: u64 = 0x9e37_79b9_7f4a_7c15;
 
-/// Loses and repeats posts by chance: one of so many, drawn by the generator SplitMix64. A period of 0
-/// is never. The same seed, driver and number of a choice make the same choice. Contracts see it as the
-/// seed of its own generator and its state.
+/// Loses and repeats posts by chance: one of so many, drawn by the generator SplitMix64. A period
+/// of 0 is never. The same seed, driver and number of a choice make the same choice. Contracts see
+/// it as the seed of its own generator and its state.
 #[derive(Drop)]
 pub struct Drawn {
     seed: u64,
@@ -31,8 +31,8 @@ impl Model for Drawn {
 }
 
 impl Drawn {
-    /// One for a driver, that has made no choice, and loses and repeats nothing. Each driver's own seed
-    /// is the draw of its number from the seed that they share.
+    /// One for a driver, that has made no choice, and loses and repeats nothing. Each driver's own
+    /// seed is the draw of its number from the seed that they share.
     pub fn new(seed: u64, driver: u32) -> Drawn
         ensures { result ≡ record { seed = draw_of seed driver; state = untouched } }
     {
@@ -46,8 +46,8 @@ impl Drawn {
 impl Fate for Drawn {
     ghost state = { λ d. d.state };
 
-    /// The choice is that of its draw. Choices are numbered from 0, and from the greatest `u64` on that
-    /// number stays.
+    /// The choice is that of its draw. Choices are numbered from 0, and from the greatest `u64` on
+    /// that number stays.
     fn choose(&mut self, _from: Actor, _to: Actor) -> Choice
         ensures choice { result ≡ choice_drawn self.old.state.tuning (draw_of self.old.seed self.old.state.chosen) }
         ensures new { self.new ≡ record { seed = self.old.seed; state = after_choice result self.old.state } }

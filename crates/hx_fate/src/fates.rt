@@ -83,8 +83,8 @@ pub trait Fate: Drop {
     fn choose(&mut self, from: Actor, to: Actor) -> Choice
         ensures { state self.new ≡ after_choice result (state self.old) };
 
-    /// How often posts are to be lost and repeated from now on. A fate may do otherwise, but keeps what
-    /// it was told. The counts stay.
+    /// How often posts are to be lost and repeated from now on. A fate may do otherwise, but keeps
+    /// what it was told. The counts stay.
     fn tune(&mut self, tuning: Tuning)
         ensures { state self.new ≡ tuned tuning (state self.old) };
 

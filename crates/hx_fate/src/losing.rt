@@ -17,8 +17,8 @@ pub enum Losing {
 }
 
 impl Losing {
-    /// The fate of a driver, that has made no choice, and loses and repeats nothing: one that draws,
-    /// where there is a seed, else one that counts.
+    /// The fate of a driver, that has made no choice, and loses and repeats nothing: one that
+    /// draws, where there is a seed, else one that counts.
     pub fn new(seed: Option<u64>, driver: u32) -> Losing
         ensures counted { seed ≡ None → result ≡ a_fate.Counted untouched }
         ensures drawn { (s : _) → seed ≡ Some s → result ≡ a_fate.Drawn (record { seed = draw_of s driver; state = untouched }) }

@@ -23,9 +23,10 @@ pub struct SeatedPart {
     pub seat: Seat,
 }
 
-/// A trace, and its evidence: the clock's seat that has all its entries with their stamps. What a seat
-/// has grows by acts of its clock alone, each of which draws one stamp by one atomic addition. So the
-/// seat, which has no bytes, shows that the entries stand in the order in which they drew their stamps.
+/// A trace, and its evidence: the clock's seat that has all its entries with their stamps. What a
+/// seat has grows by acts of its clock alone, each of which draws one stamp by one atomic addition.
+/// So the seat, which has no bytes, shows that the entries stand in the order in which they drew
+/// their stamps.
 #[derive(Drop)]
 pub struct Gathered {
     pub trace: Trace,
@@ -33,15 +34,15 @@ pub struct Gathered {
 }
 
 /// The trace of all actors of a clock: the entries of their parts in the order of their stamps, so
-/// that an entry's number is its stamp plus 1. It closes the clock, and gives back its counting seat,
-/// which has taken in those of all actors.
+/// that an entry's number is its stamp plus 1. It closes the clock, and gives back its counting
+/// seat, which has taken in those of all actors.
 ///
 /// Where the parts are what different actors of a script made on their own, the trace is a run of
-/// that script, and each actor's entries in it are its part: so its state at the end is the one that
-/// it has. Whatever the threads did, the laws over all runs hold of it.
+/// that script, and each actor's entries in it are its part: so its state at the end is the one
+/// that it has. Whatever the threads did, the laws over all runs hold of it.
 ///
-/// The entries stay where they lie in their parts: beside these there is memory for the heads of the
-/// trace, for a number for each entry, and for one for each part.
+/// The entries stay where they lie in their parts: beside these there is memory for the heads of
+/// the trace, for a number for each entry, and for one for each part.
 pub fn gather(
     alloc: Global,
     clock: Clock,

@@ -1,7 +1,7 @@
 //! The actors on several threads. What they made is merged into one trace.
 //!
-//! To merge sorted stretches is the usual merge of many lists (`itertools`); that entries stay where their
-//! threads put them is this project's choice.
+//! To merge sorted stretches is the usual merge of many lists (`itertools`); that entries stay
+//! where their threads put them is this project's choice.
 //!
 //! No contract says that there is memory for a trace. Tests merge and gather the parts of actors.
 #![tactic(auto)]

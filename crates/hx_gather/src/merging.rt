@@ -11,12 +11,14 @@ use hx_types::Memory;
 use itertools::Itertools;
 use std::alloc::Global;
 
-/// All entries of causal parts in the order of their stamps, and nothing else. It moves no entry: each
-/// has its turn, and stays where it lies. What is merged are stretches of entries whose stamps follow one
-/// another, as each thread gives an actor several turns together, and these are fewer than the entries.
+/// All entries of causal parts in the order of their stamps, and nothing else. It moves no entry:
+/// each has its turn, and stays where it lies. What is merged are stretches of entries whose stamps
+/// follow one another, as each thread gives an actor several turns together, and these are fewer
+/// than the entries.
 ///
-/// Beside the parts there is memory for eight bytes for each entry, and for a stretch of each part. Where
-/// there is not enough, or there are 4,294,967,296 entries or 65,536 parts, the entries are dropped.
+/// Beside the parts there is memory for eight bytes for each entry, and for a stretch of each part.
+/// Where there is not enough, or there are 4,294,967,296 entries or 65,536 parts, the entries are
+/// dropped.
 pub fn merge(alloc: Global, parts: Parts) -> Result<Trace, Memory>
     requires causal { IsCausal parts }
     ensures merged { IfOk result (λ trace. (merged : List Stamped) × IsMerged parts merged × (trace ≡ map (λ x. x.entry) merged)) }
@@ -55,7 +57,8 @@ fn sources_of<'a>(alloc: Global, parts: &'a [Part]) -> Result<Vec<Stretches<'a>>
     Ok(sources)
 }
 
-/// How many entries the parts have. Where they are more than a number can say, there is no memory for them.
+/// How many entries the parts have. Where they are more than a number can say, there is no memory
+/// for them.
 fn entries_in(parts: &[Part]) -> Result<usize, Memory>
     ensures { IfOk result (λ entries. entries ≡ length (all_of parts.now)) }
 {

@@ -12,8 +12,8 @@ use hx_types::Memory;
 use std::cmp::Ordering;
 use std::marker::Model;
 
-/// Entries of a part whose stamps follow one another, so that no other part has one between them. Two
-/// are compared by their first stamps alone.
+/// Entries of a part whose stamps follow one another, so that no other part has one between them.
+/// Two are compared by their first stamps alone.
 #[derive(Drop)]
 pub(crate) struct Stretch<'a> {
     part: u16,

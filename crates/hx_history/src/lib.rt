@@ -1,7 +1,7 @@
 //! Records, histories and finished searches of a trace.
 //!
-//! Calls with a begin and an end, and histories of one object, are Herlihy's and Wing's; that gets and
-//! searches are told by the versions that they name is this project's choice.
+//! Calls with a begin and an end, and histories of one object, are Herlihy's and Wing's; that gets
+//! and searches are told by the versions that they name is this project's choice.
 //!
 //! No contract says that there is memory, so a function that always answered `Memory` would be
 //! proved. The tests show each succeed.

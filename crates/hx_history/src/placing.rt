@@ -32,7 +32,8 @@ fn no_reads<'a>(alloc: Global, count: usize) -> Result<Vec<Vec<Read<'a>>>, Memor
     Ok(places)
 }
 
-/// The gets before all writes, and those after each write up to the next, in the order of their ends.
+/// The gets before all writes, and those after each write up to the next, in the order of their
+/// ends.
 fn places_of<'a>(
     alloc: Global,
     writes: &[&Update],

@@ -95,8 +95,8 @@ fn gather<'a>(alloc: Global, script: &'a Script, trace: &'a Trace) -> Result<Gat
     })
 }
 
-/// The records of [`records`](crate::records) and the histories of [`histories`](crate::histories), after one
-/// walk over the trace: it is long, and most of its entries have no notes.
+/// The records of [`records`](crate::records) and the histories of [`histories`](crate::histories),
+/// after one walk over the trace: it is long, and most of its entries have no notes.
 pub fn records_and_histories(
     alloc: Global,
     script: &Script,

@@ -4,8 +4,8 @@
 //! attribute and then by the key. It copies no value; a search looks at the rows through a
 //! [`Look`], which counts how often.
 //!
-//! That a search by an attribute goes to its objects without going through all is HyperDex's; orders
-//! of numbers, and counted looks, are this project's choice.
+//! That a search by an attribute goes to its objects without going through all is HyperDex's;
+//! orders of numbers, and counted looks, are this project's choice.
 #![tactic(auto)]
 
 mod comparing;

@@ -12,10 +12,10 @@ pub fn verdicts_are_unique()
     ensures { VerdictsAreUnique }
 {}
 
-/// The verdict is yes exactly where the report is consistent: by the calls, the histories and the rows
-/// that it has, the history of each key of each space is linear, and each finished search is whole
-/// and true. The order of time is one of different calls, since a report may have a call that ended
-/// before it began.
+/// The verdict is yes exactly where the report is consistent: by the calls, the histories and the
+/// rows that it has, the history of each key of each space is linear, and each finished search is
+/// whole and true. The order of time is one of different calls, since a report may have a call that
+/// ended before it began.
 pub fn yes_means_linear()
     ensures { YesMeansLinear }
 {}

@@ -2,8 +2,9 @@
 //! under way between them and whom they hear, whatever is delivered, lost, repeated, halted,
 //! stopped or added.
 //!
-//! That what a replica accepted all before it accepted, and what it committed all after it committed, is chain
-//! replication's; that it holds of chains that depend on values, and while configurations overlap, is this project's.
+//! That what a replica accepted all before it accepted, and what it committed all after it
+//! committed, is chain replication's; that it holds of chains that depend on values, and while
+//! configurations overlap, is this project's.
 #![tactic(auto)]
 
 ghost use Rattle.hx_law_chains.specs.Chains.{RunsAnswerCommitted, RunsAssignUpdates, RunsHearNeighbours, RunsHoldParts, RunsKeepOrder, RunsKeepWhatStands, RunsPostsStand, RunsSendParts};

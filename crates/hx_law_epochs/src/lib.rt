@@ -1,8 +1,8 @@
 //! The laws on configurations over all runs: whatever is delivered, lost, repeated, halted,
 //! stopped or added.
 //!
-//! That configurations are numbered and one follows on another is chain replication's; that each has one
-//! change, and waits for nobody, is this project's choice.
+//! That configurations are numbered and one follows on another is chain replication's; that each
+//! has one change, and waits for nobody, is this project's choice.
 #![tactic(auto)]
 
 ghost use Rattle.hx_law_epochs.specs.Epochs.{RunsFollowOn, RunsKeepEpochs, RunsLoseReplicas, RunsNumberEpochs};

@@ -12,14 +12,16 @@ pub fn folds_show_same()
     ensures answers { FoldsAnswerSame }
 {}
 
-/// Folding twice is folding once, and folding commutes with every move that doesn't commit below the floor.
+/// Folding twice is folding once, and folding commutes with every move that doesn't commit below
+/// the floor.
 pub fn moves_fold()
     ensures twice { FoldingTwice }
     ensures moves { MovesFold }
     ensures slot { FoldedIsSlot }
 {}
 
-/// Each step of a slot makes the same moves, posts and notes from the slot without its past, and leaves the same without its past.
+/// Each step of a slot makes the same moves, posts and notes from the slot without its past, and
+/// leaves the same without its past.
 pub fn steps_fold()
     ensures updates { UpdatesFold }
     ensures acks { AcksFold }
@@ -27,7 +29,8 @@ pub fn steps_fold()
     ensures adopting { AdoptingFolds }
 {}
 
-/// A server whose slots have no past makes the same posts and notes, and folded at each entry it is the server of the trace, folded.
+/// A server whose slots have no past makes the same posts and notes, and folded at each entry it is
+/// the server of the trace, folded.
 pub fn servers_fold()
     ensures steps { ServersFold }
     ensures stay { ServersStay }
@@ -35,19 +38,22 @@ pub fn servers_fold()
     ensures sound { SoundMessagesFit }
 {}
 
-/// What a slot without a past shows, answers and does is that of each slot of whole lists for which it stands.
+/// What a slot without a past shows, answers and does is that of each slot of whole lists for which
+/// it stands.
 pub fn lean_slots_stand()
     ensures { LeanSlotsStand }
 {}
 
-/// What code without a past has to do: an offer leaves no past, and a commit takes the lowest pending updates over the base.
+/// What code without a past has to do: an offer leaves no past, and a commit takes the lowest
+/// pending updates over the base.
 pub fn slots_without_past()
     ensures offers { OffersStayBare }
     ensures commits { CommitsFold }
     ensures joined { FoldsJoin }
 {}
 
-/// A base with a list on it shows the folds of the line; a snapshot with its pending updates stands for its sender's slots without their past, and a joiner takes them so.
+/// A base with a list on it shows the folds of the line; a snapshot with its pending updates stands
+/// for its sender's slots without their past, and a joiner takes them so.
 pub fn bases_fold()
     ensures lines { PrefixesShowLine }
     ensures prefixes { PrefixesFold }

@@ -10,8 +10,8 @@
 //! `read_op` reads it and `print_op` writes it, and [`bundle_prints_are_read_back`] of a bundle, as
 //! `read_bundle` reads it and `print_bundle` writes it.
 //!
-//! What the language can say is told in `specs/Sayable.antt` and `specs/SayableBundles.antt`. A text
-//! with a control character other than newline and tab is printed as it is, and no line of the
+//! What the language can say is told in `specs/Sayable.antt` and `specs/SayableBundles.antt`. A
+//! text with a control character other than newline and tab is printed as it is, and no line of the
 //! language has it; nor has one a step of an actor that isn't there, or a post of an entry past the
 //! numbers of 64 bits. A script or a bundle that was read has none of these.
 #![tactic(auto)]

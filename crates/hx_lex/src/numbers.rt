@@ -14,7 +14,8 @@ fn digits_len(bytes: &[u8]) -> usize
     bytes.iter().take_while(|b| b.is_ascii_digit()).count()
 }
 
-/// The number that decimal digits spell, the highest first, or `None` where it has more than 64 bits. No digits spell 0.
+/// The number that decimal digits spell, the highest first, or `None` where it has more than 64
+/// bits. No digits spell 0.
 #[tactic(auto, using(crate::proofs::Digits::value_grows, crate::proofs::Digits::value_from_drop, crate::proofs::Digits::value_from_end))]
 pub fn magnitude(digits: &[u8]) -> Option<u64>
     ensures { SomeIff result (value digits.now < 2 ^ 64) (value digits.now) }

@@ -138,8 +138,8 @@ impl Machine {
     }
 }
 
-/// Computes a step of the coordinator. Its plan is large and rare, so it is boxed, in a function of its own: a plan
-/// of any other actor stays small.
+/// Computes a step of the coordinator. Its plan is large and rare, so it is boxed, in a function of
+/// its own: a plan of any other actor stays small.
 #[cold]
 #[inline(never)]
 fn prepare_boxed(

@@ -103,8 +103,8 @@ impl<'a> Mailbox<'a> {
         Ok((made, port))
     }
 
-    /// Puts an envelope under the port's name. It comes back only where the box was full at a moment
-    /// of the call.
+    /// Puts an envelope under the port's name. It comes back only where the box was full at a
+    /// moment of the call.
     pub fn put<R: Wait>(&self, rt: &R, envelope: Envelope, port: &mut Port) -> Result<(), Full>
         requires port { IsPortOf self.now port.old }
         requires addressed { IsAddressed self.now.names envelope }
@@ -121,8 +121,8 @@ impl<'a> Mailbox<'a> {
         }
     }
 
-    /// Takes the oldest envelope under the port's name, with the name under which it was put. `None`
-    /// comes only where the box was empty at a moment of the call.
+    /// Takes the oldest envelope under the port's name, with the name under which it was put.
+    /// `None` comes only where the box was empty at a moment of the call.
     pub fn take<R: Wait>(&self, rt: &R, port: &mut Port) -> Option<Letter>
         requires port { IsPortOf self.now port.old }
         ensures port { IsPortOf self.now port.new }
@@ -132,8 +132,8 @@ impl<'a> Mailbox<'a> {
         self.queue.pop_as::<Take, R>(rt, &mut port.pass)
     }
 
-    /// A port with a new name, of the first port: the number of ports that were split off it before,
-    /// and 1 more.
+    /// A port with a new name, of the first port: the number of ports that were split off it
+    /// before, and 1 more.
     pub fn split<R: Wait>(&self, rt: &R, port: &mut Port) -> Result<Port, Memory>
         requires port { IsPortOf self.now port.old }
         requires first { (n : ℕ) × (port.old.view.splits ≡ Some n) × (n < 4294967295) }

@@ -27,7 +27,8 @@ impl Drop for Port {
 }
 
 impl Port {
-    /// What the port may do at its box, and what it knows. One of which ports were split off carries the name 0.
+    /// What the port may do at its box, and what it knows. One of which ports were split off
+    /// carries the name 0.
     pub(crate) fn into_pass(self) -> Pass<Letter, PortView>
         ensures queue { (result.table_id ≡ self.queue) × (result.me.1 ≡ []) }
         ensures view { result.me.0.client ≡ self.view }

@@ -101,9 +101,9 @@ fn legend(svg: &mut String) -> Result<(), AllocError> {
     Ok(())
 }
 
-/// The configurations: the first one's band behind all, the name of each later one at the entry that
-/// issues it, and for each actor a band from the entry at which it adopts one. So it shows who works
-/// in which epoch side by side with others.
+/// The configurations: the first one's band behind all, the name of each later one at the entry
+/// that issues it, and for each actor a band from the entry at which it adopts one. So it shows who
+/// works in which epoch side by side with others.
 fn epochs(svg: &mut String, run: &Run) -> Result<(), AllocError> {
     let wide = width(run.actors.names().len());
     band(svg, run, 1, 1, (0, wide))?;

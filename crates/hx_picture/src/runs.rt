@@ -65,8 +65,8 @@ impl<'a> Run<'a> {
     }
 }
 
-/// Reads a report with its trace: the runs of its spaces, in their order. They have to have entries,
-/// and not too many of them.
+/// Reads a report with its trace: the runs of its spaces, in their order. They have to have
+/// entries, and not too many of them.
 pub fn read_runs(alloc: Global, text: &str) -> Result<Vec<Run<'_>>, PictureError> {
     let runs = read_lines(alloc, text)?;
     let mut entries = 0_usize;
@@ -94,8 +94,8 @@ fn read_lines(alloc: Global, text: &str) -> Result<Vec<Run<'_>>, PictureError> {
     Ok(runs)
 }
 
-/// Reads one line of a report. The first has to be a report's, and calls, entries and posts are those
-/// of the space before them; all other lines are passed over.
+/// Reads one line of a report. The first has to be a report's, and calls, entries and posts are
+/// those of the space before them; all other lines are passed over.
 fn read_line<'a>(
     alloc: Global,
     runs: &mut Vec<Run<'a>>,

@@ -1,6 +1,7 @@
 use std::alloc::AllocError;
 
-/// Adds a text with the characters escaped that mean something in SVG, cut after so many characters.
+/// Adds a text with the characters escaped that mean something in SVG, cut after so many
+/// characters.
 pub fn push_text(svg: &mut String, text: &str, most: usize) -> Result<(), AllocError> {
     for (number, character) in text.chars().enumerate() {
         if number >= most {

@@ -1,9 +1,9 @@
 //! The plain text of scripts and of their parts, in this project's own script language.
 //!
 //! A part is appended to bytes by its `put_` function, which takes no memory but for them; the
-//! `print` functions give it alone. They fail for want of memory alone, and after that the bytes are
-//! as they were but for what may have been appended. No contract says that there is memory, so the
-//! tests show each call succeed.
+//! `print` functions give it alone. They fail for want of memory alone, and after that the bytes
+//! are as they were but for what may have been appended. No contract says that there is memory, so
+//! the tests show each call succeed.
 #![tactic(auto)]
 
 mod bundles;

@@ -23,7 +23,8 @@ fn put_long(out: &mut Vec<u8>, number: u64) -> Result<(), Memory>
     put_bytes(out, Buffer::new().format(number).as_bytes())
 }
 
-/// Appends a number in decimal. Most have few digits, which are pushed into room that is made first.
+/// Appends a number in decimal. Most have few digits, which are pushed into room that is made
+/// first.
 #[tactic(auto, using(crate::proofs::Prefixes::same, crate::proofs::Prefixes::further))]
 pub fn put_number(out: &mut Vec<u8>, number: u64) -> Result<(), Memory>
     ensures appends { OnOk result (out.new.items ≡ out.old.items ++ decimal number) }

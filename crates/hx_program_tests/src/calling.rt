@@ -88,8 +88,8 @@ fn fates_for<R: Abort + AllocGlobal>(rt: &R, words: &[String]) -> Vec<Box<dyn Fa
     }
 }
 
-/// Makes the call with the words of a line, on a text whose source fails at this read and a sink that
-/// fails at this write, or at none where that is 0: how it ended, and the sink.
+/// Makes the call with the words of a line, on a text whose source fails at this read and a sink
+/// that fails at this write, or at none where that is 0: how it ended, and the sink.
 pub fn call<R: Abort + AllocGlobal + Threads + Wait + Sync>(
     rt: &R,
     line: &str,

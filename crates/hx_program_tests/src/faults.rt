@@ -27,8 +27,8 @@ const ANSWERS: [(&str, &str, &str); 9] = [
     ("audit", TWO_RAN, "audit yes\n"),
 ];
 
-/// Whether the call ends with status 4, with nothing written, whichever read fails: that of a byte, or
-/// the one that finds the end.
+/// Whether the call ends with status 4, with nothing written, whichever read fails: that of a byte,
+/// or the one that finds the end.
 fn ends_at_each_read<R: Abort + AllocGlobal + Threads + Wait + Sync>(
     rt: &R,
     line: &str,

@@ -1,5 +1,5 @@
-//! Tests of the top call on sources and sinks in memory: what each command writes, what it does where any read or
-//! any write fails, what it hands back of threads, and the line of each outcome.
+//! Tests of the top call on sources and sinks in memory: what each command writes, what it does
+//! where any read or any write fails, what it hands back of threads, and the line of each outcome.
 #![tactic(auto)]
 
 #[cfg(test)]

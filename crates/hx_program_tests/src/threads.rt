@@ -9,8 +9,8 @@ const SOAKED: &str =
 /// The status, and how many traces, seats, totals, fates and ports.
 type Handed = (u8, usize, usize, usize, usize, usize);
 
-/// Words, a text, the read at which the source fails, and what is handed back. Two spaces have half of
-/// the threads each, and each its coordinator, its server and its session.
+/// Words, a text, the read at which the source fails, and what is handed back. Two spaces have half
+/// of the threads each, and each its coordinator, its server and its session.
 const HANDED: [(&str, &str, u64, Handed); 8] = [
     ("run --workers 2", PUT_AND_GET, 0, (0, 1, 1, 2, 2, 3)),
     ("run --workers 3", TWO_SPACES, 0, (0, 2, 2, 6, 6, 6)),

@@ -19,8 +19,8 @@ const LIMIT: usize = LONGEST_SCRIPT;
 /// What is written where no clause is broken.
 const YES: &[u8] = b"audit yes\n";
 
-/// Reads the source to its end, judges the report whose text it gives, and writes `audit yes` where no
-/// clause of it is broken.
+/// Reads the source to its end, judges the report whose text it gives, and writes `audit yes` where
+/// no clause of it is broken.
 pub fn audit_source<S: Source, K: Sink>(alloc: Global, source: &mut S, sink: &mut K) -> Outcome
     ensures ends { EndsAudit (drawn S.Source source.old source.new) (filled K.Sink sink.old sink.new) result }
     ensures judged { IfSome (S.left source.old) (λ text. IsAuditJudged text result) }

@@ -38,8 +38,8 @@ fn leave(alloc: Global, bundle: &Bundle, cluster: Cluster<'_>) -> Result<Traces,
     cluster.leave(alloc)
 }
 
-/// Runs a cluster whose bundle's steps were taken by the schedule, until there is nothing left to do
-/// or an actor is worn.
+/// Runs a cluster whose bundle's steps were taken by the schedule, until there is nothing left to
+/// do or an actor is worn.
 fn finish(
     alloc: Global,
     bundle: &Bundle,

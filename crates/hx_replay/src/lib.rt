@@ -1,9 +1,10 @@
-//! What `replay` and `plan` make of a script's text, of one space or several: the words that say them, the replay of
-//! the script's steps and its schedule, the plans of its searches, the bytes of the answer, and how the call ends. And
-//! what `audit` says of a report's text.
+//! What `replay` and `plan` make of a script's text, of one space or several: the words that say
+//! them, the replay of the script's steps and its schedule, the plans of its searches, the bytes of
+//! the answer, and how the call ends. And what `audit` says of a report's text.
 //!
-//! `hyperstore_alone` is the top call without threads. No contract says that there is memory, so a call that always
-//! ended for want of it would be proved: the gate runs the program on scripts whose reports are known.
+//! `hyperstore_alone` is the top call without threads. No contract says that there is memory, so a
+//! call that always ended for want of it would be proved: the gate runs the program on scripts
+//! whose reports are known.
 //!
 //! The schedule and the texts are this project's choice.
 #![tactic(auto)]

@@ -18,8 +18,8 @@ pub enum Outcome {
     /// The words are no command.
     Usage,
     /// The text is no script: its first faulty line, from 1, and what is wrong with it. Or, for the
-    /// reason `Step`: the line of the first step that a replay can't take. Under `audit` the text is no
-    /// report: the first line with which no report begins, and the reason `Order`.
+    /// reason `Step`: the line of the first step that a replay can't take. Under `audit` the text
+    /// is no report: the first line with which no report begins, and the reason `Order`.
     Refused { line: u64, reason: Reason },
     /// The source gave more than 16,777,216 bytes.
     TooLarge,
@@ -32,8 +32,8 @@ pub enum Outcome {
     /// The next entry of a replay is one of this actor, which has made 1,048,576 entries and makes
     /// no more; nothing was written. The limit is this project's choice.
     Worn(Actor),
-    /// The report breaks a clause: the first of all clauses that is broken anywhere, and the lowest line
-    /// at which it is, from 1; nothing was written.
+    /// The report breaks a clause: the first of all clauses that is broken anywhere, and the lowest
+    /// line at which it is, from 1; nothing was written.
     Wrong { line: u64, clause: Clause },
 }
 
@@ -51,7 +51,8 @@ pub struct Written {
 pub enum Ended {
     /// The answer.
     Whole(Written),
-    /// A replay that ended at the step on this line, which can't be taken, and the entries before it.
+    /// A replay that ended at the step on this line, which can't be taken, and the entries before
+    /// it.
     Refused { line: u64, traces: Traces },
     /// A replay that ended where this actor had made all its entries, and the entries up to there.
     Worn { actor: Actor, traces: Traces },
@@ -63,9 +64,9 @@ pub struct Done {
     /// The status with which the process ends.
     pub status: u8,
     pub outcome: Outcome,
-    /// For each space in order the steps of all its actors, up to the worn actor's where the outcome
-    /// is `Worn`, and up to the step that can't be taken where that is refused. Under `plan` each is
-    /// empty. Where there is no answer else, and under `audit`, there is none.
+    /// For each space in order the steps of all its actors, up to the worn actor's where the
+    /// outcome is `Worn`, and up to the step that can't be taken where that is refused. Under
+    /// `plan` each is empty. Where there is no answer else, and under `audit`, there is none.
     pub traces: Traces,
 }
 
@@ -122,9 +123,9 @@ impl From<AuditError> for Outcome {
     }
 }
 
-/// The status of an outcome: 0 fine, 1 a report that breaks a clause, 2 usage, 3 a text that can't be
-/// run or is no report, 4 and 5 a fault of reading or writing, 6 want of memory, 7 an actor that has
-/// made 1,048,576 entries. The numbers are this project's choice.
+/// The status of an outcome: 0 fine, 1 a report that breaks a clause, 2 usage, 3 a text that can't
+/// be run or is no report, 4 and 5 a fault of reading or writing, 6 want of memory, 7 an actor that
+/// has made 1,048,576 entries. The numbers are this project's choice.
 pub fn status(outcome: Outcome) -> u8
     ensures { result ≡ status_of outcome }
 {

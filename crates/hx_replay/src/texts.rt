@@ -63,8 +63,8 @@ fn read_one(alloc: Global, text: &[u8]) -> Result<Scripted, ScriptError>
     }
 }
 
-/// Why a text is refused that is no script of one space. Only where its first line is whole and says
-/// version 1 is that the reason for which it is none.
+/// Why a text is refused that is no script of one space. Only where its first line is whole and
+/// says version 1 is that the reason for which it is none.
 fn refusal(alloc: Global, text: &[u8]) -> ScriptError
     requires version { version_of text.now ≢ Ok 2 }
     requires refused { (error : ErrorSeen) × (script_of text.now ≡ Err error) }

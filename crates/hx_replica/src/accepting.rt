@@ -15,7 +15,8 @@ use std::alloc::Global;
 
 /// A slot is offered an update above its top, with this place in the region of the context: the
 /// update and each early one whose turn then comes go to the next replica or end here, and what can
-/// be committed is told of. The versions whose chain ends here go into the list, which is empty before.
+/// be committed is told of. The versions whose chain ends here go into the list, which is empty
+/// before.
 #[inline(always)]
 pub fn accepted(
     alloc: Global,
@@ -80,8 +81,8 @@ fn accepted_alone(
     Ok(())
 }
 
-/// What is posted where a slot takes these updates, behind which stands its line; the versions whose
-/// chain ends here go into the list.
+/// What is posted where a slot takes these updates, behind which stands its line; the versions
+/// whose chain ends here go into the list.
 fn take_all(
     alloc: Global,
     context: &SlotContext,

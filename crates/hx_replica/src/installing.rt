@@ -22,8 +22,8 @@ use std::alloc::Global;
 
 /// The store of a replica that installs a snapshot of its region: the slots of the snapshot, each
 /// of which then takes the pending updates of its key, in byte order of keys. The coordinator is
-/// told last, where the replica is listed as not ready. That a joiner is sent both is this project's
-/// choice.
+/// told last, where the replica is listed as not ready. That a joiner is sent both is this
+/// project's choice.
 pub fn installed(
     alloc: Global,
     context: &SlotContext,

@@ -1,7 +1,8 @@
 //! A server: its replicas of the regions that it holds, and its step for each input.
 //!
-//! Replicas, chains and the turn of an update are those of chain replication, and chains that depend on
-//! values HyperDex's; whom a server hears while configurations overlap is this project's choice.
+//! Replicas, chains and the turn of an update are those of chain replication, and chains that
+//! depend on values HyperDex's; whom a server hears while configurations overlap is this project's
+//! choice.
 #![tactic(auto)]
 
 mod accepting;

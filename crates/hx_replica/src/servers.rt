@@ -133,12 +133,12 @@ impl Server {
         })
     }
 
-    /// Computes the step that this input makes, and takes all memory that it needs. Nothing but
-    /// the room for further updates changes, and none falls. What the server posts names only the
-    /// coordinator and actors that its configuration, its slots or the input name. Where all that the
-    /// server holds and the post that it gets are of the space, exist and have no epoch and no version
-    /// above a bound, that is so of what it posts, and no epoch and no version of it is above the bound
-    /// by more than 1. On an error the input is dropped.
+    /// Computes the step that this input makes, and takes all memory that it needs. Nothing but the
+    /// room for further updates changes, and none falls. What the server posts names only the
+    /// coordinator and actors that its configuration, its slots or the input name. Where all that
+    /// the server holds and the post that it gets are of the space, exist and have no epoch and no
+    /// version above a bound, that is so of what it posts, and no epoch and no version of it is
+    /// above the bound by more than 1. On an error the input is dropped.
     pub fn prepare(&mut self, alloc: Global, input: Input) -> Result<Plan, Memory>
         requires { CanTake self.old.space self.old.state input }
         ensures plan { IfOk result (IsPlanOn self.new) }
@@ -403,9 +403,10 @@ impl Server {
     }
 
     /// Makes a prepared step, and gives its entry. It takes no memory. Where all that the server
-    /// holds and the post that it got are of the space, exist and have no epoch and no version above
-    /// a bound, that is so of what it then holds, with a bound higher by 1. Room is used by the slot
-    /// that accepts an update, and given up by a replica that joins or that the server has no more.
+    /// holds and the post that it got are of the space, exist and have no epoch and no version
+    /// above a bound, that is so of what it then holds, with a bound higher by 1. Room is used by
+    /// the slot that accepts an update, and given up by a replica that joins or that the server has
+    /// no more.
     pub fn apply(&mut self, plan: Plan) -> Entry
         requires { IsPlanOn self.old plan }
         ensures entry { result ≡ plan.entry }
@@ -574,9 +575,9 @@ impl Server {
         Ok(Change::Adopt { config, replicas })
     }
 
-    /// A replica that isn't installed and hears a snapshot installs it with its pending updates. The
-    /// coordinator is told that the replica has joined, now or before, where it is listed as not
-    /// ready. A snapshot that isn't heard is dropped.
+    /// A replica that isn't installed and hears a snapshot installs it with its pending updates.
+    /// The coordinator is told that the replica has joined, now or before, where it is listed as
+    /// not ready. A snapshot that isn't heard is dropped.
     #[cold]
     #[inline(never)]
     fn on_snapshot(
@@ -619,8 +620,8 @@ impl Server {
         Ok(Change::Join { number, replica })
     }
 
-    /// A search of a region is answered where this server is a ready member of it. All of the server
-    /// stays: only the index of the region's store is brought up to date.
+    /// A search of a region is answered where this server is a ready member of it. All of the
+    /// server stays: only the index of the region's store is brought up to date.
     #[inline(never)]
     fn on_ask(
         &mut self,

@@ -84,8 +84,8 @@ pub fn line_of<'a>(
     Ok(line)
 }
 
-/// Each pending update goes to the next replica of its chain, the lowest version first; the versions
-/// of those whose chain ends here are added.
+/// Each pending update goes to the next replica of its chain, the lowest version first; the
+/// versions of those whose chain ends here are added.
 pub fn post_pending(
     alloc: Global,
     context: &SlotContext,

@@ -229,8 +229,8 @@ fn accept(
     })
 }
 
-/// Whether an acknowledgement is heard: its version is pending, and it is heard for the pending update
-/// of that version. What can then be committed is told of.
+/// Whether an acknowledgement is heard: its version is pending, and it is heard for the pending
+/// update of that version. What can then be committed is told of.
 #[inline(always)]
 pub fn settle(
     alloc: Global,

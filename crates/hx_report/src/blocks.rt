@@ -17,7 +17,8 @@ use hx_trace::Trace;
 use hx_types::{Memory, Script, Totals};
 use std::alloc::Global;
 
-/// Appends the lines behind the epochs: those of the trace where they are wanted, and of the drivers.
+/// Appends the lines behind the epochs: those of the trace where they are wanted, and of the
+/// drivers.
 fn put_rest(
     out: &mut Vec<u8>,
     trace: &Trace,
@@ -31,9 +32,9 @@ fn put_rest(
     put_drivers(out, totals)
 }
 
-/// Appends the lines of a space, as a trace of its script has them: those of the space, of each begun
-/// call with its answer, of each key's history, of each epoch, exactly with `with_trace` of each entry
-/// and post, and of each driver that took part.
+/// Appends the lines of a space, as a trace of its script has them: those of the space, of each
+/// begun call with its answer, of each key's history, of each epoch, exactly with `with_trace` of
+/// each entry and post, and of each driver that took part.
 #[tactic(auto, unfolding(crate::specs::BundleReporting::block_text))]
 pub fn put_block(
     alloc: Global,

@@ -41,8 +41,8 @@ fn put_blocks(
 }
 
 /// The report of a bundle, of which each space has a trace of its script and the totals of its own
-/// drivers: `report 2`, for each space in order the lines that [`report`](crate::report) has between
-/// its first and its last, and `end`. Entries are numbered in their space alone.
+/// drivers: `report 2`, for each space in order the lines that [`report`](crate::report) has
+/// between its first and its last, and `end`. Entries are numbered in their space alone.
 ///
 /// # Errors
 ///

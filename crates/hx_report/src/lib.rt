@@ -1,5 +1,5 @@
-//! The report of a trace: its space, its calls, the histories of its keys, its epochs, where they are
-//! wanted its entries and posts, and what each driver of a run did with posts.
+//! The report of a trace: its space, its calls, the histories of its keys, its epochs, where they
+//! are wanted its entries and posts, and what each driver of a run did with posts.
 //!
 //! The format is this project's choice. The functions fail for want of memory alone; no contract
 //! says that there is memory, so the test shows a whole report being made.
@@ -35,8 +35,8 @@ pub use objects::put_object;
 use std::alloc::Global;
 
 /// The report of a trace of the script: the lines of the space, of each begun call with its answer,
-/// of each key's history, of each epoch, exactly with `with_trace` of each entry and post, and of each
-/// driver that took part.
+/// of each key's history, of each epoch, exactly with `with_trace` of each entry and post, and of
+/// each driver that took part.
 ///
 /// # Errors
 ///

@@ -9,8 +9,8 @@
 //! [`print_report`] gives the text. [`read_report`] reads it line by line: it takes each line apart
 //! loosely, texts and values by the reader of calls, prints what it found, and keeps it where that
 //! is the line. So what is read has exactly the text (`ok`), and a text that no report has is never
-//! read (`total`). A text is refused only where no report has it, and at the first line at which the
-//! lines so far begin no report's text, or at the one after the last (`unread` and
+//! read (`total`). A text is refused only where no report has it, and at the first line at which
+//! the lines so far begin no report's text, or at the one after the last (`unread` and
 //! `specs/Unread.antt`).
 //!
 //! No contract says that there is memory, so functions that always answered `Memory` would be

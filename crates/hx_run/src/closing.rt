@@ -15,8 +15,8 @@ use hx_types::{Memory, Totals};
 use std::alloc::Global;
 use std::sync::Wait;
 
-/// What is left of drivers: the parts of their actors, their totals and fates in order, and the first
-/// ports of all boxes in the order of actors.
+/// What is left of drivers: the parts of their actors, their totals and fates in order, and the
+/// first ports of all boxes in the order of actors.
 #[derive(Drop)]
 pub struct Left {
     pub actors: Vec<SeatedPart>,
@@ -84,8 +84,8 @@ fn take_crew(
     Ok(())
 }
 
-/// Drivers taken apart: their actors' parts and ports in the order of drivers, their own ports, totals
-/// and fates.
+/// Drivers taken apart: their actors' parts and ports in the order of drivers, their own ports,
+/// totals and fates.
 #[derive(Drop)]
 struct Apart {
     actors: Vec<SeatedPart>,

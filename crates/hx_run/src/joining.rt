@@ -108,9 +108,9 @@ fn join_next<R: Wait>(
     }
 }
 
-/// Joins the ports of all drivers into the first ports of the boxes. Then each first port knows that,
-/// of what each driver put for its actor, what was taken is, in order, a prefix, and that no put was
-/// taken twice.
+/// Joins the ports of all drivers into the first ports of the boxes. Then each first port knows
+/// that, of what each driver put for its actor, what was taken is, in order, a prefix, and that no
+/// put was taken twice.
 pub fn join_all<R: Wait>(
     rt: &R,
     script: &Script,

@@ -23,7 +23,8 @@ fn has_heard(script: &Script, crew: &Crew, desk: &Desk) -> bool
     desk.heard[name] == crew.out.sent[place]
 }
 
-/// Whether as many envelopes of each driver's name were taken for an actor as that driver put for it.
+/// Whether as many envelopes of each driver's name were taken for an actor as that driver put for
+/// it.
 fn has_heard_all(script: &Script, drivers: &[Driver], desk: &Desk) -> bool
     ensures yes { result ≡ true → AllByRecursion (λ d. HasHeard script.now desk.now d.crew) drivers.now }
     ensures no { AllByRecursion (λ d. HasHeard script.now desk.now d.crew) drivers.now → result ≡ true }
@@ -36,8 +37,8 @@ fn has_heard_all(script: &Script, drivers: &[Driver], desk: &Desk) -> bool
     true
 }
 
-/// Whether nothing is kept for an actor, it is no session that can begin its next call, and all that
-/// was put for it was taken.
+/// Whether nothing is kept for an actor, it is no session that can begin its next call, and all
+/// that was put for it was taken.
 fn is_rested(script: &Script, drivers: &[Driver], desk: &Desk) -> bool
     requires machine { HasMachine script.now desk.now }
     ensures yes { result ≡ true → IsRested script.now (map (λ d. d.crew) drivers.now) desk.now }

@@ -23,12 +23,12 @@ use std::alloc::Global;
 use std::sync::Wait;
 use std::thread::Threads;
 
-/// What drivers made of a script: the trace, and the clock's seat, which shows that its entries stand in
-/// the order of the stamps that they drew; for each driver in order the totals of its posts, and its
-/// fate; for each actor in order the first port of its box, which carries the names of all its ports.
-/// And the actor, if one ended the run, that had made all the entries that it may make and had one more
-/// to make: for each driver in order the one that it met, if any, and of these the one of the lowest
-/// driver.
+/// What drivers made of a script: the trace, and the clock's seat, which shows that its entries
+/// stand in the order of the stamps that they drew; for each driver in order the totals of its
+/// posts, and its fate; for each actor in order the first port of its box, which carries the names
+/// of all its ports. And the actor, if one ended the run, that had made all the entries that it may
+/// make and had one more to make: for each driver in order the one that it met, if any, and of
+/// these the one of the lowest driver.
 #[derive(Drop)]
 pub struct Ran {
     pub trace: Trace,
@@ -61,8 +61,8 @@ fn met_worn(alloc: Global, drivers: &[Driver]) -> Result<Vec<Option<Actor>>, Mem
     Ok(met)
 }
 
-/// What is left of drivers, the fault of the lowest driver that has one, and the actors that drivers met
-/// worn.
+/// What is left of drivers, the fault of the lowest driver that has one, and the actors that
+/// drivers met worn.
 #[derive(Drop)]
 struct Driven {
     left: Left,
@@ -70,7 +70,8 @@ struct Driven {
     met_worn: Vec<Option<Actor>>,
 }
 
-/// Opens the boxes, deals the actors out, moves them until their rounds are over, and joins the ports.
+/// Opens the boxes, deals the actors out, moves them until their rounds are over, and joins the
+/// ports.
 fn run_drivers<R: Threads + Wait + Sync, G: Gate + Sync>(
     rt: &R,
     alloc: Global,
@@ -120,10 +121,11 @@ fn worn_by(fault: Option<Fault>) -> Result<Option<Actor>, Memory>
     }
 }
 
-/// Runs the actors of a script on so many threads (1 to 16) over mailboxes of so many places. Actor i,
-/// in the order coordinator, servers, sessions, belongs to driver i modulo the number of drivers. Driver
-/// i has the i-th fate that is handed in; those that no driver has are dropped. What the actors hold at the end is not
-/// given back: it is left to the system, which takes less time where the process ends soon after, as it does here.
+/// Runs the actors of a script on so many threads (1 to 16) over mailboxes of so many places. Actor
+/// i, in the order coordinator, servers, sessions, belongs to driver i modulo the number of
+/// drivers. Driver i has the i-th fate that is handed in; those that no driver has are dropped.
+/// What the actors hold at the end is not given back: it is left to the system, which takes less
+/// time where the process ends soon after, as it does here.
 ///
 /// # Errors
 ///

@@ -9,7 +9,8 @@ use hx_types::Actor;
 /// Two servers and no session.
 const TWO_SERVERS: &str = "hx 1\nspace n\nkey k 1\nservers 2\ntolerate 0\n";
 
-/// How many actors the driver at a place has, whether the coordinator is among them, and how many ports it has.
+/// How many actors the driver at a place has, whether the coordinator is among them, and how many
+/// ports it has.
 fn crew_of(drivers: &[Driver], place: usize) -> Option<(usize, bool, usize)> {
     let crew = &drivers.get(place)?.crew;
     let mut desks = crew.desks.iter();

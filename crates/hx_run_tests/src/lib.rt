@@ -1,7 +1,7 @@
-//! Tests of runs on several threads: whatever is lost and however small the boxes are, every call is
-//! answered and every history legal; each post that may be lost is chosen about once, and a fate is
-//! dropped once; drivers overlap; actors are dealt to drivers; a session that asks in vain is worn; and what
-//! a load adds up to.
+//! Tests of runs on several threads: whatever is lost and however small the boxes are, every call
+//! is answered and every history legal; each post that may be lost is chosen about once, and a fate
+//! is dropped once; drivers overlap; actors are dealt to drivers; a session that asks in vain is
+//! worn; and what a load adds up to.
 #![tactic(auto)]
 
 #[cfg(test)]

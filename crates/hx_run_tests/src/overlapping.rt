@@ -1,5 +1,5 @@
-//! Drivers overlap: a gate holds two servers, each until the other's thread has come so far, which only
-//! two threads at once can do.
+//! Drivers overlap: a gate holds two servers, each until the other's thread has come so far, which
+//! only two threads at once can do.
 ghost use Rattle.std.specs.Prelude.{◌≤◌};
 
 use crate::running::{answers, boxed};
@@ -49,7 +49,8 @@ impl Hold {
         self.gave_up.fetch_add(1, Ordering::SeqCst);
     }
 
-    /// Server 1 goes on once session 2 was seen twice after server 2 went on: its first call was answered.
+    /// Server 1 goes on once session 2 was seen twice after server 2 went on: its first call was
+    /// answered.
     fn hold_first(&self) {
         if self.first_reached.swap(1, Ordering::SeqCst) == 0 {
             self.until(&self.seen, 2);

@@ -57,8 +57,8 @@ fn count_answers<R: Abort + AllocGlobal>(rt: &R, script: &Script, ran: &Ran) -> 
     count
 }
 
-/// How many calls are answered where the script is run on so many threads over boxes of so many places,
-/// and `None` where a history isn't legal or an actor is worn.
+/// How many calls are answered where the script is run on so many threads over boxes of so many
+/// places, and `None` where a history isn't legal or an actor is worn.
 pub fn answers<R: Abort + AllocGlobal + Threads + Wait + Sync, G: Gate + Sync>(
     rt: &R,
     text: &str,

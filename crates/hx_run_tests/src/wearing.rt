@@ -1,4 +1,5 @@
-//! A session whose every message is lost asks again until it has made all the entries that it may make.
+//! A session whose every message is lost asks again until it has made all the entries that it may
+//! make.
 ghost use Rattle.std.specs.Prelude.{◌≡◌, length};
 
 use crate::running::{boxed, script_of};

@@ -28,15 +28,15 @@
 //! | `deliver I.I` | the entry and place of a post |
 //! | `tick A`, `halt A` | |
 //!
-//! Each attribute stands at most once in each group of assignments, tests, terms, edits or axes. Lines end
-//! with a newline, the last may lack it. A line without tokens is skipped, but counted.
+//! Each attribute stands at most once in each group of assignments, tests, terms, edits or axes.
+//! Lines end with a newline, the last may lack it. A line without tokens is skipped, but counted.
 //!
 //! The first faulty line is refused. In it a fault of the tokens comes first; then the tokens are
 //! taken from left to right, and at each the first [`Reason`] in the order Order, Unknown, Twice,
 //! TypeOf, Bounds, Limit counts. A count that is full already is Limit at the line's first word.
-//! `specs/Grammar.antt` and the files below it say the same, a definition for each line, and [`read`]
-//! gives exactly that. [`scripts_are_valid`] says that each such script is within the limits, and
-//! that each of its calls fits its space.
+//! `specs/Grammar.antt` and the files below it say the same, a definition for each line, and
+//! [`read`] gives exactly that. [`scripts_are_valid`] says that each such script is within the
+//! limits, and that each of its calls fits its space.
 //!
 //! A script of several spaces begins with `hx 2`, and its lines come in another order: `servers I`,
 //! `tolerate I`, then 1 to 8 spaces, each with its lines `space N`, `key N I`, attributes and
@@ -44,8 +44,8 @@
 //! the first word, as in `put books "a" year=1999` or `deliver books 1.0`. Names of spaces differ.
 //! The limits of sessions, calls and steps hold of all spaces together, those of attributes and
 //! regions of each. [`read_bundle`] reads both versions, as `specs/BundleTexts.antt` and
-//! `specs/BundleGrammar.antt` define, and [`bundles_are_valid`] says that each such bundle is within
-//! the limits; [`read`] reads the first version alone, and the number 2 is Bounds to it.
+//! `specs/BundleGrammar.antt` define, and [`bundles_are_valid`] says that each such bundle is
+//! within the limits; [`read`] reads the first version alone, and the number 2 is Bounds to it.
 //!
 //! [`read_op`] reads one line as a call of a session of a space, by the same definitions
 //! (`specs/LoneCalls.antt`); [`calls_are_read_as_in_sessions`] says what a session makes of that

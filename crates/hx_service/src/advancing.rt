@@ -95,8 +95,8 @@ fn advance(
     Ok(true)
 }
 
-/// Makes entries by the schedule and books them, until there is none left or one can't be made. Those that were made
-/// stay.
+/// Makes entries by the schedule and books them, until there is none left or one can't be made.
+/// Those that were made stay.
 pub fn settle(
     alloc: Global,
     world: &mut World,

@@ -61,7 +61,8 @@ fn receipt_for<'a>(
     }
 }
 
-/// Submits a call of a session that is free, makes entries until nothing is left to do, and finds the receipt.
+/// Submits a call of a session that is free, makes entries until nothing is left to do, and finds
+/// the receipt.
 pub fn make_call(
     alloc: Global,
     world: &mut World,

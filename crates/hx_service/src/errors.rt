@@ -4,7 +4,8 @@ ghost use Rattle.hx_service.specs.declared.errors.ServiceError.TheVariants as an
 use hx_types::{Actor, Memory};
 use hx_world::DrainError;
 
-/// Why a call has no receipt. The entries that were made stay, and so does the call, once it was submitted.
+/// Why a call has no receipt. The entries that were made stay, and so does the call, once it was
+/// submitted.
 #[derive(Clone, Copy)]
 pub enum ServiceError {
     /// There was no memory for the call, for an entry or for the receipt.
@@ -13,8 +14,8 @@ pub enum ServiceError {
     Full,
     /// The next entry is one of this actor, which has made 1,048,576 entries and makes no more.
     Worn(Actor),
-    /// Nothing is left to do, and the call of this number hasn't ended. It may end later, when another call moves the
-    /// world on.
+    /// Nothing is left to do, and the call of this number hasn't ended. It may end later, when
+    /// another call moves the world on.
     Unanswered { number: u32 },
 }
 

@@ -13,14 +13,15 @@ use hx_types::{Answer, Assigns, Exact, Op, SessionId, Terms};
 use std::alloc::Global;
 
 impl Service {
-    /// Searches, and then makes for each row in order a conditional put of these assignments, whose tests are all that
-    /// the row's object has: so an object is written only while it is what the search found. The puts that are
-    /// answered done are counted, and all others. A search that is refused has no rows.
+    /// Searches, and then makes for each row in order a conditional put of these assignments, whose
+    /// tests are all that the row's object has: so an object is written only while it is what the
+    /// search found. The puts that are answered done are counted, and all others. A search that is
+    /// refused has no rows.
     ///
     /// # Errors
     ///
-    /// Those of [`Service::call`], of the first call that has no receipt: none is made after it. What was done stays,
-    /// and has its receipts. [`ServiceError::Full`] may come in the midst.
+    /// Those of [`Service::call`], of the first call that has no receipt: none is made after it.
+    /// What was done stays, and has its receipts. [`ServiceError::Full`] may come in the midst.
     pub fn group(
         &mut self,
         alloc: Global,

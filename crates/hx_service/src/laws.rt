@@ -1,7 +1,7 @@
 ghost use Rattle.hx_service.specs.Laws.{FreeSessionsRest, RunsAreBooked, RunsShowProgress};
 
-/// In every run each receipt is its call's record, those of a session are of its calls 1, 2, 3 and so on up to the last
-/// that ended, and each call that ended has one.
+/// In every run each receipt is its call's record, those of a session are of its calls 1, 2, 3 and
+/// so on up to the last that ended, and each call that ended has one.
 pub fn runs_are_booked()
     ensures { RunsAreBooked }
 {}

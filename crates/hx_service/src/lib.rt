@@ -1,8 +1,8 @@
 //! A store that one program calls.
 //!
-//! A [`Service`] owns a world. Each call makes its entries at once, by the schedule, and answers with a
-//! receipt; its trace is a run of the script with the calls that were made. Behind a lock, threads share
-//! it: a [`Roster`] hands out the calls of a plan.
+//! A [`Service`] owns a world. Each call makes its entries at once, by the schedule, and answers
+//! with a receipt; its trace is a run of the script with the calls that were made. Behind a lock,
+//! threads share it: a [`Roster`] hands out the calls of a plan.
 //!
 //! Receipts, and conditional puts over the rows of a search, are this project's choice.
 #![tactic(auto)]

@@ -13,7 +13,8 @@ use crate::services::Service;
 use hx_types::{Answer, Assign, Assigns, Exact, Memory, Object, Op, Row, SessionId, Shared};
 use std::alloc::Global;
 
-/// Of how many objects a group's put was done, and how many it left as they were found or let be for another reason.
+/// Of how many objects a group's put was done, and how many it left as they were found or let be
+/// for another reason.
 #[derive(Clone, Copy)]
 pub struct Grouped {
     /// How many puts were answered done.

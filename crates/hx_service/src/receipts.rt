@@ -8,8 +8,8 @@ use hx_types::{Answer, Caller, Exact, Memory, Note, Version};
 use std::alloc::Global;
 use std::marker::Model;
 
-/// That a call has ended: which entry of the trace began it, which one noted its end, and how. The version is that of
-/// the update or of the object that the answer tells of, or 0.
+/// That a call has ended: which entry of the trace began it, which one noted its end, and how. The
+/// version is that of the update or of the object that the answer tells of, or 0.
 #[derive(Clone)]
 pub struct Receipt {
     pub caller: Caller,

@@ -21,7 +21,8 @@ use hx_world::DrainError;
 use std::alloc::Global;
 use std::marker::{Brand, Model, PhantomData};
 
-/// Names one script: what stands under a lock is known by its type alone, so the type names the script.
+/// Names one script: what stands under a lock is known by its type alone, so the type names the
+/// script.
 pub trait Charter {
     ghost use Rattle.hx_types.specs.declared.traces.Script.{Script};
 
@@ -34,8 +35,8 @@ impl Charter for Brand {
     ghost script = { record { space = record { name = []; key_name = []; key_parts = 0; attributes = []; subspaces = []; servers = 0; tolerate = 0 }; sessions = []; steps = [] } };
 }
 
-/// A service that makes the calls of a plan: the script that its type names. Contracts see the service. The calls that
-/// were submitted for each session are the first that the plan has for it.
+/// A service that makes the calls of a plan: the script that its type names. Contracts see the
+/// service. The calls that were submitted for each session are the first that the plan has for it.
 #[derive(Drop)]
 pub struct Roster<C: Charter> {
     service: Service,
@@ -98,8 +99,8 @@ impl<C: Charter> Roster<C> {
         service
     }
 
-    /// Makes the next call that the plan has for a session. `None` exactly where none is left, or a call of the session
-    /// hasn't ended; then nothing changes.
+    /// Makes the next call that the plan has for a session. `None` exactly where none is left, or a
+    /// call of the session hasn't ended; then nothing changes.
     ///
     /// # Errors
     ///

@@ -28,13 +28,15 @@ use hx_world::{DrainError, World};
 use std::alloc::Global;
 use std::marker::Model;
 
-/// A store that one program calls: each call is submitted to a session that is free, and then entries are made until
-/// nothing is left to do. Contracts see the script with the calls that were submitted, and the trace.
+/// A store that one program calls: each call is submitted to a session that is free, and then
+/// entries are made until nothing is left to do. Contracts see the script with the calls that were
+/// submitted, and the trace.
 ///
-/// Whoever holds a service knows that its trace is a run of its script that begins calls and delivers each post at
-/// most once, and that everything holds of it that holds of every run.
+/// Whoever holds a service knows that its trace is a run of its script that begins calls and
+/// delivers each post at most once, and that everything holds of it that holds of every run.
 ///
-/// A service takes 16,384 calls in its life, of up to 16 sessions, and an actor makes 1,048,576 entries.
+/// A service takes 16,384 calls in its life, of up to 16 sessions, and an actor makes 1,048,576
+/// entries.
 pub struct Service {
     world: World,
     progress: Vec<Progress>,
@@ -92,8 +94,9 @@ impl Service {
         self.world.script()
     }
 
-    /// What was done so far: a run of the script in which each entry begins a call or delivers a post for the first
-    /// time. Histories are linear, searches whole and true, and every answer has its cause.
+    /// What was done so far: a run of the script in which each entry begins a call or delivers a
+    /// post for the first time. Histories are linear, searches whole and true, and every answer has
+    /// its cause.
     pub fn trace(&self) -> &Trace
         ensures trace { result.now ≡ self.now.trace }
         ensures valid { IsScript self.now.script }
@@ -111,7 +114,8 @@ impl Service {
         self.world.trace()
     }
 
-    /// The receipts of the calls that have ended, in the order in which they did: of each exactly one.
+    /// The receipts of the calls that have ended, in the order in which they did: of each exactly
+    /// one.
     pub fn receipts(&self) -> Receipts<'_>
         ensures exact { result ≡ receipts_of (newest self.now) }
         ensures booked { IsBooked self.now.script (newest self.now) }
@@ -159,15 +163,16 @@ impl Service {
         is_free(&self.world, self.progress.as_slice(), session)
     }
 
-    /// Submits a call of a session that is free, makes entries until nothing is left to do, and gives the call's
-    /// receipt.
+    /// Submits a call of a session that is free, makes entries until nothing is left to do, and
+    /// gives the call's receipt.
     ///
     /// # Errors
     ///
-    /// [`ServiceError::Full`] exactly where 16,384 calls were submitted before, and then nothing changes.
-    /// [`ServiceError::Unanswered`] exactly where nothing is left to do and the call hasn't ended.
-    /// [`ServiceError::Worn`] where the next entry is one more of an actor that has made 1,048,576. After
-    /// [`ServiceError::Memory`] the call may be submitted or not. What was made stays in each case.
+    /// [`ServiceError::Full`] exactly where 16,384 calls were submitted before, and then nothing
+    /// changes. [`ServiceError::Unanswered`] exactly where nothing is left to do and the call
+    /// hasn't ended. [`ServiceError::Worn`] where the next entry is one more of an actor that has
+    /// made 1,048,576. After [`ServiceError::Memory`] the call may be submitted or not. What was
+    /// made stays in each case.
     pub fn call(
         &mut self,
         alloc: Global,
@@ -197,8 +202,8 @@ impl Service {
     ///
     /// # Errors
     ///
-    /// Where an entry is left, and there is no memory for it, or it is one more of an actor that has made 1,048,576.
-    /// What was made stays.
+    /// Where an entry is left, and there is no memory for it, or it is one more of an actor that
+    /// has made 1,048,576. What was made stays.
     pub fn settle(&mut self, alloc: Global) -> Result<(), DrainError>
         ensures script { self.new.script ≡ self.old.script }
         ensures quiet { OnOk result (IsQuiet self.new.script (newest self.new)) }

@@ -32,7 +32,8 @@ pub enum CallError {
 /// Why a line has no receipt.
 #[derive(Clone, Copy)]
 pub enum TextError {
-    /// The line is no call of a session of the space, for the reason that the script language gives. Nothing changes.
+    /// The line is no call of a session of the space, for the reason that the script language
+    /// gives. Nothing changes.
     Unread(Reason),
     /// The call has no receipt, or there was no memory to read it.
     Refused(CallError),
@@ -46,8 +47,8 @@ fn has_session(script: &Script, session: SessionId) -> bool
 }
 
 impl Service {
-    /// Makes a call as [`Service::call`] does, whatever the session and the operation: who holds a lock on a service
-    /// can know neither that a session is free nor how many calls were made.
+    /// Makes a call as [`Service::call`] does, whatever the session and the operation: who holds a
+    /// lock on a service can know neither that a session is free nor how many calls were made.
     ///
     /// # Errors
     ///
@@ -82,8 +83,8 @@ impl Service {
     ///
     /// # Errors
     ///
-    /// `Unread` exactly where the line is no call of a session of the space, `Memory` aside; else as
-    /// [`Service::try_call`].
+    /// `Unread` exactly where the line is no call of a session of the space, `Memory` aside; else
+    /// as [`Service::try_call`].
     pub fn call_text(
         &mut self,
         alloc: Global,

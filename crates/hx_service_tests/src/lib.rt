@@ -1,5 +1,5 @@
-//! Tests of services: calls and their receipts, refusals, limits, groups, a report, and a roster; and that a lock on a service
-//! may cross threads.
+//! Tests of services: calls and their receipts, refusals, limits, groups, a report, and a roster;
+//! and that a lock on a service may cross threads.
 #![tactic(auto)]
 
 #[cfg(test)]

@@ -1,4 +1,5 @@
-//! Services that take no more calls: one that has all that it may have, and one whose session is worn.
+//! Services that take no more calls: one that has all that it may have, and one whose session is
+//! worn.
 use crate::scripts::{ONE, service_of};
 use hx_service::{CallError, Service, TextError};
 use hx_types::{Actor, MOST_CALLS, SessionId};
@@ -7,7 +8,8 @@ use std::process::Abort;
 /// One session on a space of 256 regions, each of which answers a search.
 const WIDE: &str = "hx 1\nspace wide\nkey k 256\nservers 1\ntolerate 0\nsession 1\n";
 
-/// How many such searches a session has entries for: each takes 257, for its begin and for 256 answers.
+/// How many such searches a session has entries for: each takes 257, for its begin and for 256
+/// answers.
 const SEARCHES: usize = 4080;
 
 /// Why the only session can't make the call of a line, where it can't.

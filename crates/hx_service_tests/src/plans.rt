@@ -26,7 +26,8 @@ fn next<C: Charter, R: Abort + AllocGlobal>(
     }
 }
 
-/// Makes the calls of a plan of two sessions, of which the first has two, and how many entries they make.
+/// Makes the calls of a plan of two sessions, of which the first has two, and how many entries they
+/// make.
 fn make_all<C: Charter, R: Abort + AllocGlobal>(rt: &R, script: &Script) -> usize
     requires valid { IsScript script.now }
     requires plan { script.now ≡ C.script }

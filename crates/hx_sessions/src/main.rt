@@ -1,7 +1,8 @@
 //! A web shop keeps its table of sessions in a store, and four threads use it at once.
 //!
-//! Each thread logs customers in, notes that one of them was there again, looks for sessions that nobody has used for
-//! long, and drops them. What it prints is the same however the threads take turns.
+//! Each thread logs customers in, notes that one of them was there again, looks for sessions that
+//! nobody has used for long, and drops them. What it prints is the same however the threads take
+//! turns.
 //!
 //! The shop is an example of this project's own.
 #![tactic(auto)]

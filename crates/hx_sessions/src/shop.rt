@@ -5,7 +5,8 @@ use hx_types::{Answer, Exact, Rows, SessionId};
 use std::alloc::Global;
 use std::sync::{Mutex, Wait};
 
-/// A customer's session has a token, tells whose it is and in which minute it was used last. Four clerks are callers.
+/// A customer's session has a token, tells whose it is and in which minute it was used last. Four
+/// clerks are callers.
 pub const SPACE: &[u8] =
     b"hx 1\nspace sessions\nkey token 2\nstring user\nint seen 0 999\nsubspace seen 4\nservers 4\ntolerate 1\nsession 1\nsession 2\nsession 3\nsession 4\n";
 
@@ -24,8 +25,8 @@ impl Clerk {
         Clerk { number, dropped: 0 }
     }
 
-    /// Logs three customers in, notes that one was there again, and drops all sessions that nobody used since minute
-    /// 100, whoever logged them in.
+    /// Logs three customers in, notes that one was there again, and drops all sessions that nobody
+    /// used since minute 100, whoever logged them in.
     pub fn work<R: Wait>(&mut self, rt: &R, alloc: Global, store: &Mutex<Service>) {
         for (customer, minute) in LOGINS.iter().enumerate() {
             self.log_in(rt, alloc, store, customer, *minute);

@@ -46,8 +46,8 @@ fn call_session<C: Charter, G: Gate>(
     Ok(())
 }
 
-/// Makes the calls of the caller's sessions, session after session: of each session s for which s - 1 modulo the number
-/// of callers is the caller's number.
+/// Makes the calls of the caller's sessions, session after session: of each session s for which s -
+/// 1 modulo the number of callers is the caller's number.
 ///
 /// # Errors
 ///

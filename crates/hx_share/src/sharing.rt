@@ -18,18 +18,19 @@ use std::thread::Threads;
 /// The most threads that callers have.
 const MOST_CALLERS: usize = 16;
 
-/// What callers that share a store leave: the trace of all calls, and the actor that ended them, where one had made
-/// 1,048,576 entries and had one more to make.
+/// What callers that share a store leave: the trace of all calls, and the actor that ended them,
+/// where one had made 1,048,576 entries and had one more to make.
 #[derive(Drop)]
 pub struct Shared {
     pub trace: Trace,
     pub worn: Option<Actor>,
 }
 
-/// Makes the calls of a script, one at a time: those of a session in order, and those of different sessions as so many
-/// callers on threads take turns. Caller i, from 0, makes the calls of the sessions s for which s - 1 modulo the number
-/// of callers is i, session after session; before each call it asks the gate, and then takes the lock. Once all callers
-/// have ended, what they left is made here.
+/// Makes the calls of a script, one at a time: those of a session in order, and those of different
+/// sessions as so many callers on threads take turns. Caller i, from 0, makes the calls of the
+/// sessions s for which s - 1 modulo the number of callers is i, session after session; before each
+/// call it asks the gate, and then takes the lock. Once all callers have ended, what they left is
+/// made here.
 ///
 /// # Errors
 ///

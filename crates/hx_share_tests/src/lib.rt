@@ -1,5 +1,5 @@
-//! Tests of callers that share a store: however many they are, every call is answered and every history legal, one
-//! caller makes what a replay makes, and two callers are at work at once.
+//! Tests of callers that share a store: however many they are, every call is answered and every
+//! history legal, one caller makes what a replay makes, and two callers are at work at once.
 #![tactic(auto)]
 
 #[cfg(test)]

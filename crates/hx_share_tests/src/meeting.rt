@@ -1,5 +1,5 @@
-//! Callers overlap: a gate holds the first calls of two sessions, each until the other is about to be made, which only
-//! two callers at once can do.
+//! Callers overlap: a gate holds the first calls of two sessions, each until the other is about to
+//! be made, which only two callers at once can do.
 ghost use Rattle.std.specs.Prelude.{◌≤◌};
 
 use crate::sharing::answers;

@@ -44,8 +44,8 @@ fn count_answers<R: Abort + AllocGlobal>(rt: &R, script: &Script, shared: &Share
     count
 }
 
-/// How many calls are answered where so many callers share a store, and `None` where a history isn't legal or an actor
-/// is worn.
+/// How many calls are answered where so many callers share a store, and `None` where a history
+/// isn't legal or an actor is worn.
 pub fn answers<R: Abort + AllocGlobal + Threads + Wait + Sync, G: Gate + Sync>(
     rt: &R,
     text: &str,

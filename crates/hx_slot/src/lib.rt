@@ -15,9 +15,9 @@
 //!
 //! An update is held, committed, until it can go into the base. At a key region that is where the
 //! base has room for its mark and its touches, which is made with that for the next offer: so a key
-//! that is written once takes no memory for them. Elsewhere it goes there at once, but where a count
-//! of owners is full: what a base holds it shares with the update, and a shared value has at most
-//! 2^63 owners.
+//! that is written once takes no memory for them. Elsewhere it goes there at once, but where a
+//! count of owners is full: what a base holds it shares with the update, and a shared value has at
+//! most 2^63 owners.
 #![tactic(auto)]
 
 mod ack_order;

@@ -104,8 +104,8 @@ impl Slot {
         Slot::over(alloc, region, base, marks)
     }
 
-    /// A slot of a committed state, with nothing pending and no room. Where it keeps no marks, those
-    /// of the state are left out with its touches.
+    /// A slot of a committed state, with nothing pending and no room. Where it keeps no marks,
+    /// those of the state are left out with its touches.
     pub fn of_kept(alloc: Global, region: RegionId, kept: Kept, marks: bool) -> Slot
         requires { IsOrderly kept }
         ensures region { result.region ≡ region }
@@ -224,9 +224,9 @@ impl Slot {
         }))
     }
 
-    /// How many committed updates aren't in the base. There are some only where marks and touches are
-    /// kept, until room was made for them, and where a count of owners was full when they were to go
-    /// there.
+    /// How many committed updates aren't in the base. There are some only where marks and touches
+    /// are kept, until room was made for them, and where a count of owners was full when they were
+    /// to go there.
     pub fn held_count(&self) -> u32
         ensures { result ≡ self.now.held }
     {
@@ -235,7 +235,8 @@ impl Slot {
 
     /// The committed state, or `None` where nothing is committed; all else of the slot is dropped.
     /// The slot comes back exactly where a committed update still can't go into the base, since
-    /// there is no memory for its mark and its touches or a count of owners is full; it is as it was.
+    /// there is no memory for its mark and its touches or a count of owners is full; it is as it
+    /// was.
     pub fn into_kept(mut self) -> Result<Option<Kept>, Slot>
         ensures kept { IfOk result (λ kept. kept ≡ committed_state self.region self.state) }
         ensures orderly { IfOk result (λ kept. IfSome kept IsOrderly) }
@@ -556,8 +557,8 @@ impl Slot {
         count as u32
     }
 
-    /// For how many accepted updates there is to be room beside those that may come: where marks are
-    /// kept, a committed update stays in the list until the next one is committed.
+    /// For how many accepted updates there is to be room beside those that may come: where marks
+    /// are kept, a committed update stays in the list until the next one is committed.
     fn room_beside(&self) -> usize
         ensures { result ≤ 1 }
     {

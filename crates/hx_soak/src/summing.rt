@@ -36,8 +36,8 @@ fn text(
 /// end with an object present, and `digest` with the hash FNV-1a of the lines of these objects in
 /// byte order of keys.
 ///
-/// Of searches those count that ended with rows, and so none that was refused. A sum that overflowed
-/// and a text that was too long have no line, since no call that is drawn is atomic.
+/// Of searches those count that ended with rows, and so none that was refused. A sum that
+/// overflowed and a text that was too long have no line, since no call that is drawn is atomic.
 ///
 /// # Errors
 ///

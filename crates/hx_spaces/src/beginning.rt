@@ -32,8 +32,8 @@ fn is_busy(worlds: &[World], session: SessionId) -> bool
     false
 }
 
-/// The space of the next call of the session of a place, if one is left and none is under way in any
-/// space.
+/// The space of the next call of the session of a place, if one is left and none is under way in
+/// any space.
 pub fn next_space(bundle: &Bundle, worlds: &[World], begun: &[usize], place: usize) -> Option<u32>
     requires seated { IsSeated bundle.now worlds.now }
     requires counted { AreCounted bundle.now (map newest worlds.now) begun.now }

@@ -23,8 +23,8 @@ pub type Traces = Sequence<Trace>;
 /// A world for each space of a bundle, and the order in which all of them made their entries. The
 /// bundle is borrowed.
 ///
-/// HyperDex has a cluster of servers for many spaces, whose configuration all spaces share; that each
-/// space has a coordinator and nodes of its own is this project's choice.
+/// HyperDex has a cluster of servers for many spaces, whose configuration all spaces share; that
+/// each space has a coordinator and nodes of its own is this project's choice.
 pub struct Cluster<'a> {
     bundle: &'a Bundle,
     worlds: Vec<World>,
@@ -94,8 +94,9 @@ impl<'a> Cluster<'a> {
         self.order.as_slice()
     }
 
-    /// The traces by themselves, for a program that is about to end: the memory of the actors is left
-    /// to the system, as [`World::leave`] does. [`Memory`] where there is no room for their list.
+    /// The traces by themselves, for a program that is about to end: the memory of the actors is
+    /// left to the system, as [`World::leave`] does. [`Memory`] where there is no room for their
+    /// list.
     pub fn leave(self, alloc: Global) -> Result<Traces, Memory>
         ensures course { IsCourse self.entry }
         ensures runs { OnOk result (All IsRunOfSpace self.entry.runs) }
@@ -113,8 +114,9 @@ impl<'a> Cluster<'a> {
 
     /// Makes the one entry of a step in its space, as [`World::step`] does, under its condition.
     ///
-    /// A tick that would begin a call is [`StepError::Idle`] also where a call of the session is under
-    /// way in another space, or its next call is to another space. After an error nothing has changed.
+    /// A tick that would begin a call is [`StepError::Idle`] also where a call of the session is
+    /// under way in another space, or its next call is to another space. After an error nothing has
+    /// changed.
     pub fn step(&mut self, alloc: Global, space: u32, step: &Step) -> Result<(), StepError>
         requires { IsStepAt self.old.bundle space step.now }
         ensures bundle { self.new.bundle ≡ self.old.bundle }
@@ -143,16 +145,16 @@ impl<'a> Cluster<'a> {
     }
 
     /// Makes up to n entries by the schedule: always the first delivery of the first space that has
-    /// one, of a post that was never delivered to an actor that hasn't halted; else the begin of the
-    /// next call of the lowest session that has one left and none under way in any space.
+    /// one, of a post that was never delivered to an actor that hasn't halted; else the begin of
+    /// the next call of the lowest session that has one left and none under way in any space.
     ///
-    /// An actor makes at most 1,048,576 entries in each space: [`DrainError::Worn`] comes exactly where
-    /// the next of the n entries is one more of an actor that has made so many in its space.
+    /// An actor makes at most 1,048,576 entries in each space: [`DrainError::Worn`] comes exactly
+    /// where the next of the n entries is one more of an actor that has made so many in its space.
     ///
     /// After an error the entries that were made stay, and the cluster can go on from there. All
     /// spaces together have at most 276,824,064 entries, so a drain of more is never
-    /// [`Drained::Spent`]. That deliveries come before begins and lower spaces before higher ones is
-    /// this project's choice.
+    /// [`Drained::Spent`]. That deliveries come before begins and lower spaces before higher ones
+    /// is this project's choice.
     pub fn drain(&mut self, alloc: Global, n: u64) -> Result<Drained, DrainError>
         ensures bundle { self.new.bundle ≡ self.old.bundle }
         ensures drained { IfOk result (Drains n self.old self.new) }

@@ -8,8 +8,8 @@ ghost use Rattle.hx_spaces.specs.Walks.{DeliversAt, DeliversIn, delivery_at, tur
 use hx_world::{DrainError, World};
 use std::alloc::Global;
 
-/// Makes the first delivery of the first world that has one, and tells which world that is. None before
-/// `first` has one.
+/// Makes the first delivery of the first world that has one, and tells which world that is. None
+/// before `first` has one.
 #[tactic(auto, using(crate::proofs::Deliveries::walked_on, crate::proofs::Deliveries::walked_all, crate::proofs::Deliveries::delivers_from, crate::proofs::Deliveries::fails_from, crate::proofs::Keeping::short_from, crate::proofs::Keeping::short_same))]
 pub fn deliver_first(
     alloc: Global,

@@ -72,7 +72,8 @@ fn take(
     cluster.step(alloc, step.space, &step.step)
 }
 
-/// The place of an answer in the order in which its reasons are tested, or 0 for a step that is taken.
+/// The place of an answer in the order in which its reasons are tested, or 0 for a step that is
+/// taken.
 fn number_of(answer: Result<(), StepError>) -> u32 {
     match answer {
         Ok(()) => 0,

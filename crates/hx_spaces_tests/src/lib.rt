@@ -1,5 +1,5 @@
-//! Tests of several spaces on one thread: the order of their entries, and the steps that are refused for
-//! want of a turn.
+//! Tests of several spaces on one thread: the order of their entries, and the steps that are
+//! refused for want of a turn.
 #![tactic(auto)]
 
 #[cfg(test)]

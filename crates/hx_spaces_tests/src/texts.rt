@@ -19,8 +19,8 @@ pub const OTHER_FIRST: &str =
 pub const OUT_OF_TURN: &str =
     "hx 2\nservers 1\ntolerate 0\nspace one\nkey k 1\nstring v\nspace two\nkey k 1\nint n 0 9\nsession 1\nput one \"a\" v=\"x\"\nput two \"a\" n=5\nget one \"a\"\nsteps\ntick two u1\ntick one u1\ntick two u1\ntick one u1\ndeliver one 1.0\ndeliver one 3.0\ntick one u1\ntick two u1\n";
 
-/// As many spaces as there may be: a session with a call to each, from the last to the first, and one with
-/// a call to the fourth.
+/// As many spaces as there may be: a session with a call to each, from the last to the first, and
+/// one with a call to the fourth.
 pub const EIGHT: &str =
     "hx 2\nservers 1\ntolerate 0\nspace a\nkey k 1\nspace b\nkey k 1\nspace c\nkey k 1\nspace d\nkey k 1\nspace e\nkey k 1\nspace f\nkey k 1\nspace g\nkey k 1\nspace h\nkey k 1\nsession 1\nget h \"x\"\nget g \"x\"\nget f \"x\"\nget e \"x\"\nget d \"x\"\nget c \"x\"\nget b \"x\"\nget a \"x\"\nsession 2\nget d \"x\"\n";
 

@@ -8,8 +8,8 @@ use hx_slot::Slot;
 use hx_types::{Exact, Memory, Row, Snapshot, Updates};
 use std::alloc::Global;
 
-/// A copy of the committed object of a slot, if it keeps one. It takes no memory: there is none only
-/// where a count of owners is full.
+/// A copy of the committed object of a slot, if it keeps one. It takes no memory: there is none
+/// only where a count of owners is full.
 pub fn copy_row(alloc: Global, slot: &Slot) -> Result<Option<Row>, Memory>
     ensures { IfOk result (λ row. row ≡ object_of slot.now.region slot.now.state) }
 {
@@ -23,7 +23,8 @@ pub fn copy_row(alloc: Global, slot: &Slot) -> Result<Option<Row>, Memory>
     }
 }
 
-/// Adds the committed state of a slot, where something is committed. It is one that can be installed.
+/// Adds the committed state of a slot, where something is committed. It is one that can be
+/// installed.
 #[tactic(auto, using(crate::proofs::Reading::all_more))]
 pub fn add_kept(alloc: Global, slot: &Slot, snapshot: &mut Snapshot) -> Result<(), Memory>
     ensures more { OnOk result (snapshot.new ≡ snapshot.old ++ committed_of slot.now) }

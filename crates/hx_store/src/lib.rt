@@ -6,9 +6,9 @@
 //! was made then is part of the store only once a step opens it. Snapshots go through the slots in
 //! byte order of keys.
 //!
-//! Searches go by an index of the committed objects, as in HyperDex. It is brought up to date when a
-//! search asks: a step only marks its slot, a new slot has no place in the index yet, and the next
-//! search takes the objects of both into the index first.
+//! Searches go by an index of the committed objects, as in HyperDex. It is brought up to date when
+//! a search asks: a step only marks its slot, a new slot has no place in the index yet, and the
+//! next search takes the objects of both into the index first.
 //!
 //! That memory suffices no contract says: a test shows it.
 #![tactic(auto)]

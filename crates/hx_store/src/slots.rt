@@ -247,8 +247,8 @@ impl Slots {
         let _ = self.slots[place].settle();
     }
 
-    /// Brings the index up to date. The slots stay; after an error those that it has not reached are
-    /// still marked.
+    /// Brings the index up to date. The slots stay; after an error those that it has not reached
+    /// are still marked.
     pub fn refresh(&mut self, alloc: Global) -> Result<(), Memory>
         ensures entries { self.new.entries ≡ self.old.entries }
         ensures fresh { OnOk result (IsFresh self.new) }
@@ -311,8 +311,8 @@ impl Slots {
         Ok(())
     }
 
-    /// Copies of the committed objects of the slots at these places, one after another. The index is
-    /// up to date.
+    /// Copies of the committed objects of the slots at these places, one after another. The index
+    /// is up to date.
     pub fn rows(&self, alloc: Global, places: &[u32]) -> Result<Rows, Memory>
         requires { IsFresh self.now }
         ensures { IfOk result (λ rows. rows ≡ flat_map (λ i. list_of (rows_in self.now.entries i)) places.now) }

@@ -62,8 +62,8 @@ impl Model for Store {
 }
 
 impl Store {
-    /// The store of a region of a space, of which nothing was heard. Its slots keep marks and touches
-    /// where `marks` says so, as those of key regions do.
+    /// The store of a region of a space, of which nothing was heard. Its slots keep marks and
+    /// touches where `marks` says so, as those of key regions do.
     pub fn new(alloc: Global, space: &Space, region: RegionId, marks: bool) -> Result<Store, Memory>
         requires { length space.now.attributes ≤ MOST_ATTRIBUTES }
         ensures { IfOk result (λ store. store ≡ record { region = region; marks = marks; attributes = length space.now.attributes + 1; states = []; rooms = []; ordered = true }) }
@@ -135,10 +135,10 @@ impl Store {
     }
 
     /// The committed objects of which every term holds, in byte order of their slots' keys: what a
-    /// search finds in the region, as in HyperDex. Where each slot's object is of its key, as in every
-    /// run, that is the order of the objects' own keys too. It goes through the objects that meet the
-    /// term which fewest meet, looks at each once, and counts each look at an object. The store stays,
-    /// whatever comes.
+    /// search finds in the region, as in HyperDex. Where each slot's object is of its key, as in
+    /// every run, that is the order of the objects' own keys too. It goes through the objects that
+    /// meet the term which fewest meet, looks at each once, and counts each look at an object. The
+    /// store stays, whatever comes.
     ///
     /// Its index is brought up to date first, which is not counted: for each slot that came or was
     /// changed since the last search two binary searches in each order whose value is another one.
@@ -194,7 +194,8 @@ impl Store {
         Ok(updates)
     }
 
-    /// Gives a key a place, and makes room for n more updates there. The slots stay, whatever comes.
+    /// Gives a key a place, and makes room for n more updates there. The slots stay, whatever
+    /// comes.
     pub fn reserve(&mut self, alloc: Global, key: &Text, n: u32) -> Result<usize, Memory>
         ensures region { self.new.region ≡ self.old.region }
         ensures marks { self.new.marks ≡ self.old.marks }
@@ -337,8 +338,8 @@ impl Store {
         self.order[i]
     }
 
-    /// The slot at a place forgets which pending updates are acknowledged, and all early updates. It
-    /// takes no memory.
+    /// The slot at a place forgets which pending updates are acknowledged, and all early updates.
+    /// It takes no memory.
     pub fn reset_acks(&mut self, place: usize)
         requires { place < length self.old.rooms }
         ensures region { self.new.region ≡ self.old.region }
@@ -352,8 +353,8 @@ impl Store {
         self.slots.reset_at(place);
     }
 
-    /// A pending version is marked as acknowledged at a place, and nothing is committed. It takes no
-    /// memory.
+    /// A pending version is marked as acknowledged at a place, and nothing is committed. It takes
+    /// no memory.
     pub fn mark(&mut self, place: usize, version: Version)
         requires place { place < length self.old.rooms }
         requires pending { is_pending version.0 (state_at self.old (key_at self.old place)) ≡ true }

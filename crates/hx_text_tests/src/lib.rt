@@ -1,4 +1,5 @@
-//! Tests of scripts, reports, bytes, words, drawn scripts and summaries: a module for each crate that they are of.
+//! Tests of scripts, reports, bytes, words, drawn scripts and summaries: a module for each crate
+//! that they are of.
 #![tactic(auto)]
 
 #[cfg(test)]

@@ -287,7 +287,8 @@ fn refuses_lines_that_are_no_call(rt: HostRuntime) {
     }
 }
 
-/// A head, a text, what is repeated behind it and how often, what stands behind that, and what is wrong.
+/// A head, a text, what is repeated behind it and how often, what stands behind that, and what is
+/// wrong.
 type Long = (
     &'static str,
     &'static str,

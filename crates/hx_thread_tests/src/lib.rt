@@ -1,5 +1,6 @@
-//! Tests of fates, of mailboxes, of what drivers put into them and of what is gathered from several threads: a
-//! module for each crate that they are of, and a run that is gathered from parts made by hand.
+//! Tests of fates, of mailboxes, of what drivers put into them and of what is gathered from several
+//! threads: a module for each crate that they are of, and a run that is gathered from parts made by
+//! hand.
 #![tactic(auto)]
 
 #[cfg(test)]

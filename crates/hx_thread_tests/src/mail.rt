@@ -124,8 +124,8 @@ fn put_two<R: Wait + Abort>(
     (first, put(rt, mailbox, second, port))
 }
 
-/// What a box of one place gives before two envelopes are put at another port, which of them come back,
-/// and what it gives then, in two turns.
+/// What a box of one place gives before two envelopes are put at another port, which of them come
+/// back, and what it gives then, in two turns.
 fn used<R: Wait + Abort>(
     rt: &R,
     alloc: Global,

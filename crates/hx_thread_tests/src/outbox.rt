@@ -56,7 +56,8 @@ fn counts(out: &Outbox, kept: &VecDeque<Envelope>) -> (Option<u64>, usize) {
     (out.sent.get(1).copied(), kept.len())
 }
 
-/// Puts two envelopes, and puts what was kept again: how many were put, and are kept, before and after that.
+/// Puts two envelopes, and puts what was kept again: how many were put, and are kept, before and
+/// after that.
 fn put_two_and_kept<R: Wait + Abort>(
     rt: &R,
     alloc: Global,

@@ -1,7 +1,8 @@
-//! The program `hx`: it reads a script, runs it or plans its searches, and writes what came of it; or judges a report.
+//! The program `hx`: it reads a script, runs it or plans its searches, and writes what came of it;
+//! or judges a report.
 //!
-//! `hx_command::run` says of any source and sinks what the status tells; that the words are those of the process, and
-//! the streams its standard ones, is what `main` adds.
+//! `hx_command::run` says of any source and sinks what the status tells; that the words are those
+//! of the process, and the streams its standard ones, is what `main` adds.
 #![tactic(auto)]
 
 use hx_command::run;

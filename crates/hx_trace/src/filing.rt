@@ -6,7 +6,8 @@ use crate::heads::{Head, Span, Taken};
 use crate::lists::{Lists, count};
 use hx_types::{Actor, Entry, Memory, Note, Notes, Post, Posts};
 
-/// Whether a list of so many items with so many more has at most 4,294,967,295: their places are numbers of 32 bits.
+/// Whether a list of so many items with so many more has at most 4,294,967,295: their places are
+/// numbers of 32 bits.
 #[inline]
 pub fn is_few(items: usize, more: usize) -> bool
     ensures { result ≡ nat_lt (items + more) (2 ^ 32) }
@@ -42,8 +43,8 @@ fn fits<T>(list: &Vec<T>, more: usize) -> bool
     count <= most && more <= most - count
 }
 
-/// Whether there is room already for an entry more with so many posts and notes, in lists without an entry that is
-/// kept whole or was adopted. Most entries find it: the lists grow by doubling.
+/// Whether there is room already for an entry more with so many posts and notes, in lists without
+/// an entry that is kept whole or was adopted. Most entries find it: the lists grow by doubling.
 #[inline(always)]
 pub fn has_room(lists: &Lists, posts: usize, notes: usize) -> bool
     ensures { result ≡ true → HasRoom lists.now posts notes }
@@ -69,8 +70,9 @@ fn reserve_head(lists: &mut Lists) -> Result<(), Memory>
     Ok(())
 }
 
-/// Makes room for an entry more with so many posts and notes, and for it as a whole where some entry is kept whole
-/// or was adopted: else each post has its place among the others, and no delivery is kept whole.
+/// Makes room for an entry more with so many posts and notes, and for it as a whole where some
+/// entry is kept whole or was adopted: else each post has its place among the others, and no
+/// delivery is kept whole.
 #[cold]
 #[inline(never)]
 pub fn reserve(lists: &mut Lists, posts: usize, notes: usize) -> Result<(), Memory>
@@ -141,8 +143,8 @@ pub fn file(lists: &mut Lists, actor: Actor, taken: Taken, outputs: Vec<Post>, n
     lists.heads.push_reserved(head);
 }
 
-/// Puts an entry at the end, whose posts and notes move out of the lists in which they lie. There is room, so it takes
-/// no memory.
+/// Puts an entry at the end, whose posts and notes move out of the lists in which they lie. There
+/// is room, so it takes no memory.
 #[inline(always)]
 pub fn file_from(
     lists: &mut Lists,

@@ -16,9 +16,9 @@ use hx_types::{Actor, Entry, Input, Memory, Message, Notes, Post, PostId, Posts}
 use std::alloc::Global;
 use std::marker::Model;
 
-/// The entries of a trace, which grow at their end. Contracts see them, the posts of those that aren't kept whole one
-/// after another, and how many posts and notes the next entry may have, if there is room for it. Each entry that is put
-/// at the end uses the room up.
+/// The entries of a trace, which grow at their end. Contracts see them, the posts of those that
+/// aren't kept whole one after another, and how many posts and notes the next entry may have, if
+/// there is room for it. Each entry that is put at the end uses the room up.
 pub struct GrowingTrace {
     lists: Lists,
     room: Option<Room>,
@@ -41,8 +41,8 @@ impl Model for GrowingTrace {
     ghost invariant = { λ g. IsGrowing g.lists g.room };
 }
 
-/// What is kept of an input that an actor may take: of a delivery its post's place in the trace. There is `None`
-/// where the post is one of an entry that is kept whole, which has no such place.
+/// What is kept of an input that an actor may take: of a delivery its post's place in the trace.
+/// There is `None` where the post is one of an entry that is kept whole, which has no such place.
 fn taken_of(lists: &Lists, actor: Actor, input: &Input) -> Option<Taken>
     requires whole { AreWhole lists.now }
     requires few_entries { length lists.now.turns.items + length lists.now.heads.items < 2 ^ 32 }
@@ -158,8 +158,9 @@ impl GrowingTrace {
         &self.lists
     }
 
-    /// Makes room for one entry with so many posts and notes. It takes all memory that the entry needs. Where
-    /// there is none, the entries stay all the same. A trace of 4,294,967,295 entries, posts or notes has no room for more.
+    /// Makes room for one entry with so many posts and notes. It takes all memory that the entry
+    /// needs. Where there is none, the entries stay all the same. A trace of 4,294,967,295 entries,
+    /// posts or notes has no room for more.
     #[inline(always)]
     pub fn reserve(&mut self, posts: usize, notes: usize) -> Result<(), Memory>
         ensures entries { self.new.entries ≡ self.old.entries }
@@ -174,8 +175,9 @@ impl GrowingTrace {
         Ok(())
     }
 
-    /// Puts an entry at the end. It takes no memory: of a post that the entry delivers only its name is kept, and
-    /// the message is let go. Where the post is one of an entry that is kept whole, this entry is kept whole too.
+    /// Puts an entry at the end. It takes no memory: of a post that the entry delivers only its
+    /// name is kept, and the message is let go. Where the post is one of an entry that is kept
+    /// whole, this entry is kept whole too.
     pub fn append(&mut self, entry: Entry)
         requires room { IsRoomFor self.old.room (length entry.outputs) (length entry.notes) }
         requires may { MayTake (reverse self.old.entries) entry.actor entry.input }
@@ -199,8 +201,9 @@ impl GrowingTrace {
         }
     }
 
-    /// Where the post of a name lies among the posts of the entries. There is `None` where there is no such post, and
-    /// where it is one of an entry that is kept whole or that was adopted, which lies elsewhere.
+    /// Where the post of a name lies among the posts of the entries. There is `None` where there is
+    /// no such post, and where it is one of an entry that is kept whole or that was adopted, which
+    /// lies elsewhere.
     #[inline(always)]
     pub fn place_of(&self, id: PostId) -> Option<usize>
         ensures { IfSome result (LiesAt self.now id) }
@@ -217,8 +220,9 @@ impl GrowingTrace {
         &self.lists.posts[at]
     }
 
-    /// Puts the delivery of a post of the trace at the end, by the place where the post lies. The posts and notes of
-    /// the entry move out of the lists in which they lie, which keep their room. It takes no memory.
+    /// Puts the delivery of a post of the trace at the end, by the place where the post lies. The
+    /// posts and notes of the entry move out of the lists in which they lie, which keep their room.
+    /// It takes no memory.
     #[inline(always)]
     pub fn append_delivery(
         &mut self,
@@ -245,8 +249,8 @@ impl GrowingTrace {
         file_from(&mut self.lists, actor, taken, outputs, notes);
     }
 
-    /// Puts an entry of an actor's own turn at the end. Its posts and notes move out of the lists in which they lie,
-    /// which keep their room. It takes no memory.
+    /// Puts an entry of an actor's own turn at the end. Its posts and notes move out of the lists
+    /// in which they lie, which keep their room. It takes no memory.
     #[inline(always)]
     pub fn append_tick(&mut self, actor: Actor, outputs: &mut Posts, notes: &mut Notes)
         requires room { IsRoomFor self.old.room (length outputs.old) (length notes.old) }

@@ -7,14 +7,16 @@ pub struct Span {
     pub count: u32,
 }
 
-/// What an actor took, or the whole entry where that is kept. A post of the trace is named and not held once more.
+/// What an actor took, or the whole entry where that is kept. A post of the trace is named and not
+/// held once more.
 #[derive(Clone, Copy)]
 pub enum Taken {
     Tick,
     Halt,
     /// A delivery of a post of the trace; `at` is where it lies among all posts.
     Sent { entry: u32, place: u32, at: u32 },
-    /// An entry that is kept whole; `at` is its place among these. All that the head says besides counts for nothing.
+    /// An entry that is kept whole; `at` is its place among these. All that the head says besides
+    /// counts for nothing.
     Whole { at: u32 },
 }
 

@@ -13,9 +13,10 @@ use hx_clock::{Part, Parts};
 use hx_types::{Entry, Input, Note, Post, PostId};
 use std::alloc::Global;
 
-/// The lists in which a trace lies. First come the entries of adopted parts, which lie where they lay before: each
-/// has its turn, and its stamp counts for nothing. Then come those that were put at the end: each has a head, and the
-/// posts and notes of all lie one after another. Of these, entries that are kept whole lie apart.
+/// The lists in which a trace lies. First come the entries of adopted parts, which lie where they
+/// lay before: each has its turn, and its stamp counts for nothing. Then come those that were put
+/// at the end: each has a head, and the posts and notes of all lie one after another. Of these,
+/// entries that are kept whole lie apart.
 pub struct Lists {
     pub turns: Vec<Turn>,
     pub parts: Vec<Part>,
@@ -213,7 +214,8 @@ fn posts_of<'a>(lists: &'a Lists, head: &Head) -> &'a [Post]
     }
 }
 
-/// The posts of the entry at a place from 0, or `None` past the end. Nothing else of the entry is read.
+/// The posts of the entry at a place from 0, or `None` past the end. Nothing else of the entry is
+/// read.
 #[inline(always)]
 pub fn posts_at(lists: &Lists, place: usize) -> Option<&[Post]>
     requires { AreWhole lists.now }
@@ -239,7 +241,8 @@ pub fn post_at(posts: &[Post], place: u32) -> Option<&Post>
     posts.get(place as usize)
 }
 
-/// Whether there is an entry at a place from 0 and it has notes. Of the entry of a turn it reads nothing.
+/// Whether there is an entry at a place from 0 and it has notes. Of the entry of a turn it reads
+/// nothing.
 #[inline(always)]
 pub fn has_notes_at(lists: &Lists, place: usize) -> bool
     requires { AreWhole lists.now }

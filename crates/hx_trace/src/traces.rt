@@ -16,7 +16,8 @@ use hx_types::{Entry, Memory, Post, PostId};
 use std::alloc::Global;
 use std::marker::Model;
 
-/// The steps of all actors in order; entry n is the n-th from 1. Contracts see it as the list of its entries.
+/// The steps of all actors in order; entry n is the n-th from 1. Contracts see it as the list of
+/// its entries.
 pub struct Trace {
     growing: GrowingTrace,
 }
@@ -56,8 +57,9 @@ impl Trace {
         Ok(Trace { growing })
     }
 
-    /// The entries of parts, one at each turn. They stay where they lie in the parts, and their stamps count for
-    /// nothing. Each turn names an entry of its part, and tells whether it has notes. It takes no memory.
+    /// The entries of parts, one at each turn. They stay where they lie in the parts, and their
+    /// stamps count for nothing. Each turn names an entry of its part, and tells whether it has
+    /// notes. It takes no memory.
     pub fn of_parts(alloc: Global, parts: Parts, turns: Vec<Turn>) -> Trace
         requires { AllByRecursion (IsTurnOf parts) turns.items }
         ensures { result ≡ map (turned parts) turns.items }
@@ -89,8 +91,9 @@ impl Trace {
         entry_at(self.growing.lists(), place)
     }
 
-    /// The entry at a place from 0 if it has notes, and `None` where it has none and past the end. Of an entry
-    /// that was adopted and has none nothing is read, so that a walk over the notes of a trace is short.
+    /// The entry at a place from 0 if it has notes, and `None` where it has none and past the end.
+    /// Of an entry that was adopted and has none nothing is read, so that a walk over the notes of
+    /// a trace is short.
     #[inline(always)]
     pub fn noted(&self, place: usize) -> Option<EntryRef<'_>>
         ensures { option_map entry_seen result ≡ if_noted (slice_get self.now place) }
@@ -125,8 +128,8 @@ impl Trace {
         }
     }
 
-    /// Puts an entry at the end, and keeps it whole. Where there is no memory the trace stays and the entry is
-    /// dropped: a trace has at most 4,294,967,295 entries.
+    /// Puts an entry at the end, and keeps it whole. Where there is no memory the trace stays and
+    /// the entry is dropped: a trace has at most 4,294,967,295 entries.
     pub fn push(&mut self, entry: Entry) -> Result<(), Memory>
         ensures ok { OnOk result (self.new ≡ self.old ++ entry ∷ []) }
         ensures err { OnErr result (self.new ≡ self.old) }

@@ -14,15 +14,15 @@ use std::alloc::Global;
 
 /// The object after an operation on a key, its answer, and whether it changes.
 ///
-/// A put writes its values over the old object, or over the defaults where there is none; a get
-/// and a failed test leave the object; a del removes it. An atomic operation makes all its edits of
-/// the object that is there; where one has no result the object stays, and the answer is that of
-/// the first such edit, [`Answer::Overflow`] or [`Answer::TooLong`]. An operation that isn't on a key
+/// A put writes its values over the old object, or over the defaults where there is none; a get and
+/// a failed test leave the object; a del removes it. An atomic operation makes all its edits of the
+/// object that is there; where one has no result the object stays, and the answer is that of the
+/// first such edit, [`Answer::Overflow`] or [`Answer::TooLong`]. An operation that isn't on a key
 /// leaves the object and answers [`Answer::NotFound`], as one on an absent object does that needs
 /// one.
 ///
-/// The operations are HyperDex's; the defaults (the empty text, the least number) are this project's
-/// choice, and so is that one edit without a result refuses all edits of its operation.
+/// The operations are HyperDex's; the defaults (the empty text, the least number) are this
+/// project's choice, and so is that one edit without a result refuses all edits of its operation.
 ///
 /// # Errors
 ///

@@ -1,18 +1,20 @@
 //! Values, operations, messages and entries of the store, and the definitions that they share.
 //!
-//! Every type but [`Text`], [`Places`], [`Shared`], [`Sequence`] and [`SharedList`] is plain, with public fields.
-//! What a message carries is shared, so that a copy of it is a few pointers. [`Exact`] copies a value,
-//! [`Same`] compares two; [`fits`] tells whether an operation belongs to a space, [`effect`] is what
-//! it does to an object, and [`first_config`] the configuration that every actor knows at the start.
+//! Every type but [`Text`], [`Places`], [`Shared`], [`Sequence`] and [`SharedList`] is plain, with
+//! public fields. What a message carries is shared, so that a copy of it is a few pointers.
+//! [`Exact`] copies a value, [`Same`] compares two; [`fits`] tells whether an operation belongs to
+//! a space, [`effect`] is what it does to an object, and [`first_config`] the configuration that
+//! every actor knows at the start.
 //!
 //! The limits of spaces, scripts and runs are constants, which clauses cite.
 //!
 //! Objects with attributes, subspaces and the operations on them are HyperDex's; chains and their
-//! configurations are those of chain replication. The forms of all these types are this project's choice.
+//! configurations are those of chain replication. The forms of all these types are this project's
+//! choice.
 //!
 //! No contract says that there is memory, so a function that always answered [`Memory`] would be
-//! proved. The tests in `hx_value_tests` and of the actors make texts, lists, effects, configurations and
-//! copies, and show that each can succeed.
+//! proved. The tests in `hx_value_tests` and of the actors make texts, lists, effects,
+//! configurations and copies, and show that each can succeed.
 #![tactic(auto)]
 
 mod calls;

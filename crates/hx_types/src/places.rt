@@ -15,10 +15,10 @@ use std::slice;
 /// The places of an update in the order of its chain: at most [`MOST_PLACES`](crate::MOST_PLACES).
 /// Contracts see them as that list.
 ///
-/// Up to eight of them, one more than an update of three declared subspaces can have, are kept in
-/// the value itself.
+/// Up to five of them, as many as an update of two declared subspaces can have, are kept in the
+/// value itself.
 pub struct Places {
-    items: SmallVec<Place, 8>,
+    items: SmallVec<Place, 5>,
 }
 
 /// The parts are let go here alone: who drops places has nothing to prove of them.

@@ -5,8 +5,8 @@ ghost use Rattle.hx_types.specs.Prefixes.{IsPrefixOf, prefix_of};
 
 /// The first eight bytes of a text as a number, the first of them highest, with zeros behind a text
 /// that is shorter. Of a lower number the text is lower too, in byte order; of the same it can be
-/// either. Where many texts are compared such numbers spare most looks at the texts themselves; that
-/// is this project's choice.
+/// either. Where many texts are compared such numbers spare most looks at the texts themselves;
+/// that is this project's choice.
 #[inline]
 pub fn prefix_of(text: &str) -> u64
     ensures { IsPrefixOf text.now result }

@@ -1,4 +1,5 @@
-//! Tests of values, histories, regions, matches and plans: a module for each crate that they are of.
+//! Tests of values, histories, regions, matches and plans: a module for each crate that they are
+//! of.
 #![tactic(auto)]
 
 #[cfg(test)]

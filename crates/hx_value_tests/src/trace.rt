@@ -62,7 +62,8 @@ fn taking<R: Abort + AllocGlobal>(rt: &R, epoch: u64) -> Entry
     }
 }
 
-/// Whether the posts of these names, by entry and place, are polls of these epochs, or aren't there.
+/// Whether the posts of these names, by entry and place, are polls of these epochs, or aren't
+/// there.
 fn are_sent(trace: &Trace, wanted: &[(u64, u32, Option<u64>)]) -> bool {
     for (entry, place, epoch) in wanted {
         let (entry, place) = (*entry, *place);

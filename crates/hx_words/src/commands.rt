@@ -71,8 +71,8 @@ fn run_by(chosen: Chosen) -> Run
     }
 }
 
-/// The soak that the words say: `soak`, its seed and calls, and its option, and no other words beside
-/// them.
+/// The soak that the words say: `soak`, its seed and calls, and its option, and no other words
+/// beside them.
 pub fn soak_of(words: &[String]) -> Option<Soak>
     ensures said { (soak : Soak) → (result ≡ Some soak) ↔ SaysSoak words.now soak }
     ensures limits { IfSome result IsSoak }

@@ -29,8 +29,8 @@ impl Drop for CountedCoordinator {
     }
 }
 
-/// The coordinator takes an input, if the entry that it makes of it may be made, and tells whether it
-/// made one. All memory is taken before anything changes.
+/// The coordinator takes an input, if the entry that it makes of it may be made, and tells whether
+/// it made one. All memory is taken before anything changes.
 pub fn coordinator_takes(
     alloc: Global,
     counted: &mut CountedCoordinator,

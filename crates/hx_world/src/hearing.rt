@@ -115,7 +115,8 @@ fn to_session(
     Ok(())
 }
 
-/// An actor that hasn't halted takes a copy of a post of the trace. It makes an entry of any delivery.
+/// An actor that hasn't halted takes a copy of a post of the trace. It makes an entry of any
+/// delivery.
 #[inline(never)]
 fn takes_copy(
     alloc: Global,

@@ -139,8 +139,8 @@ pub fn append_tick(
     waiting.push(trace.len() as u64, number);
 }
 
-/// Puts an entry at the end of the trace. A delivery takes the name of its post out, and the names of the
-/// entry's own posts wait after the others.
+/// Puts an entry at the end of the trace. A delivery takes the name of its post out, and the names
+/// of the entry's own posts wait after the others.
 pub fn append_entry(trace: &mut GrowingTrace, waiting: &mut Queue, entry: Entry)
     requires room { IsRoomFor trace.old.room (length entry.outputs) (length entry.notes) }
     requires may { MayTake (reverse trace.old.entries) entry.actor entry.input }

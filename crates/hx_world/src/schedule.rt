@@ -17,8 +17,8 @@ use crate::sessions::CountedSession;
 use hx_types::{Post, PostId, SessionId};
 use std::alloc::Global;
 
-/// Makes the next entry, if there is one: the delivery of the lowest post that waits for an actor that
-/// hasn't halted, else a tick of the lowest idle session.
+/// Makes the next entry, if there is one: the delivery of the lowest post that waits for an actor
+/// that hasn't halted, else a tick of the lowest idle session.
 #[inline(always)]
 pub fn make_next(alloc: Global, inside: &mut Inside) -> Result<bool, DrainError>
     requires world { IsWorld inside.old }
@@ -38,8 +38,8 @@ pub fn make_next(alloc: Global, inside: &mut Inside) -> Result<bool, DrainError>
     Ok(true)
 }
 
-/// Delivers the lowest post that waits for an actor that hasn't halted, if there is one. The names before it
-/// go: who has halted takes no post any more.
+/// Delivers the lowest post that waits for an actor that hasn't halted, if there is one. The names
+/// before it go: who has halted takes no post any more.
 #[inline(always)]
 pub fn deliver_first(alloc: Global, inside: &mut Inside) -> Result<bool, DrainError>
     requires world { IsWorld inside.old }
@@ -89,7 +89,8 @@ fn running_post(inside: &Inside, id: PostId) -> Option<&Post>
     }
 }
 
-/// Whether there is a next entry: a post that waits for an actor that hasn't halted, or an idle session.
+/// Whether there is a next entry: a post that waits for an actor that hasn't halted, or an idle
+/// session.
 pub fn has_next(inside: &mut Inside) -> bool
     requires { IsWorld inside.old }
     ensures world { IsWorld inside.new }

@@ -14,7 +14,8 @@ use hx_types::{Calls, Exact, Memory, Op, Script, SessionId, Sessions};
 use std::alloc::Global;
 use std::mem;
 
-/// Appends a call to those of a session, in the script and in the session itself, and gives its number.
+/// Appends a call to those of a session, in the script and in the session itself, and gives its
+/// number.
 pub fn submit_call(
     alloc: Global,
     inside: &mut Inside,

@@ -24,8 +24,8 @@ use std::alloc::Global;
 use std::marker::Model;
 use std::mem::ManuallyDrop;
 
-/// All actors of a script, and the trace of their steps so far. The world has the script for its own, and further calls can be
-/// appended to it.
+/// All actors of a script, and the trace of their steps so far. The world has the script for its
+/// own, and further calls can be appended to it.
 ///
 /// The actors are those of HyperDex and of chain replication; that they stand on one thread and
 /// take their inputs by a fixed schedule is this project's choice.
@@ -51,7 +51,8 @@ impl Model for World {
 }
 
 impl World {
-    /// The actors at their start, a copy of the script, and no entry. [`Memory`] where there is no room for them.
+    /// The actors at their start, a copy of the script, and no entry. [`Memory`] where there is no
+    /// room for them.
     pub fn start(alloc: Global, script: &Script) -> Result<World, Memory>
         requires { IsScript script.now }
         ensures { IfOk result (λ world. world ≡ record { script = script.now; trace = [] }) }
@@ -75,8 +76,9 @@ impl World {
         &self.inside.script
     }
 
-    /// Appends a call to those of a session, and gives its number, from 1. The trace stays: it is a run of the script with the
-    /// call as it was one of the script without. The session begins the call once those before it have ended.
+    /// Appends a call to those of a session, and gives its number, from 1. The trace stays: it is a
+    /// run of the script with the call as it was one of the script without. The session begins the
+    /// call once those before it have ended.
     ///
     /// [`Memory`] where there is no room for the call, and then nothing has changed.
     pub fn submit(&mut self, alloc: Global, session: SessionId, op: Op) -> Result<u32, Memory>
@@ -129,8 +131,9 @@ impl World {
         log.trace
     }
 
-    /// The trace by itself, for a program that is about to end: the memory of the actors is not given back, which
-    /// would take long, but left to the system. Elsewhere use [`World::into_trace`].
+    /// The trace by itself, for a program that is about to end: the memory of the actors is not
+    /// given back, which would take long, but left to the system. Elsewhere use
+    /// [`World::into_trace`].
     pub fn leave(self) -> Trace
         ensures trace { result ≡ self.trace }
         ensures valid { IsScript self.script }
@@ -143,8 +146,8 @@ impl World {
         log.trace
     }
 
-    /// Makes the one entry of a step: a delivery, or a tick or a halt of one of the script's actors.
-    /// A post may be delivered any number of times; a drain delivers those that were never
+    /// Makes the one entry of a step: a delivery, or a tick or a halt of one of the script's
+    /// actors. A post may be delivered any number of times; a drain delivers those that were never
     /// delivered. That steps may come before the schedule, so that a script can reorder and repeat
     /// posts and halt servers, is this project's choice.
     ///
@@ -194,9 +197,9 @@ impl World {
         }
     }
 
-    /// Makes the one entry that delivers the lowest post that was never delivered and whose receiver
-    /// hasn't halted, as a drain does first, and tells whether there was one. So several worlds can be
-    /// run by one schedule.
+    /// Makes the one entry that delivers the lowest post that was never delivered and whose
+    /// receiver hasn't halted, as a drain does first, and tells whether there was one. So several
+    /// worlds can be run by one schedule.
     ///
     /// [`DrainError::Worn`] comes exactly where the receiver has made 1,048,576 entries. After an
     /// error nothing has changed.
@@ -211,8 +214,8 @@ impl World {
         deliver_first(alloc, &mut self.inside)
     }
 
-    /// The name of the post that [`World::deliver_next`] would deliver. The trace stays; the names of
-    /// posts to halted servers are forgotten on the way.
+    /// The name of the post that [`World::deliver_next`] would deliver. The trace stays; the names
+    /// of posts to halted servers are forgotten on the way.
     pub fn oldest(&mut self) -> Option<PostId>
         ensures first { MatchOption result (delivery_in self.old.script (reverse self.old.trace) ≡ None) (IsPostedFirst self.old.script (reverse self.old.trace)) }
         ensures state { self.new ≡ self.old }

@@ -1,5 +1,6 @@
-//! Tests of the world on one thread: its runs whole and in pieces, a leader that halts at any time, and the steps
-//! that it refuses. That a replay writes what it should is seen by the cases that the gate gives to the program.
+//! Tests of the world on one thread: its runs whole and in pieces, a leader that halts at any time,
+//! and the steps that it refuses. That a replay writes what it should is seen by the cases that the
+//! gate gives to the program.
 #![tactic(auto)]
 
 #[cfg(test)]

@@ -316,7 +316,8 @@ fn submit<R: Abort + AllocGlobal>(rt: &R, world: &mut World, op: &Op) -> u32
         .expect(rt, "memory")
 }
 
-/// Submits a call of a script to a world, which gives it the number that it has there, and drains the world.
+/// Submits a call of a script to a world, which gives it the number that it has there, and drains
+/// the world.
 fn submit_and_drain<R: Abort + AllocGlobal>(rt: &R, world: &mut World, script: &Script, number: u32)
     requires { length world.old.script.sessions ≡ 1 }
     ensures { length world.new.script.sessions ≡ 1 }
@@ -330,7 +331,8 @@ fn submit_and_drain<R: Abort + AllocGlobal>(rt: &R, world: &mut World, script: &
     assert!(rt; matches!(world.drain(rt.alloc(), u64::MAX), Ok(Drained::Quiet)));
 }
 
-/// The trace of a script without calls to which the three calls of another are submitted, with a drain after each.
+/// The trace of a script without calls to which the three calls of another are submitted, with a
+/// drain after each.
 fn submitted<R: Abort + AllocGlobal>(rt: &R, empty: &Script, script: &Script) -> Trace
     requires valid { IsScript empty.now }
     requires sessions { length empty.now.sessions ≡ 1 }
