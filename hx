@@ -1,7 +1,8 @@
 #!/usr/bin/env bash
-# hx: runs the store with these words on standard input and output. Until `hx prove` has proved this checkout,
-# the answer comes from the same sources compiled without their proofs (tools/unproved.sh), and a line says so.
-# `hx --proved WORD..` proves first; `hx picture` draws the replay of a script (SVG).
+# hx: runs the store with these words on standard input and output. Until `hx prove` has proved this
+# checkout, the answer comes from the same sources compiled without their proofs
+# (tools/unproved.sh), and a line says so. `hx --proved WORD..` proves first; `hx picture` draws the
+# replay of a script (SVG).
 set -u
 top=$(cd "$(dirname "${BASH_SOURCE[0]}")" && pwd)
 kept=$top/out

@@ -1,4 +1,5 @@
-# What the parts of the repository's own checks share. Each part reads this file first, and ends with `exit "$failed"`.
+# What the parts of the repository's own checks share. Each part reads this file first, and ends
+# with `exit "$failed"`.
 # shellcheck shell=bash disable=SC2034
 set -u
 cd "$(dirname "${BASH_SOURCE[0]}")/.." || exit 1

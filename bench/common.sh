@@ -8,8 +8,8 @@ if [ -z "${program:-}" ]; then
   program=$top/crates/hx_tool/out/hx_tool
 fi
 
-# seconds COMMAND FILE: the best of three runs of the command on the file; what the last one wrote is
-# in $work/written
+# seconds COMMAND FILE: the best of three runs of the command on the file; what the last one wrote
+# is in $work/written
 seconds() {
   local best='' taken
   for _ in 1 2 3; do

@@ -1,11 +1,11 @@
 #!/usr/bin/env bash
-# Counts the instructions of `hx replay` (valgrind's callgrind) on 1,024 calls of 16 sessions over one key and over 256:
-# puts, conditional puts whose test holds, and atomic additions.
+# Counts the instructions of `hx replay` (valgrind's callgrind) on 1,024 calls of 16 sessions over
+# one key and over 256: puts, conditional puts whose test holds, and atomic additions.
 #
 #     bench/counters.sh [PROGRAM]
 #
-# An addition costs at most 1.1 times a conditional put. Of a PROGRAM compiled without proofs (tools/unproved.sh) the
-# ratios alone say something.
+# An addition costs at most 1.1 times a conditional put. Of a PROGRAM compiled without proofs
+# (tools/unproved.sh) the ratios alone say something.
 set -eu
 if [ $# -gt 0 ]; then
   program=$1 work=$(mktemp -d)

@@ -3,14 +3,15 @@
 #
 #     bench/epochs.sh [PROGRAM]
 #
-# First it times `hx replay` of puts while a server of four is stopped and replicas are added in its place, and of the same
-# puts without that, 4,096 and 16,376 of them over 256 keys in 4 sessions, in turns. It prints milliseconds of the processor
-# (the least of seven runs), microseconds for each entry, and the ratio of both runs, which stays below 1.2: an epoch costs
-# what it must.
+# First it times `hx replay` of puts while a server of four is stopped and replicas are added in its
+# place, and of the same puts without that, 4,096 and 16,376 of them over 256 keys in 4 sessions, in
+# turns. It prints milliseconds of the processor (the least of seven runs), microseconds for each
+# entry, and the ratio of both runs, which stays below 1.2: an epoch costs what it must.
 #
-# Then it counts the entries from the one that delivers `die` to a server to the end of the first call on a key that was held
-# up by that or begins later, among 4, 8 and 16 servers with their sessions. Of a PROGRAM compiled without proofs
-# (bench/unproved.py) the ratios and the entries say as much.
+# Then it counts the entries from the one that delivers `die` to a server to the end of the first
+# call on a key that was held up by that or begins later, among 4, 8 and 16 servers with their
+# sessions. Of a PROGRAM compiled without proofs (bench/unproved.py) the ratios and the entries say
+# as much.
 set -eu
 [ $# -eq 0 ] || program=$(realpath "$1")
 . "$(dirname "${BASH_SOURCE[0]}")/common.sh"
@@ -31,7 +32,8 @@ script() {
   }'
 }
 
-# taken WORD: milliseconds of the processor for one run of that script; what it writes goes to $work/WORD.report
+# taken WORD: milliseconds of the processor for one run of that script; what it writes goes to
+# $work/WORD.report
 taken() {
   local TIMEFORMAT='%U %S'
   { time "$program" replay <"$work/$1.hx" >"$work/$1.report"; } 2>&1 | awk '{ printf "%d", 1000 * ($1 + $2) + 0.5 }'
@@ -57,8 +59,8 @@ for puts in 4096 16376; do
     "$puts" "${least[changing]}" "$(grep -c '^epoch' "$work/changing.report")" "$changing" "$(ratio "$changing" "$steady")"
 done
 
-# stopped SERVERS SERVER STEP..: a script in which session 1 stops that server, session 2 puts, and half as many sessions as
-# there are servers look on
+# stopped SERVERS SERVER STEP..: a script in which session 1 stops that server, session 2 puts, and
+# half as many sessions as there are servers look on
 stopped() {
   local servers=$1 server=$2
   printf 'hx 1\nspace bench\nkey k 1\nstring v\nservers %d\ntolerate 1\nsession 1\nstop %d\nsession 2\nput "a" v="x"\n' "$servers" "$server"
@@ -67,7 +69,8 @@ stopped() {
   printf '%s\n' "${@:3}"
 }
 
-# waited: entries from the one that delivers `die` to the end of the first call on a key that ends behind it
+# waited: entries from the one that delivers `die` to the end of the first call on a key that ends
+# behind it
 waited() {
   "$program" replay --trace <"$work/script.hx" | awk '
     $1 == "call" && $7 != "stop" { ends[++calls] = $6 }

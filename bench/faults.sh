@@ -1,8 +1,9 @@
 #!/usr/bin/env bash
-# Lets each read and each write of a replay fail in turn, a byte at each, one in each run, and prints how many
-# were failed. A run whose read fails ends with status 4, its line, and nothing written; one whose write fails
-# with status 5, its line, and the bytes before it written. A C compiler is needed (failing_io.c). The gate's own
-# checks run it on the program that the gate has built.
+# Lets each read and each write of a replay fail in turn, a byte at each, one in each run, and
+# prints how many were failed. A run whose read fails ends with status 4, its line, and nothing
+# written; one whose write fails with status 5, its line, and the bytes before it written. A C
+# compiler is needed (failing_io.c). The gate's own checks run it on the program that the gate has
+# built.
 set -eu
 top=$(cd "$(dirname "${BASH_SOURCE[0]}")/.." && pwd)
 program=$top/crates/hx_tool/out/hx_tool

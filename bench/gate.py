@@ -1,14 +1,16 @@
 #!/usr/bin/env python3
-"""bench/gate.py [COMMAND ..]: runs the gate (bash .ci/run where no command is given) and tells what it cost.
+"""bench/gate.py [COMMAND ..]: runs the gate, or the command, and tells what it cost.
 
-Every second the processor time of each check below the command is read off /proc, so that what a check
-takes in its last second is missing; the last line has all that the command took, as the system counted it.
-For each crate it prints the seconds of its proof, of the proof of its tests, and of its must-fail edits with
-the proof that they begin with, and then the dearest edits. A crate that an earlier run on the machine passed costs nothing: remove what the
-toolchain kept, or give `rt ci --anew`, to measure from nothing. Run it with nothing else running.
+Every second the processor time of each check below the command is read off /proc, so that what a
+check takes in its last second is missing; the last line has all that the command took, as the
+system counted it. For each crate it prints the seconds of its proof, of the proof of its tests, and
+of its must-fail edits with the proof that they begin with, and then the dearest edits. A crate that
+an earlier run on the machine passed costs nothing: remove what the toolchain kept, or give `rt ci
+--anew`, to measure from nothing. Run it with nothing else running.
 
-Processor seconds are longer on a machine that others slow down. So every ten seconds it also takes the time of a fixed loop, and prints
-how these swung: the same gate costs the more the longer the loop took.
+Processor seconds are longer on a machine that others slow down. So every ten seconds it also takes
+the time of a fixed loop, and prints how these swung: the same gate costs the more the longer the
+loop took.
 """
 
 import collections
@@ -22,6 +24,7 @@ import sys
 import time
 
 TICKS = os.sysconf("SC_CLK_TCK")
+KINDS = ("proof", "edits", "tests")
 
 
 def read(path):
@@ -53,7 +56,7 @@ def is_below(found, pid, top):
 
 
 def kind_of(words):
-    """Returns the crate of a check, what it checks, and the number of its edit, if it tries one; or nothing of another process."""
+    """Returns a check's crate, what it checks, and the number of its edit, if it tries one."""
     crate = re.search(r"--crate-name (\w+)", words)
     if not crate:
         return None
@@ -65,7 +68,7 @@ def kind_of(words):
 
 
 def check_above(found, pid):
-    """Returns the process of the check that a process of the prover is part of: some start others."""
+    """Returns the check that a process of the prover is part of: some start others."""
     while found[pid][0] in found and found[found[pid][0]][1].startswith("rattle"):
         pid = found[pid][0]
     return pid
@@ -87,6 +90,16 @@ def print_edits(known, spent, most=30):
     print(f"the dearest of {len(tried)} edits")
     for (crate, number), seconds in tried.most_common(most):
         print(f"{crate:<20}{seconds:>8.0f}  {edit_named(crate, number)}")
+
+
+def print_table(table):
+    """Prints the seconds of each crate as docs/GATE.md has them, and the minutes of all."""
+    print("| crate | proof | edits | tests |\n|---|---|---|---|")
+    for crate, of in sorted(table.items(), key=lambda it: -sum(it[1].values())):
+        cells = (f"{of[kind]:.0f}" if of[kind] else "" for kind in KINDS)
+        print(f"| `{crate}` | {' | '.join(cells)} |")
+    sums = (f"{sum(of[kind] for of in table.values()) / 60:.1f}" for kind in KINDS)
+    print(f"| minutes | {' | '.join(sums)} |")
 
 
 def sample(top, known, spent):
@@ -124,11 +137,7 @@ def main(words):
     for check, seconds in spent.items():
         crate, kind, _ = known[check]
         table[crate][kind] += seconds
-    print(f"{'crate':<20}{'proof':>8}{'tests':>8}{'edits':>8}")
-    for crate, of in sorted(table.items(), key=lambda it: -sum(it[1].values())):
-        print(f"{crate:<20}{of['proof']:>8.0f}{of['tests']:>8.0f}{of['edits']:>8.0f}")
-    sums = [sum(of[kind] for of in table.values()) / 60 for kind in ("proof", "tests", "edits")]
-    print(f"{'minutes':<20}" + "".join(f"{it:>8.1f}" for it in sums))
+    print_table(table)
     print_edits(known, spent)
     print(f"a fixed loop took {min(loops):.0f} to {max(loops):.0f} ms, {statistics.median(loops):.0f} as a rule")
     took = resource.getrusage(resource.RUSAGE_CHILDREN)

@@ -1,7 +1,8 @@
 #!/usr/bin/env bash
-# Refuses memory: runs `hx replay` on examples with each of its allocations failing in turn, one in each
-# run, and prints how many were failed. Each run ends with status 0 and the same bytes, or with status 6,
-# its line, and nothing written. A C compiler is needed, for the malloc that fails (failing_malloc.c).
+# Refuses memory: runs `hx replay` on examples with each of its allocations failing in turn, one in
+# each run, and prints how many were failed. Each run ends with status 0 and the same bytes, or with
+# status 6, its line, and nothing written. A C compiler is needed, for the malloc that fails
+# (failing_malloc.c).
 set -eu
 . "$(dirname "${BASH_SOURCE[0]}")/common.sh"
 

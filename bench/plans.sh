@@ -1,7 +1,7 @@
 #!/usr/bin/env bash
 # Times `hx plan` on 16,384 searches for one key each, in a space whose key is cut into 1 region and
-# in one whose key is cut into 256. It prints seconds (the best of three) and their ratio, which stays
-# below 1.5: a plan costs as much as it names, and each of these names one region.
+# in one whose key is cut into 256. It prints seconds (the best of three) and their ratio, which
+# stays below 1.5: a plan costs as much as it names, and each of these names one region.
 set -eu
 . "$(dirname "${BASH_SOURCE[0]}")/common.sh"
 

@@ -1,8 +1,9 @@
 #!/usr/bin/env bash
 # Times `hx replay` on scripts of 1,024, 4,096 and 16,384 calls over 256 keys, and on one hot key.
 # It prints seconds (the best of three) and the ratio of neighbours, which stays below 5 where the
-# keys are spread: four times the calls take about four times as long at most. It prints the greatest
-# memory of the largest run too, which stays below 64 bytes for each byte of script plus 64 MiB.
+# keys are spread: four times the calls take about four times as long at most. It prints the
+# greatest memory of the largest run too, which stays below 64 bytes for each byte of script plus 64
+# MiB.
 set -eu
 . "$(dirname "${BASH_SOURCE[0]}")/common.sh"
 
@@ -35,12 +36,6 @@ for keys in 256 1; do
 done
 
 script 16384 256 >"$work/script.hx"
-python3 - "$program" "$work/script.hx" <<'EOT'
-import os, resource, subprocess, sys
-program, script = sys.argv[1:]
-with open(script) as text, open(os.devnull, "w") as nothing:
-    subprocess.run([program, "replay"], stdin=text, stdout=nothing, check=True)
-used = resource.getrusage(resource.RUSAGE_CHILDREN).ru_maxrss * 1024
-allowed = 64 * os.path.getsize(script) + 64 * 1024 * 1024
-print(f"memory of 16384 calls: {used} bytes, {used / allowed:.2f} of what is allowed")
-EOT
+kilobytes=$( { /usr/bin/time -f %M "$program" replay <"$work/script.hx" >"$work/written"; } 2>&1 )
+awk -v used="$kilobytes" -v bytes="$(wc -c <"$work/script.hx")" 'BEGIN {
+  printf "memory of 16384 calls: %d kilobytes, %.2f of what is allowed\n", used, 1024 * used / (64 * bytes + 67108864) }'

@@ -1,6 +1,7 @@
 #!/usr/bin/env python3
-"""soak.py SEED CALLS: the summary of a soak as its calls make it one after another on one map, reckoned apart
-from the program. The files of cases/soak were made by it."""
+"""soak.py SEED CALLS: the summary of a soak as its calls make it one after another on one map,
+reckoned apart from the program. The files of cases/soak were made by it.
+"""
 import sys
 
 MASK = (1 << 64) - 1

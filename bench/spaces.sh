@@ -1,11 +1,12 @@
 #!/usr/bin/env bash
-# Counts the instructions of `hx replay` and of `hx run --workers 1` (valgrind's callgrind) on a script of eight spaces
-# with 2,048 calls each, beside those of the eight scripts of one space, one after another.
+# Counts the instructions of `hx replay` and of `hx run --workers 1` (valgrind's callgrind) on a
+# script of eight spaces with 2,048 calls each, beside those of the eight scripts of one space, one
+# after another.
 #
 #     bench/spaces.sh [PROGRAM [CALLS]]
 #
-# The eight together take at most 1.1 times as much as the eight alone. Of a PROGRAM compiled without proofs
-# (tools/unproved.sh) the ratios alone say something.
+# The eight together take at most 1.1 times as much as the eight alone. Of a PROGRAM compiled
+# without proofs (tools/unproved.sh) the ratios alone say something.
 set -eu
 calls=${2:-2048}
 if [ $# -gt 0 ]; then
@@ -15,8 +16,9 @@ else
   . "$(dirname "${BASH_SOURCE[0]}")/common.sh"
 fi
 
-# script SPACES: version 1 of space SPACES where it is a number from 1 to 8, and version 2 of all where it is `all`.
-# Four sessions call each space in turn: puts, gets, additions and conditional puts.
+# script SPACES: version 1 of space SPACES where it is a number from 1 to 8, and version 2 of all
+# where it is `all`. Four sessions call each space in turn: puts, gets, additions and conditional
+# puts.
 script() {
   awk -v which="$1" -v calls="$calls" 'BEGIN {
     first = which == "all" ? 1 : which

@@ -1,13 +1,14 @@
 #!/usr/bin/env python3
-"""bench/wrong.py [CRATE ..] [--only NAME] [--jobs N]: tries the wrong bodies that the gate leaves out.
+"""bench/wrong.py [CRATE ..] [--only NAME] [--jobs N]: tries wrong bodies that the gate leaves out.
 
-Each edit of wrong/CRATE/, of every crate where none is named, turns the meaning of a function, so that the crate's
-contracts have to refuse it. The edits of a crate are put into must-fail/ in a copy of the tree, `rt must-fail` tries
-them there, and of each is printed where it was refused, or that it was let through, or that it is bad: it can't be
-applied, compiled or read. The status is 1 where one wasn't refused.
+Each edit of wrong/CRATE/, of every crate where none is named, turns the meaning of a function, so
+that the crate's contracts have to refuse it. The edits of a crate are put into must-fail/ in a copy
+of the tree, `rt must-fail` tries them there, and of each is printed where it was refused, or that
+it was let through, or that it is bad: it can't be applied, compiled or read. The status is 1 where
+one wasn't refused.
 
-A crate is proved once, over what earlier checks on the machine kept, and each of its edits takes about half a minute
-of a processor more.
+A crate is proved once, over what earlier checks on the machine kept, and each of its edits takes
+about half a minute of a processor more.
 
 --only NAME  tries the edits of this name alone
 --jobs N     tries N of them at a time; where it isn't said, one for each processor, as many as memory holds
@@ -51,7 +52,7 @@ def told(verdict, rest):
 
 
 def try_edits(room, crate, edits, jobs):
-    """Tries the edits of a crate in the copy, prints a line for each, and returns how many were not refused."""
+    """Tries a crate's edits in the copy, prints each, and returns how many weren't refused."""
     must_fail = room / "crates" / crate / "must-fail"
     must_fail.mkdir()
     for edit in edits:

@@ -1,11 +1,12 @@
 #!/usr/bin/env bash
-# tools/prove.sh LOG: proves all crates but those of tests, lowest first, as many side by side as there are processors
-# with 4 GB of free memory each, and builds both programs. A line on standard error tells of each crate; the log has all
-# that was said.
+# tools/prove.sh LOG: proves all crates but those of tests, lowest first, as many side by side as
+# there are processors with 4 GB of free memory each, and builds both programs. A line on standard
+# error tells of each crate; the log has all that was said.
 #
-# It works in a copy, which goes when it ends: `rt all` first looks through each crate on which no other one stands, one
-# after the other, and without those of tests these are 4 and not 15, of a minute each. What it proved the toolchain keeps,
-# so that a call after one that was stopped goes on from there.
+# It works in a copy, which goes when it ends: `rt all` first looks through each crate on which no
+# other one stands, one after the other, and without those of tests these are 4 and not 15, of a
+# minute each. What it proved the toolchain keeps, so that a call after one that was stopped goes on
+# from there.
 set -euo pipefail
 log=$1
 cd "$(dirname "${BASH_SOURCE[0]}")/.."

@@ -52,7 +52,8 @@ for script in cases/share_refused/*.hx; do
   for workers in 1 3 16; do refused "$script" "$line" share --workers "$workers"; done
 done
 
-# One caller's share is the replay of the script without its steps. Scripts of several spaces aren't shared.
+# One caller's share is the replay of the script without its steps. Scripts of several spaces aren't
+# shared.
 for script in examples/*.hx cases/replay/*.hx; do
   line=$(grep -n -m 1 '^ *hx 2' "$script") && { refused "$script" "line ${line%%:*}: bounds" share --workers 1; continue; }
   cmp -s <(hx share --workers 1 <"$script") <(sed '/^ *steps *\(#.*\)\?$/,$d' "$script" | hx replay) \
@@ -75,7 +76,8 @@ planned 16385 0 '3 line 16393: limit'
 planned 0 65536 '0 end'
 planned 0 65537 '3 line 65546: limit'
 
-# A put whose leader halts after any number of deliveries is done once, and a get of another session finds it.
+# A put whose leader halts after any number of deliveries is done once, and a get of another session
+# finds it.
 survives() {
   {
     sed '/^session 1$/,$d' cases/replay/puts_along_chains.hx
@@ -89,7 +91,8 @@ for delivered in $(seq 0 12); do
   [[ $(survives "$delivered") == *"$found"* ]] || complain "a put doesn't survive the halt of its leader after $delivered deliveries"
 done
 
-# A script may end after each of its lines: before its head is whole the line that is missing is refused.
+# A script may end after each of its lines: before its head is whole the line that is missing is
+# refused.
 script=$(sed 's/ *#.*//; /^ *$/d' examples/library.hx)
 head_lines=$(sed -n '/^session 1/=' <<<"$script")
 for lines in $(seq 0 "$(wc -l <<<"$script")"); do

@@ -1,5 +1,6 @@
 #!/usr/bin/env bash
-# What the program says of reports: of each case, and of every report that stands here or that it writes of a script alone.
+# What the program says of reports: of each case, and of every report that stands here or that it
+# writes of a script alone.
 . "$(dirname "${BASH_SOURCE[0]}")/../common.sh"
 needs "$program"
 

@@ -1,7 +1,9 @@
 #!/usr/bin/env python3
-"""Each wrong body still applies: those of the gate, in crates/CRATE/must-fail/, and those on demand, in wrong/CRATE/.
+"""Each wrong body still applies.
 
-It prints a line for each that doesn't, and for whatever else stands in wrong/, and ends with status 1 where there is one.
+These are those of the gate, in crates/CRATE/must-fail/, and those on demand, in wrong/CRATE/. It
+prints a line for each that doesn't, and for whatever else stands in wrong/, and ends with status 1
+where there is one.
 """
 
 import pathlib
@@ -12,7 +14,7 @@ TOP = pathlib.Path(__file__).resolve().parent.parent.parent
 
 
 def pairs_of(text):
-    """Yields the pairs of texts of an edit, each with its file: what stands there, and what stands there instead."""
+    """Yields an edit's pairs of texts, each with its file: what stands there, and what instead."""
     path = old = None
     for line in text.splitlines():
         if line.startswith("file: "):

@@ -1,8 +1,11 @@
 #!/usr/bin/env python3
-""".ci/checks.d/reading.py [--write]: docs/READING.md names every definition that the contract of the top call imports, and the
-contracts of the laws over all runs, and what these import in turn, each with its number of lines.
+""".ci/checks.d/reading.py [--write]: docs/READING.md names every definition that matters.
 
-With --write the numbers are written there; a row for a file that is missing has to be written by hand.
+These are those that the contract of the top call imports, and the contracts of the laws over all
+runs, and what these import in turn, each with its number of lines.
+
+With --write the numbers are written there; a row for a file that is missing has to be written by
+hand.
 """
 
 import glob

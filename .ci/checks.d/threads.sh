@@ -3,7 +3,8 @@
 . "$(dirname "${BASH_SOURCE[0]}")/../common.sh"
 needs "$program"
 
-# A soak writes the same summary on any number of threads: what its calls make one after another on one map (bench/soak.py).
+# A soak writes the same summary on any number of threads: what its calls make one after another on
+# one map (bench/soak.py).
 soaked() {
   hx soak "$1" "$2" --workers "$3" | cmp -s - "$4" || complain "hx soak $1 $2 --workers $3 doesn't write $4"
 }
@@ -15,9 +16,10 @@ for workers in 1 2 4; do
   done
 done
 
-# On threads every call is answered, whatever is lost or repeated, and as many posts are as the words say. Where several
-# threads lose messages by number, one may lose the same message each time that it is sent again (of 400 runs nine on four
-# threads): such a run is made anew. One that loses by a draw ends.
+# On threads every call is answered, whatever is lost or repeated, and as many posts are as the
+# words say. Where several threads lose messages by number, one may lose the same message each time
+# that it is sent again (of 400 runs nine on four threads): such a run is made anew. One that loses
+# by a draw ends.
 ran() {
   words=$*
   for _ in 1 2 3 4; do

@@ -1,5 +1,6 @@
 #!/usr/bin/env bash
-# The program can be compiled without its proofs, as ./hx does before anything is proved, and answers.
+# The program can be compiled without its proofs, as ./hx does before anything is proved, and
+# answers.
 . "$(dirname "${BASH_SOURCE[0]}")/../common.sh"
 made=$(mktemp -d)
 trap 'rm -r "$made"' EXIT

@@ -1,5 +1,6 @@
 #!/usr/bin/env bash
-# Words, statuses and faults: with which status the program and ./hx end, and what they tell on standard error.
+# Words, statuses and faults: with which status the program and ./hx end, and what they tell on
+# standard error.
 . "$(dirname "${BASH_SOURCE[0]}")/../common.sh"
 needs "$program"
 
@@ -24,8 +25,9 @@ ends 7 'worn u1' $'hx 1\nspace one\nkey k 1\nstring v\nservers 1\ntolerate 0\nse
 # Each search of 256 regions takes 257 entries of its session.
 ends 7 'worn u1' "$(printf 'hx 1\nspace w\nkey k 256\nservers 1\ntolerate 0\nsession 1\n'; yes search | head -n 4081)"$'\n' replay
 
-# What is no command is refused by the program and by ./hx alike. A copy of ./hx alone has nothing that it could build:
-# so it is seen that for such words it doesn't try to, and that for right ones it does.
+# What is no command is refused by the program and by ./hx alike. A copy of ./hx alone has nothing
+# that it could build: so it is seen that for such words it doesn't try to, and that for right ones
+# it does.
 usage='usage: hx replay or run or soak or plan or share or audit'
 bare=$(mktemp -d)
 trap 'rm -r "$bare"' EXIT
@@ -83,7 +85,8 @@ asked 1 share --workers 16
 asked 1 audit
 asked 1 --proved plan
 
-# ./hx prints these texts itself, as the program does, and answers by the program where that is proved.
+# ./hx prints these texts itself, as the program does, and answers by the program where that is
+# proved.
 cmp -s <(./hx --version) <(hx --version) || complain './hx --version has another text'
 [[ $(./hx --help) == "$(hx --help)"* ]] || complain './hx --help has another text'
 told=$(./hx replay <examples/first.hx 2>&1)
