@@ -107,6 +107,7 @@ case "$*" in
   --help)
     sed -n '/^const HELP: /,/^";$/ { s/^const HELP: .*b"//; /^";$/! p }' "$texts"
     printf '\nOf ./hx alone: picture draws a script (SVG), prove proves the program, --proved as first word insists on it.\n'
+    printf 'Scripts to try stand in examples/.\n'
     exit
     ;;
   prove) prove && say 'proved'; exit ;;
