@@ -1,4 +1,6 @@
 pub mod Lists
+pub mod Runs
+pub mod Filed
 pub mod Histories
 pub mod Knowing
 pub mod Carried

@@ -363,21 +363,21 @@ opens = record {
 }
 
 -- the same of a view that owns one part, or that has a count
-pub acts_at : (slots id : ℕ) (v w : View) (c : List (ℕ × ⊤)) (e f : Entry) → v ≡ w
-    → ((k : ℕ) × (part : List Stamped) × Owns w k part × (length part < MOST_ENTRIES)) → f ≡ e → DeliveryMeets (Knows w) e
-    → Allows IsKept slots id (v, c) 0 (λ n. (n + 1) % 2 ^ 64) (Acts f (v, c))
-acts_at slots id v w c e f is own same cause =
+pub acts_at : (slots id : ℕ) (v w : View) (c : List (ℕ × ⊤)) (e : Entry) → v ≡ w
+    → ((k : ℕ) × (part : List Stamped) × Owns w k part × (length part < MOST_ENTRIES)) → DeliveryMeets (Knows w) e
+    → Allows IsKept slots id (v, c) 0 (λ n. (n + 1) % 2 ^ 64) (Acts e (v, c))
+acts_at slots id v w c e is own cause =
     let as_seen : w ≡ view_of (numbered own.0 own.1 ∷ []) w.known w.count = ap (λ cs. view_of cs w.known w.count) own.2 in
-    let P : View → Type 0 = λ u. Allows IsKept slots id (u, c) 0 (λ n. (n + 1) % 2 ^ 64) (Acts f (u, c)) in
-    let Q : View → Type 0 = λ u. DeliveryMeets (Knows u) f in
+    let P : View → Type 0 = λ u. Allows IsKept slots id (u, c) 0 (λ n. (n + 1) % 2 ^ 64) (Acts e (u, c)) in
+    let Q : View → Type 0 = λ u. DeliveryMeets (Knows u) e in
     subst P (sym (is ∙ as_seen))
-    (acts slots id own.0 own.1 w.known w.count c f own.3 (subst Q as_seen (subst (λ y. DeliveryMeets (Knows w) y) (sym same) cause)))
+    (acts slots id own.0 own.1 w.known w.count c e own.3 (subst Q as_seen cause))
 
 -- what an act tells of the view as contracts see it
-pub acts_told : (v w : View) (c : List (ℕ × ⊤)) (e f : Entry) (n : ℕ) (m : View × List (ℕ × ⊤)) → v ≡ w → f ≡ e → Acts f (v, c) n m
+pub acts_told : (v w : View) (c : List (ℕ × ⊤)) (e : Entry) (n : ℕ) (m : View × List (ℕ × ⊤)) → v ≡ w → Acts e (v, c) n m
     → (m.0 ≡ acted (stamped n e) w) × IsAfter n w × (n < MOST_ENROLLED * MOST_ENTRIES)
-acts_told v w c e f n m is same h =
-    (ap (λ m. m.0) h.0 ∙ ap (λ y. acted (stamped n y) v) same ∙ ap (acted (stamped n e)) is, subst (IsAfter n) is h.1, h.2)
+acts_told v w c e n m is h =
+    (ap (λ m. m.0) h.0 ∙ ap (acted (stamped n e)) is, subst (IsAfter n) is h.1, h.2)
 
 pub enrols_at : (slots id : ℕ) (v w : View) (c : List (ℕ × ⊤)) → v ≡ w → ((n : ℕ) × (w.count ≡ Some n) × (n < MOST_ENROLLED))
     → Allows IsKept slots id (v, c) 1 (λ m. (m + 1) % 2 ^ 64) (Enrols (v, c))

@@ -11,7 +11,7 @@ use crate::rule::{Act, Enrol, Hand, Learn, Load, Making, OneHistory, Tell};
 use crate::seat::{Pass, Seat};
 use crate::view::View;
 use atomic_table::Table;
-use hx_types::{Entry, Memory, PostId, Stamp};
+use hx_types::{Actor, Entry, Input, Memory, Notes, PostId, Posts, Stamp};
 use std::alloc::Global;
 use std::marker::{Brand, Model};
 
@@ -78,16 +78,52 @@ impl Clock {
         ensures later { (x : Stamped) → Has seat.old.view x → x.stamp.0 < result.0 }
         ensures bound { result.0 < MOST_ENROLLED * MOST_ENTRIES }
     {
-        self.act_making::<Brand>(seat, entry)
+        self.act_on(
+            seat,
+            entry.actor,
+            &entry.input,
+            &entry.outputs,
+            &entry.notes,
+        )
     }
 
-    fn act_making<M: Making>(&self, seat: &mut Seat, entry: &Entry) -> Stamp
-        requires making { M.entry ≡ entry.now }
+    /// The same for an entry that lies in pieces.
+    #[inline]
+    pub fn act_on(
+        &self,
+        seat: &mut Seat,
+        actor: Actor,
+        input: &Input,
+        posts: &Posts,
+        notes: &Notes,
+    ) -> Stamp
         requires clock { seat.old.clock ≡ self.now }
         requires own { (k : ℕ) × (part : List Stamped) × Owns seat.old.view k part × (length part < MOST_ENTRIES) }
-        requires cause { DeliveryMeets (Knows seat.old.view) entry.now }
+        requires cause { DeliveryMeets (Knows seat.old.view) (record { actor = actor; input = input.now; outputs = posts.now; notes = notes.now }) }
         ensures clock { seat.new.clock ≡ self.now }
-        ensures acts { (seat.new.view ≡ acted (stamped result.0 entry.now) seat.old.view) × IsAfter result.0 seat.old.view × (result.0 < MOST_ENROLLED * MOST_ENTRIES) }
+        ensures seat { seat.new.view ≡ acted (stamped result.0 (record { actor = actor; input = input.now; outputs = posts.now; notes = notes.now })) seat.old.view }
+        ensures own { (k : ℕ) (part : List Stamped) → Owns seat.old.view k part
+            → Owns seat.new.view k (part ++ stamped result.0 (record { actor = actor; input = input.now; outputs = posts.now; notes = notes.now }) ∷ []) }
+        ensures later { (x : Stamped) → Has seat.old.view x → x.stamp.0 < result.0 }
+        ensures bound { result.0 < MOST_ENROLLED * MOST_ENTRIES }
+    {
+        self.act_making::<Brand>(seat, actor, input, posts, notes)
+    }
+
+    /// Draws the next stamp for an entry that the proof alone sees: its pieces.
+    fn act_making<M: Making>(
+        &self,
+        seat: &mut Seat,
+        _actor: Actor,
+        _input: &Input,
+        _posts: &Posts,
+        _notes: &Notes,
+    ) -> Stamp
+        requires clock { seat.old.clock ≡ self.now }
+        requires own { (k : ℕ) × (part : List Stamped) × Owns seat.old.view k part × (length part < MOST_ENTRIES) }
+        requires cause { DeliveryMeets (Knows seat.old.view) M.entry }
+        ensures clock { seat.new.clock ≡ self.now }
+        ensures acts { (seat.new.view ≡ acted (stamped result.0 M.entry) seat.old.view) × IsAfter result.0 seat.old.view × (result.0 < MOST_ENROLLED * MOST_ENTRIES) }
     {
         Stamp(self.table.shared.fetch_add::<Act<M>>(&mut seat.token, 0, 1))
     }

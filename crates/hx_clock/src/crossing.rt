@@ -1,5 +1,6 @@
 //! What threads share or hand on: that each type may is proved here.
 use crate::clock::Clock;
+use crate::growing::GrowingPart;
 use crate::parts::{Part, Stamped};
 use crate::seat::Seat;
 
@@ -24,5 +25,9 @@ fn hand_on_entry(stamped: &Stamped) {
 }
 
 fn hand_on_part(part: &Part) {
+    may_hand_on(part);
+}
+
+fn hand_on_growing_part(part: &GrowingPart) {
     may_hand_on(part);
 }

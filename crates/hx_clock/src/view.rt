@@ -1,11 +1,11 @@
 //! What seats carry and know. These types are for contracts: no value of them is made.
-use crate::parts::Part;
+use crate::parts::Stamped;
 use hx_types::Sequence;
 
 /// What the actor of one number has made, from its first entry on.
 pub struct NumberedPart {
     pub number: u32,
-    pub entries: Part,
+    pub entries: Sequence<Stamped>,
 }
 
 /// What a seat carries and knows.

@@ -1,12 +1,12 @@
 -- What the merge of stretches gives.
-use Rattle.std.proofs.Common.{cond, ◌≡◌, ℕ, ◌+◌, ◌<◌, Bool, true, false, List, [], ◌∷◌, ◌++◌, map, flat_map, length, eqb, Option, refl, ap, sym, subst, ◌∙◌, arith, append-nil}
+use Rattle.std.proofs.Common.{cond, ◌≡◌, ℕ, ◌+◌, Bool, true, false, List, [], ◌∷◌, ◌++◌, map, flat_map, length, eqb, Option, refl, ap, sym, subst, ◌∙◌, arith, append-nil}
 use Rattle.std.specs.Prelude.{nat_lt, slice_index_or, IsPermutation, All}
 use Rattle.std.specs.Cmp.{IsStrictWeakOrder}
 use Rattle.std.specs.Ordering.{is_lt, nat_cmp}
 use Rattle.std.specs.declared.cmp.Ordering.TheVariants.{Less, Equal, Greater}
 use Rattle.std.specs.Iterator.{AlwaysYields, DrainsIf, YieldsFirst}
 use Rattle.std.specs.Iterator.Runs.{Run, WholeRun, EveryRun, ItemsAre}
-use Rattle.std.specs.List.{AllByRecursion, IsDistinct}
+use Rattle.std.specs.List.{AllByRecursion}
 use Rattle.std.specs.List.Sorted.{IsSortedBy, IsStrictlyIncreasing}
 use Rattle.std.specs.Vec.Iter.{into_iter_items, into_iter_steps}
 use Rattle.std.specs.declared.vec.IntoIter.{IntoIter}
@@ -23,7 +23,6 @@ use Rattle.hx_clock.specs.Parts.{all_of, stamps_of, IsCausal}
 use Rattle.hx_clock.proofs.Lemmas.{each_all, each_in}
 use Rattle.hx_law_threads.proofs.Lemmas.{in_permuted, map_append}
 use Rattle.hx_law_threads.specs.Merged.{IsMerged}
-use Rattle.hx_trace.specs.declared.turns.Turn.{Turn}
 use Rattle.hx_trace.specs.Turns.{IsTurnOf, stamped_at}
 use Rattle.hx_gather.specs.Stretches.{numbered, stretches_from, stretches_of, turns_in, AreTurns, StretchSeen}
 use Rattle.hx_gather.proofs.Stretched.{all_entries, all_from, all_stretches, both_all, entries_in, IsStretchOf}

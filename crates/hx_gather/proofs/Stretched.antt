@@ -1,9 +1,13 @@
 -- The stretches of parts.
-use Rattle.std.proofs.Common.{cond, ◌≡◌, ℕ, zero, suc, ◌+◌, ◌<◌, ◌≤◌, Bool, true, false, List, [], ◌∷◌, ◌++◌, map, flat_map, length, get_or, take, drop, eqb, slice_get, Some, refl, ap, sym, subst, ◌∙◌, arith, rules}
-use Rattle.std.specs.Prelude.{nat_lt, ⊤}
+use Rattle.std.proofs.Common.{cond, ◌≡◌, ℕ, zero, suc, ◌+◌, ◌-◌, ◌<◌, ◌≤◌, Bool, true, false, List, [], ◌∷◌, ◌++◌, map, flat_map, length, get_or, take, drop, eqb, slice_get, Option, Some, None, refl, ap, sym, subst, ◌∙◌, arith, rules}
+use Rattle.std.specs.Prelude.{nat_lt, slice_range, ⊤}
 use Rattle.std.specs.List.{AllByRecursion}
-use Rattle.std.proofs.lemmas.Bool.{cond_both, eq-eqb, eqb-true}
-use Rattle.std.proofs.lemmas.List.{append_assoc, drop_more, length-append}
+use Rattle.std.proofs.lemmas.Bool.{cond_both, eq-eqb, eqb-true, ne_eqb}
+use Rattle.std.proofs.Math.Seq.{drop-nil}
+use Rattle.std.proofs.lemmas.List.{append-nil, append_assoc, length-append}
+use Rattle.std.specs.Option.{option_map}
+use Rattle.hx_types.specs.declared.ids.Stamp.{Stamp}
+use Rattle.hx_clock.proofs.Lemmas.{some_same}
 use Rattle.hx_clock.specs.declared.parts.Stamped.{Stamped}
 use Rattle.hx_clock.specs.Parts.{all_of}
 use Rattle.hx_trace.specs.declared.turns.Turn.{Turn}
@@ -43,10 +47,33 @@ pub following_bound : (n : ℕ) (xs : List Stamped) → following n xs ≤ lengt
 following_bound n [] = omega arith
 following_bound n (x ∷ xs) = let h = some_or_none (eqb x.stamp.0 n) (following (n + 1) xs) (length xs) (following_bound (n + 1) xs) in omega (arith, h)
 
-pub following_step : (n : ℕ) (xs : List Stamped) (k : ℕ) (x : Stamped) → k < length xs → x ≡ get_or xs k x
-    → following (n + k) (drop k xs) ≡ cond (eqb x.stamp.0 (n + k)) (suc (following (n + k + 1) (drop (k + 1) xs))) 0
-following_step n xs k x lt is =
-    ap (following (n + k)) (drop_more xs k x lt) ∙ ap (λ (y : Stamped). cond (eqb y.stamp.0 (n + k)) (suc (following (n + k + 1) (drop (k + 1) xs))) 0) (sym is)
+-- one stamp more
+pub following_told : (m : ℕ) (part : List Stamped) (place : ℕ) (s : Stamp) → Some s ≡ option_map (λ (x : Stamped). x.stamp) (slice_get part place)
+    → following m (drop place part) ≡ cond (eqb s.0 m) (suc (following (m + 1) (drop (suc place) part))) 0
+following_told m [] place s is = let none : Some s ≡ None = is in absurd (cc)
+following_told m (y ∷ ys) zero s is = let same : s ≡ y.stamp = cc in ap (λ (t : Stamp). cond (eqb t.0 m) (suc (following (m + 1) ys)) 0) (sym same)
+following_told m (y ∷ ys) (suc place) s is = following_told m ys place s is
+
+-- the count goes on where the stamp follows
+pub following_more : (all stamp count at : ℕ) (part : List Stamped) (s : Stamp) → Some s ≡ option_map (λ (x : Stamped). x.stamp) (slice_get part (at + count)) → s.0 ≡ stamp + count
+    → all ≡ count + following (stamp + count) (drop (at + count) part) → all ≡ count + 1 + following (stamp + (count + 1)) (drop (at + (count + 1)) part)
+following_more all stamp count at part s is follows before =
+    let m : stamp + count + 1 ≡ stamp + (count + 1) = omega arith in
+    let n : suc (at + count) ≡ at + (count + 1) = omega arith in
+    let one : following (stamp + count) (drop (at + count) part) ≡ suc (following (stamp + (count + 1)) (drop (at + (count + 1)) part)) =
+    following_told (stamp + count) part (at + count) s is
+    ∙ ap (λ b. cond b (suc (following (stamp + count + 1) (drop (suc (at + count)) part))) 0) (eq-eqb s.0 (stamp + count) follows)
+    ∙ (λ i. suc (following (m i) (drop (n i) part))) in
+    omega (arith, before, one)
+
+-- and ends where it doesn't
+pub following_ends : (all stamp count at : ℕ) (part : List Stamped) (s : Stamp) → Some s ≡ option_map (λ (x : Stamped). x.stamp) (slice_get part (at + count)) → (s.0 ≡ stamp + count → ⊥)
+    → all ≡ count + following (stamp + count) (drop (at + count) part) → count ≡ all
+following_ends all stamp count at part s is gap before =
+    let none : following (stamp + count) (drop (at + count) part) ≡ 0 =
+    following_told (stamp + count) part (at + count) s is
+    ∙ ap (λ b. cond b (suc (following (stamp + count + 1) (drop (suc (at + count)) part))) 0) (ne_eqb s.0 (stamp + count) gap) in
+    omega (arith, before, none)
 
 -- ---- items with their numbers
 pub numbered_more : {A B : Type 0} (f : ℕ → A → B) (n : ℕ) (xs : List A) (k : ℕ) (d : A) → k < length xs → numbered f n (take (suc k) xs) ≡ numbered f n (take k xs) ++ f (n + k) (get_or xs k d) ∷ []
@@ -188,17 +215,88 @@ taken_first part at (y ∷ ys) front back x n first count is rest long =
     let end : at + suc (following (y.stamp.0 + 1) ys) ≡ at + length front = omega (arith, all, long) in
     first_stretch part at y ys ∙ (λ i. record { part = part; at = at; stamp = (same i).stamp.0; entries = front_is i } ∷ stretches_from part (end i) (back_is i))
 
--- one turn more of a stretch
-pub turn_more : (s : StretchSeen) (part at stamp : ℕ) (xs : List Stamped) (old turns new : List Turn) (place : ℕ) (x : Stamped) (t : Turn) → s ≡ record { part = part; at = at; stamp = stamp; entries = xs }
-    → new ≡ turns ++ t ∷ [] → turns ≡ old ++ numbered (turn_at s.part) s.at (take place s.entries) → place < length xs → x ≡ get_or xs place x → t ≡ turn_at part (at + place) x
-    → new ≡ old ++ numbered (turn_at s.part) s.at (take (place + 1) s.entries)
-turn_more s part at stamp xs old turns new place x t seen pushed before lt is turn =
-    let from : turns ≡ old ++ numbered (turn_at part) at (take place xs) = before ∙ ap (λ (r : StretchSeen). old ++ numbered (turn_at r.part) r.at (take place r.entries)) seen in
-    let next : suc place ≡ place + 1 = omega arith in
-    let more : numbered (turn_at part) at (take place xs) ++ t ∷ [] ≡ numbered (turn_at part) at (take (place + 1) xs) =
-    ap (λ u. numbered (turn_at part) at (take place xs) ++ u ∷ []) (turn ∙ ap (turn_at part (at + place)) is) ∙ sym (numbered_more (turn_at part) at xs place x lt) ∙ ap (λ k. numbered (turn_at part) at (take k xs)) next in
-    pushed ∙ ap (λ l. l ++ t ∷ []) from ∙ append_assoc old (numbered (turn_at part) at (take place xs)) (t ∷ []) ∙ ap (λ l. old ++ l) more
-    ∙ ap (λ (r : StretchSeen). old ++ numbered (turn_at r.part) r.at (take (place + 1) r.entries)) (sym seen)
+-- ---- runs of a part
+
+-- what is told of an item
+pub told : {A B : Type 0} (f : A → B) (o : Option A) (b : B) → Some b ≡ option_map f o → (x : A) × (o ≡ Some x) × (b ≡ f x)
+told f None b is = let none : Some b ≡ None = is in absurd (cc)
+told f (Some x) b is = (x, refl, some_same b (f x) is)
+
+get_first : {A : Type 0} (xs : List A) (n : ℕ) → slice_get (drop n xs) 0 ≡ slice_get xs n
+get_first xs zero = refl
+get_first [] (suc n) = refl
+get_first (x ∷ xs) (suc n) = get_first xs n
+
+drop_more_of : {A : Type 0} (xs : List A) (m n : ℕ) → drop n (drop m xs) ≡ drop (m + n) xs
+drop_more_of xs zero n = let e : n ≡ 0 + n = omega arith in ap (λ k. drop k xs) e
+drop_more_of [] (suc m) n = drop-nil n ∙ sym (drop-nil (suc m + n))
+drop_more_of (x ∷ xs) (suc m) n = let e : suc (m + n) ≡ suc m + n = omega arith in drop_more_of xs m n ∙ ap (λ k. drop k (x ∷ xs)) e
+
+long_take : {A : Type 0} (xs : List A) (n : ℕ) → n ≤ length xs → length (take n xs) ≡ n
+long_take xs zero h = refl
+long_take [] (suc n) h = absurd (omega (arith, h))
+long_take (x ∷ xs) (suc n) h = ap suc (long_take xs n (omega (arith, h)))
+
+-- what `next` of stretches gives, and what it leaves, of a part
+pub taken_next : (place at end n : ℕ) (part : List Stamped) (s : Stamp) → Some s ≡ option_map (λ (x : Stamped). x.stamp) (slice_get part at) → n ≡ following s.0 (drop at part) → end ≡ at + n
+    → stretches_from place at (drop at part) ≡ record { part = place; at = at; stamp = s.0; entries = slice_range part at end } ∷ stretches_from place end (drop end part)
+taken_next place at end n part s is count ends =
+    let x = told (λ (x : Stamped). x.stamp) (slice_get part at) s is in
+    let bound = following_bound s.0 (drop at part) in
+    let counted : n ≡ following x.0.stamp.0 (drop at part) = count ∙ ap (λ (t : Stamp). following t.0 (drop at part)) x.2 in
+    let many : end - at ≡ n = omega (arith, ends) in
+    let front : slice_range part at end ≡ take n (drop at part) = ap (λ k. take k (drop at part)) many in
+    let back : drop end part ≡ drop n (drop at part) = ap (λ k. drop k part) ends ∙ sym (drop_more_of part at n) in
+    let long : length (slice_range part at end) ≡ n = ap length front ∙ long_take (drop at part) n (omega (arith, count, bound)) in
+    let last : at + length (slice_range part at end) ≡ end = omega (arith, long, ends) in
+    taken_first place at (drop at part) (slice_range part at end) (drop end part) x.0 n (get_first part at ∙ x.1) counted front back long
+    ∙ (λ i. record { part = place; at = at; stamp = (sym x.2 i).0; entries = slice_range part at end } ∷ stretches_from place (last i) (drop end part))
+
+-- a run with one item more
+run_more : {A : Type 0} (xs : List A) (k : ℕ) (x : A) → slice_get xs k ≡ Some x → take (suc k) xs ≡ take k xs ++ x ∷ []
+run_more [] k x is = let none : None ≡ Some x = is in absurd (cc)
+run_more (y ∷ xs) zero x is = let same : y ≡ x = cc in ap (λ z. z ∷ []) same
+run_more (y ∷ xs) (suc k) x is = ap (λ l. y ∷ l) (run_more xs k x is)
+
+get_on : {A : Type 0} (xs : List A) (m k : ℕ) → slice_get (drop m xs) k ≡ slice_get xs (m + k)
+get_on xs zero k = let e : k ≡ 0 + k = omega arith in ap (slice_get xs) e
+get_on [] (suc m) k = refl
+get_on (x ∷ xs) (suc m) k = let e : suc (m + k) ≡ suc m + k = omega arith in get_on xs m k ∙ ap (slice_get (x ∷ xs)) e
+
+numbered_end : {A B : Type 0} (f : ℕ → A → B) (n : ℕ) (xs : List A) (x : A) → numbered f n (xs ++ x ∷ []) ≡ numbered f n xs ++ f (n + length xs) x ∷ []
+numbered_end f n [] x = let e : n ≡ n + 0 = omega arith in ap (λ m. f m x ∷ []) e
+numbered_end f n (y ∷ xs) x =
+    let e : n + 1 + length xs ≡ n + suc (length xs) = omega arith in
+    ap (λ l. f n y ∷ l) (numbered_end f (n + 1) xs x) ∙ ap (λ m. f n y ∷ (numbered f (n + 1) xs ++ f m x ∷ [])) e
+
+long_get : {A : Type 0} (xs : List A) (k : ℕ) (x : A) → slice_get xs k ≡ Some x → k < length xs
+long_get [] k x is = let none : None ≡ Some x = is in absurd (cc)
+long_get (y ∷ xs) zero x is = omega arith
+long_get (y ∷ xs) (suc k) x is = let h = long_get xs k x is in omega (arith, h)
+
+-- one turn more of a run of a part
+pub turn_more : (old turns new : List Turn) (place start at : ℕ) (part : List Stamped) (t : Turn) (b : Bool) → new ≡ turns ++ t ∷ [] → turns ≡ old ++ numbered (turn_at place) start (slice_range part start at) → start ≤ at
+    → Some b ≡ option_map (λ (x : Stamped). nat_lt 0 (length x.entry.notes)) (slice_get part at) → t ≡ record { part = place; at = at; has_notes = b }
+    → new ≡ old ++ numbered (turn_at place) start (slice_range part start (at + 1))
+turn_more old turns new place start at part t b pushed before from is turn =
+    let x = told (λ (x : Stamped). nat_lt 0 (length x.entry.notes)) (slice_get part at) b is in
+    let k = at - start in
+    let place_is : start + k ≡ at = omega (arith, from) in
+    let there : slice_get (drop start part) k ≡ Some x.0 = get_on part start k ∙ ap (slice_get part) place_is ∙ x.1 in
+    let next : at + 1 - start ≡ suc k = omega (arith, from) in
+    let longer : slice_range part start (at + 1) ≡ slice_range part start at ++ x.0 ∷ [] = ap (λ n. take n (drop start part)) next ∙ run_more (drop start part) k x.0 there in
+    let within = long_get (drop start part) k x.0 there in
+    let long : length (slice_range part start at) ≡ k = long_take (drop start part) k (omega (arith, within)) in
+    let last : start + length (slice_range part start at) ≡ at = omega (arith, long, from) in
+    let is_turn : t ≡ turn_at place (start + length (slice_range part start at)) x.0 = turn ∙ (λ i. record { part = place; at = sym last i; has_notes = x.2 i }) in
+    pushed ∙ (λ i. before i ++ is_turn i ∷ []) ∙ append_assoc old (numbered (turn_at place) start (slice_range part start at)) (turn_at place (start + length (slice_range part start at)) x.0 ∷ [])
+    ∙ ap (λ l. old ++ l) (sym (numbered_end (turn_at place) start (slice_range part start at) x.0) ∙ ap (numbered (turn_at place) start) (sym longer))
+
+-- no turn yet
+pub no_turns : (old : List Turn) (place start : ℕ) (part : List Stamped) → old ≡ old ++ numbered (turn_at place) start (slice_range part start start)
+no_turns old place start part =
+    let none : start - start ≡ 0 = omega arith in
+    sym (append-nil old) ∙ ap (λ n. old ++ numbered (turn_at place) start (take n (drop start part))) (sym none)
 
 -- ---- what is merged
 

@@ -1,5 +1,5 @@
 -- Stretches: entries of one part whose stamps follow one another.
-use Rattle.std.specs.Prelude.{◌≡◌, ℕ, suc, ◌+◌, cond, eqb, List, [], ◌∷◌, length, map, nat_lt}
+use Rattle.std.specs.Prelude.{ℕ, suc, ◌+◌, ◌<◌, ◌≤◌, ◌^◌, cond, eqb, List, [], ◌∷◌, length, map, nat_lt}
 use Rattle.std.specs.List.{AllByRecursion}
 use Rattle.hx_clock.specs.declared.parts.Stamped.{Stamped}
 use Rattle.hx_law_threads.specs.Merged.{IsMerged}
@@ -12,6 +12,12 @@ pub record StretchSeen : Type 0 where
   pub at : ℕ
   pub stamp : ℕ
   pub entries : List Stamped
+
+-- the places of the run lie in the part, which has few entries
+pub record IsRunIn (part : List Stamped) (at end : ℕ) : Type 0 where
+  pub order : at ≤ end
+  pub within : end ≤ length part
+  pub few : length part < 2 ^ 32
 
 -- f of each item with its number, of which the first is n
 abbrev pub numbered : {A B : Type 0} → (ℕ → A → B) → ℕ → List A → List B

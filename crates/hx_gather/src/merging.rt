@@ -52,7 +52,7 @@ fn sources_of<'a>(alloc: Global, parts: &'a [Part]) -> Result<Vec<Stretches<'a>>
 {
     let mut sources = Vec::with_capacity(alloc, parts.len())?;
     for (place, part) in parts.iter().enumerate() {
-        sources.push(Stretches::new(place as u16, part.as_slice()))?;
+        sources.push(Stretches::new(place as u16, part))?;
     }
     Ok(sources)
 }

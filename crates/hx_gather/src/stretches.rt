@@ -1,12 +1,12 @@
-ghost use Rattle.std.specs.Prelude.{ℕ, ◌≡◌, ◌==◌, ◌≤◌, ◌<◌, ◌^◌, ◌++◌, length, OnOk};
+ghost use Rattle.std.specs.Prelude.{ℕ, ◌≡◌, ◌==◌, ◌≤◌, ◌<◌, ◌^◌, ◌+◌, ◌++◌, drop, length, OnOk};
 ghost use Rattle.std.proofs.Common.{rules};
 ghost use Rattle.std.specs.Cmp.{partial_order_from_own_ties};
 ghost use Rattle.std.specs.Cmp.Rules.{comparing};
 ghost use Rattle.std.specs.Iterator.{YieldsFirst, item_count};
 ghost use Rattle.std.specs.Ordering.{as_partial_cmp, nat_cmp, on};
-ghost use Rattle.hx_gather.specs.Stretches.{following, stretches_from, turns_in};
+ghost use Rattle.hx_gather.specs.Stretches.{IsRunIn, following, stretches_from, turns_in};
 
-use hx_clock::Stamped;
+use hx_clock::Part;
 use hx_trace::Turn;
 use hx_types::Memory;
 use std::cmp::Ordering;
@@ -16,21 +16,24 @@ use std::marker::Model;
 /// Two are compared by their first stamps alone.
 #[derive(Drop)]
 pub(crate) struct Stretch<'a> {
-    part: u16,
+    part: &'a Part,
+    // The part's place among all parts.
+    place: u16,
+    // The place in the part of the first entry, and that after the last.
     at: u32,
+    end: u32,
     stamp: u64,
-    entries: &'a [Stamped],
 }
 
 impl<'a> Model for Stretch<'a> {
-    ghost use Rattle.std.specs.Prelude.{◌+◌, ◌<◌, ◌^◌, length};
-    ghost use Rattle.hx_gather.specs.Stretches.{StretchSeen};
+    ghost use Rattle.std.specs.Prelude.{slice_range};
+    ghost use Rattle.hx_gather.specs.Stretches.{StretchSeen, IsRunIn};
 
     ghost Value = { StretchSeen };
 
-    ghost view = { λ s. record { part = s.part; at = s.at; stamp = s.stamp; entries = s.entries.now } };
+    ghost view = { λ s. record { part = s.place; at = s.at; stamp = s.stamp; entries = slice_range s.part.now s.at s.end } };
 
-    ghost invariant = { λ s. s.at + length s.entries.now < 2 ^ 32 };
+    ghost invariant = { λ s. IsRunIn s.part.now s.at s.end };
 }
 
 impl<'a> PartialEq for Stretch<'a> {
@@ -76,11 +79,11 @@ impl<'a> Stretch<'a> {
     pub(crate) fn take_turns(&self, turns: &mut Vec<Turn>) -> Result<(), Memory>
         ensures { OnOk result (turns.new.items ≡ turns.old.items ++ turns_in self.now) }
     {
-        for (place, stamped) in self.entries.iter().enumerate() {
+        for at in self.at..self.end {
             turns.push(Turn {
-                part: self.part,
-                at: self.at + place as u32,
-                has_notes: stamped.entry.notes.len() > 0,
+                part: self.place,
+                at,
+                has_notes: self.part.has_notes(at as usize),
             })?;
         }
         Ok(())
@@ -90,33 +93,29 @@ impl<'a> Stretch<'a> {
 /// The stretches of a part that are left, in order. Contracts see them.
 #[derive(Drop)]
 pub(crate) struct Stretches<'a> {
-    part: u16,
+    part: &'a Part,
+    place: u16,
     at: u32,
-    entries: &'a [Stamped],
 }
 
 impl<'a> Model for Stretches<'a> {
-    ghost use Rattle.std.specs.Prelude.{◌+◌, ◌<◌, ◌^◌, List, length};
-    ghost use Rattle.hx_gather.specs.Stretches.{StretchSeen, stretches_from};
+    ghost use Rattle.std.specs.Prelude.{List, drop, length};
+    ghost use Rattle.hx_gather.specs.Stretches.{StretchSeen, IsRunIn, stretches_from};
 
     ghost Value = { List StretchSeen };
 
-    ghost view = { λ s. stretches_from s.part s.at s.entries.now };
+    ghost view = { λ s. stretches_from s.place s.at (drop s.at s.part.now) };
 
-    ghost invariant = { λ s. s.at + length s.entries.now < 2 ^ 32 };
+    ghost invariant = { λ s. IsRunIn s.part.now s.at (length s.part.now) };
 }
 
 impl<'a> Stretches<'a> {
     /// The stretches of the part that has this place among all parts.
-    pub(crate) fn new(part: u16, entries: &'a [Stamped]) -> Stretches<'a>
-        requires few { length entries.now < 2 ^ 32 }
-        ensures { result ≡ stretches_from part 0 entries.now }
+    pub(crate) fn new(place: u16, part: &'a Part) -> Stretches<'a>
+        requires few { length part.now < 2 ^ 32 }
+        ensures { result ≡ stretches_from place 0 part.now }
     {
-        Stretches {
-            part,
-            at: 0,
-            entries,
-        }
+        Stretches { part, place, at: 0 }
     }
 }
 
@@ -128,30 +127,36 @@ impl<'a> Iterator for Stretches<'a> {
     ghost remaining = { item_count (λ stretches. stretches) };
 
     fn next(&mut self) -> Option<Stretch<'a>> {
-        let first = self.entries.first()?;
-        let stamp = first.stamp.0;
-        let (entries, rest) = self.entries.split_at(count_following(self.entries, stamp));
-        let stretch = Stretch {
+        let at = self.at;
+        if at as usize >= self.part.len() {
+            return None;
+        }
+        let stamp = self.part.stamp(at as usize).0;
+        let end = at + count_following(self.part, at, stamp);
+        self.at = end;
+        Some(Stretch {
             part: self.part,
-            at: self.at,
+            place: self.place,
+            at,
+            end,
             stamp,
-            entries,
-        };
-        self.at += entries.len() as u32;
-        self.entries = rest;
-        Some(stretch)
+        })
     }
 }
 
-/// How many entries at the front have stamps that follow one another, from this one on.
-fn count_following(entries: &[Stamped], stamp: u64) -> usize
-    ensures count { result ≡ following stamp entries.now }
-    ensures bound { result ≤ length entries.now }
+/// How many entries of a part, from a place on, have stamps that follow one another, from this one
+/// on.
+fn count_following(part: &Part, at: u32, stamp: u64) -> u32
+    requires { IsRunIn part.now at (length part.now) }
+    ensures count { result ≡ following stamp (drop at part.now) }
+    ensures bound { at + result ≤ length part.now }
 {
-    for (place, stamped) in entries.iter().enumerate() {
-        if stamped.stamp.0.checked_sub(stamp) != Some(place as u64) {
-            return place;
+    let entries = part.len() as u32 - at;
+    for count in 0..entries {
+        let next = part.stamp((at + count) as usize).0;
+        if next < stamp || next - stamp != u64::from(count) {
+            return count;
         }
     }
-    entries.len()
+    entries
 }

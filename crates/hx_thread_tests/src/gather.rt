@@ -172,7 +172,7 @@ fn add(rt: &impl Abort, alloc: Global, part: &mut Part, actor: Actor, stamp: u64
         stamp: Stamp(stamp),
         entry: idle(alloc, actor),
     };
-    let Ok(()) = part.push(added) else {
+    let Ok(()) = part.push(alloc, added) else {
         panic!(rt; "no memory");
     };
 }

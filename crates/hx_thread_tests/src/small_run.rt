@@ -144,7 +144,13 @@ fn enrolled(alloc: Global, clock: &mut Clock, counting: &mut Seat, actor: Actor)
 }
 
 /// One entry more of an actor, and the name of its first post.
-fn step(rt: &impl Abort, clock: &Clock, actor: &mut SeatedPart, entry: Entry) -> PostId
+fn step(
+    rt: &impl Abort,
+    alloc: Global,
+    clock: &Clock,
+    actor: &mut SeatedPart,
+    entry: Entry,
+) -> PostId
     requires seat { IsSeated clock.now actor.old }
     requires few { length actor.old.part < 2 }
     requires cause { DeliveryMeets (Knows actor.old.seat.view) entry }
@@ -153,7 +159,7 @@ fn step(rt: &impl Abort, clock: &Clock, actor: &mut SeatedPart, entry: Entry) ->
     ensures made { HasMade entry actor.old actor.new result }
 {
     let stamp = clock.act(&mut actor.seat, &entry);
-    let Ok(()) = actor.part.push(Stamped { stamp, entry }) else {
+    let Ok(()) = actor.part.push(alloc, Stamped { stamp, entry }) else {
         panic!(rt; "no memory");
     };
     PostId {
@@ -197,11 +203,11 @@ fn small_run(rt: &impl Abort, alloc: Global) -> Result<Gathered, Memory>
     let (mut clock, mut counting) = begun(rt, alloc);
     let mut session = enrolled(alloc, &mut clock, &mut counting, SESSION);
     let mut server = enrolled(alloc, &mut clock, &mut counting, SERVER);
-    let sent = step(rt, &clock, &mut session, asking(rt, alloc));
+    let sent = step(rt, alloc, &clock, &mut session, asking(rt, alloc));
     pass(&clock, &mut session, &mut server, sent);
-    let answered = step(rt, &clock, &mut server, answering(rt, alloc, sent));
+    let answered = step(rt, alloc, &clock, &mut server, answering(rt, alloc, sent));
     pass(&clock, &mut server, &mut session, answered);
-    step(rt, &clock, &mut session, ended(rt, alloc, answered));
+    step(rt, alloc, &clock, &mut session, ended(rt, alloc, answered));
     let actors = both(rt, alloc, server, session);
     gather(alloc, clock, counting, actors)
 }

@@ -1,4 +1,3 @@
-pub mod Spans
 pub mod Longer
 pub mod Naming
 pub mod Numbering

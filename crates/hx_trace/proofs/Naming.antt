@@ -2,29 +2,24 @@
 use Rattle.std.proofs.Common.{◌≡◌, ℕ, zero, suc, ◌+◌, ◌-◌, ◌<◌, ◌≤◌, List, [], ◌∷◌, ◌++◌, length, length-append, map, Option, Some, None, refl, sym, ap, ◌∙◌, arith, subst}
 use Rattle.std.proofs.lemmas.List.{length-map}
 use Rattle.std.specs.Prelude.{IfSome, MatchOption, slice_get, reverse, unwrap_or}
-use Rattle.std.specs.List.{AllByRecursion}
 use Rattle.std.specs.Option.{option_map}
 use Rattle.hx_types.specs.Words.{when_some}
 use Rattle.hx_model.specs.Types.{Entry, Note, Post, PostId}
 use Rattle.hx_model.specs.Runs.{post_named}
 use Rattle.hx_trace.specs.declared.heads.Head.{Head}
-use Rattle.hx_trace.specs.declared.heads.Taken.{Taken}
-use Rattle.hx_trace.specs.declared.heads.Taken.TheVariants.{Tick, Halt, Sent, Whole}
+use Rattle.hx_trace.specs.declared.heads.InputHead.{InputHead}
+use Rattle.hx_trace.specs.declared.heads.InputHead.TheVariants.{Tick, Halt, Sent, Whole}
 use Rattle.hx_trace.specs.declared.lists.Lists.{Lists}
-use Rattle.hx_trace.specs.Lists.{AreWhole, IsHeadIn, entries_in, entry_by, filed_by, whole_by}
+use Rattle.hx_trace.specs.Lists.{AreWhole, entries_by, entries_in, entry_by, filed_by, posts_from, whole_by}
+use Rattle.hx_trace.proofs.Longer.{entry_at_head, head_in, length_entries, no_entry_at}
 use Rattle.hx_trace.specs.Rooms.{HasItsRoom, IsRoomFor}
-use Rattle.hx_trace.specs.declared.heads.Room.{Room}
+use Rattle.hx_clock.specs.declared.rooms.Room.{Room}
 use Rattle.hx_trace.specs.Turns.{turned}
 use Rattle.hx_trace.proofs.Numbering.{entry_is, no_entry}
-use Rattle.hx_trace.proofs.Spans.{get_range, get_within_range}
+use Rattle.hx_clock.proofs.Lemmas.{get_range, get_within_range}
 
 pub some_is : {A : Type 0} (x y : A) → Some x ≡ Some y → x ≡ y
 some_is x y h = ap (λ o. unwrap_or o x) h
-
-get_map : {A B : Type 0} (f : A → B) (xs : List A) (i : ℕ) → slice_get (map f xs) i ≡ option_map f (slice_get xs i)
-get_map f [] i = refl
-get_map f (x ∷ xs) zero = refl
-get_map f (x ∷ xs) (suc i) = get_map f xs i
 
 pub get_within : {A : Type 0} (xs : List A) (i : ℕ) (x : A) → slice_get xs i ≡ Some x → i < length xs
 get_within [] i x h = let none : None ≡ Some x = h in absurd (cc)
@@ -73,20 +68,25 @@ pub record LiesAt (posts : List Post) (notes : List Note) (wholes : List Entry) 
   pub head : Head
   pub head_is : slice_get hs at ≡ Some head
   pub within : at < length hs
-  pub post_is : slice_get (entry_by posts notes wholes head).outputs place ≡ Some p
+  pub post_is : slice_get (entry_by posts notes wholes head (slice_get hs (suc at))).outputs place ≡ Some p
 
 by_head : (posts : List Post) (notes : List Note) (wholes : List Entry) (hs : List Head) (at place : ℕ) (p : Post) (o : Option Head) → slice_get hs at ≡ o
-    → when_some (option_map (entry_by posts notes wholes) o) None (λ (x : Entry). slice_get x.outputs place) ≡ Some p → LiesAt posts notes wholes hs at place p
-by_head posts notes wholes hs at place p None e h = let none : None ≡ Some p = h in absurd (cc)
-by_head posts notes wholes hs at place p (Some head) e h = record { head = head; head_is = e; within = get_within hs at head e; post_is = h }
+    → when_some (slice_get (entries_by posts notes wholes hs) at) None (λ (x : Entry). slice_get x.outputs place) ≡ Some p → LiesAt posts notes wholes hs at place p
+by_head posts notes wholes hs at place p None e h =
+    let none : None ≡ Some p = ap (λ (o : Option Entry). when_some o None (λ (x : Entry). slice_get x.outputs place)) (sym (no_entry_at posts notes wholes hs at e)) ∙ h in absurd (cc)
+by_head posts notes wholes hs at place p (Some head) e h = record {
+  head = head;
+  head_is = e;
+  within = get_within hs at head e;
+  post_is = ap (λ (o : Option Entry). when_some o None (λ (x : Entry). slice_get x.outputs place)) (sym (entry_at_head posts notes wholes hs at head e)) ∙ h;
+}
 
 pub lies_at : (posts : List Post) (notes : List Note) (wholes : List Entry) (first : List Entry) (hs : List Head) (id : PostId) (p : Post)
-    → post_named id (reverse (first ++ map (entry_by posts notes wholes) hs)) ≡ Some p → length first ≤ id.entry - 1 → LiesAt posts notes wholes hs (id.entry - 1 - length first) id.place p
+    → post_named id (reverse (first ++ entries_by posts notes wholes hs)) ≡ Some p → length first ≤ id.entry - 1 → LiesAt posts notes wholes hs (id.entry - 1 - length first) id.place p
 lies_at posts notes wholes first hs id p h past =
-    let entries : List Entry = map (entry_by posts notes wholes) hs in
+    let entries : List Entry = entries_by posts notes wholes hs in
     let some : 0 < id.entry = sent_some (first ++ entries) id p h in
-    let here : slice_get (first ++ entries) (id.entry - 1) ≡ option_map (entry_by posts notes wholes) (slice_get hs (id.entry - 1 - length first)) =
-    get_after first entries (id.entry - 1) past ∙ get_map (entry_by posts notes wholes) hs (id.entry - 1 - length first) in
+    let here : slice_get (first ++ entries) (id.entry - 1) ≡ slice_get entries (id.entry - 1 - length first) = get_after first entries (id.entry - 1) past in
     by_head posts notes wholes hs (id.entry - 1 - length first) id.place p (slice_get hs (id.entry - 1 - length first)) refl
     (ap (λ (o : Option Entry). when_some o None (λ (x : Entry). slice_get x.outputs id.place)) (sym here) ∙ sym (post_at (first ++ entries) id some) ∙ h)
 
@@ -101,61 +101,55 @@ lies_in l id p turns place sent many past is =
     (lies_at l.posts.items l.notes.items l.wholes.items first l.heads.items id p sent (omega (arith, long, many, past)))
 
 -- the post of a head lies among all posts, where its entry isn't kept whole
-filed_post : (posts : List Post) (notes : List Note) (wholes : List Entry) (head : Head) (place : ℕ) (p : Post) → whole_by wholes head.taken ≡ None
-    → slice_get (entry_by posts notes wholes head).outputs place ≡ Some p → slice_get posts (head.posts.start + place) ≡ Some p
-filed_post posts notes wholes head place p none h =
-    get_range posts head.posts.start (head.posts.start + head.posts.count) place p
-    (subst (λ (o : Option Entry). slice_get (when_some o (filed_by posts notes head) (λ whole. whole)).outputs place ≡ Some p) none h)
-
-pub each_at : {A : Type 0} (P : A → Type 0) (xs : List A) (i : ℕ) (x : A) → AllByRecursion P xs → slice_get xs i ≡ Some x → P x
-each_at P [] i x w h = let none : None ≡ Some x = h in absurd (cc)
-each_at P (y ∷ xs) zero x w h = subst P (some_is y x h) w.0
-each_at P (y ∷ xs) (suc i) x w h = each_at P xs i x w.1 h
+filed_post : (posts : List Post) (notes : List Note) (wholes : List Entry) (head : Head) (next : Option Head) (place : ℕ) (p : Post) → whole_by wholes head.input ≡ None
+    → slice_get (entry_by posts notes wholes head next).outputs place ≡ Some p → slice_get posts (head.posts + place) ≡ Some p
+filed_post posts notes wholes head next place p none h =
+    get_range posts head.posts (posts_from (length posts) next) place p
+    (subst (λ (o : Option Entry). slice_get (when_some o (filed_by posts notes head next) (λ whole. whole)).outputs place ≡ Some p) none h)
 
 -- the entry is none that is kept whole
-pub unkept : (wholes : List Entry) (t : Taken) → ((at : ℕ) → t ≡ Whole at → ⊥) → whole_by wholes t ≡ None
+pub unkept : (wholes : List Entry) (t : InputHead) → ((at : ℕ) → t ≡ Whole at → ⊥) → whole_by wholes t ≡ None
 unkept wholes Tick h = refl
 unkept wholes Halt h = refl
 unkept wholes (Sent entry place at) h = refl
 unkept wholes (Whole at) h = absurd (h at refl)
 
 same_head : (posts : List Post) (notes : List Note) (wholes : List Entry) (hs : List Head) (i place : ℕ) (p : Post) (head : Head)
-    → LiesAt posts notes wholes hs i place p → slice_get hs i ≡ Some head → slice_get (entry_by posts notes wholes head).outputs place ≡ Some p
+    → LiesAt posts notes wholes hs i place p → slice_get hs i ≡ Some head → slice_get (entry_by posts notes wholes head (slice_get hs (suc i))).outputs place ≡ Some p
 same_head posts notes wholes hs i place p head at is =
     let same : at.head ≡ head = some_is at.head head (sym at.head_is ∙ is) in
-    subst (λ (h : Head). slice_get (entry_by posts notes wholes h).outputs place ≡ Some p) same at.post_is
+    subst (λ (h : Head). slice_get (entry_by posts notes wholes h (slice_get hs (suc i))).outputs place ≡ Some p) same at.post_is
 
 -- a post of an entry that isn't kept whole
 pub post_filed : (posts : List Post) (notes : List Note) (wholes : List Entry) (hs : List Head) (i place : ℕ) (p : Post) (head : Head)
-    → LiesAt posts notes wholes hs i place p → slice_get hs i ≡ Some head → whole_by wholes head.taken ≡ None
-    → slice_get posts (head.posts.start + place) ≡ Some p
+    → LiesAt posts notes wholes hs i place p → slice_get hs i ≡ Some head → whole_by wholes head.input ≡ None
+    → slice_get posts (head.posts + place) ≡ Some p
 post_filed posts notes wholes hs i place p head at is none =
-    filed_post posts notes wholes head place p none (same_head posts notes wholes hs i place p head at is)
+    filed_post posts notes wholes head (slice_get hs (suc i)) place p none (same_head posts notes wholes hs i place p head at is)
 
 -- the entry of the head at a place
 head_entry : (l : Lists) (id : PostId) (turns number place : ℕ) (head : Head) → turns ≡ length l.turns.items → (1 ≤ id.entry) × (number ≡ id.entry - 1) → (turns ≤ number) × (place ≡ number - turns)
-    → slice_get l.heads.items place ≡ Some head → slice_get (entries_in l) (id.entry - 1) ≡ Some (entry_by l.posts.items l.notes.items l.wholes.items head)
+    → slice_get l.heads.items place ≡ Some head → slice_get (entries_in l) (id.entry - 1) ≡ Some (entry_by l.posts.items l.notes.items l.wholes.items head (slice_get l.heads.items (suc place)))
 head_entry l id turns number place head many from past is =
     let first : List Entry = map (turned l.parts.items) l.turns.items in
-    let rest : List Entry = map (entry_by l.posts.items l.notes.items l.wholes.items) l.heads.items in
+    let rest : List Entry = entries_by l.posts.items l.notes.items l.wholes.items l.heads.items in
     let long : length first ≡ length l.turns.items = length-map l.turns.items (turned l.parts.items) in
     let at : id.entry - 1 - length first ≡ place = omega (arith, long, many, from, past) in
     get_after first rest (id.entry - 1) (omega (arith, long, many, from, past))
     ∙ ap (λ k. slice_get rest k) at
-    ∙ get_map (entry_by l.posts.items l.notes.items l.wholes.items) l.heads.items place
-    ∙ ap (λ (o : Option Head). option_map (entry_by l.posts.items l.notes.items l.wholes.items) o) is
+    ∙ entry_at_head l.posts.items l.notes.items l.wholes.items l.heads.items place head is
 
 -- an entry that isn't kept whole is told by its head
-filed_entry : (posts : List Post) (notes : List Note) (wholes : List Entry) (head : Head) → whole_by wholes head.taken ≡ None → entry_by posts notes wholes head ≡ filed_by posts notes head
-filed_entry posts notes wholes head none = ap (λ (o : Option Entry). when_some o (filed_by posts notes head) (λ whole. whole)) none
+filed_entry : (posts : List Post) (notes : List Note) (wholes : List Entry) (head : Head) (next : Option Head) → whole_by wholes head.input ≡ None → entry_by posts notes wholes head next ≡ filed_by posts notes head next
+filed_entry posts notes wholes head next none = ap (λ (o : Option Entry). when_some o (filed_by posts notes head next) (λ whole. whole)) none
 
 -- a post of a name lies where the posts of its head start
 named_post : (l : Lists) (id : PostId) (turns number place : ℕ) (head : Head) → turns ≡ length l.turns.items → (1 ≤ id.entry) × (number ≡ id.entry - 1) → (turns ≤ number) × (place ≡ number - turns)
-    → slice_get l.heads.items place ≡ Some head → whole_by l.wholes.items head.taken ≡ None → id.place < head.posts.count
-    → slice_get l.posts.items (head.posts.start + id.place) ≡ post_named id (reverse (entries_in l))
+    → slice_get l.heads.items place ≡ Some head → whole_by l.wholes.items head.input ≡ None → head.posts + id.place < posts_from (length l.posts.items) (slice_get l.heads.items (suc place))
+    → slice_get l.posts.items (head.posts + id.place) ≡ post_named id (reverse (entries_in l))
 named_post l id turns number place head many from past is none few =
-    sym (get_within_range l.posts.items head.posts.start head.posts.count id.place few)
-    ∙ ap (λ (e : Entry). slice_get e.outputs id.place) (sym (filed_entry l.posts.items l.notes.items l.wholes.items head none))
+    sym (get_within_range l.posts.items head.posts (posts_from (length l.posts.items) (slice_get l.heads.items (suc place))) id.place few)
+    ∙ ap (λ (e : Entry). slice_get e.outputs id.place) (sym (filed_entry l.posts.items l.notes.items l.wholes.items head (slice_get l.heads.items (suc place)) none))
     ∙ ap (λ (o : Option Entry). when_some o None (λ (x : Entry). slice_get x.outputs id.place)) (sym (head_entry l id turns number place head many from past is))
     ∙ sym (post_at (entries_in l) id (omega (arith, from)))
 
@@ -165,15 +159,14 @@ pub record IsPlaced (l : Lists) (id : PostId) (o : Option ℕ) : Type 0 where
   pub post : IfSome o (λ at. slice_get l.posts.items at ≡ post_named id (reverse (entries_in l)))
 
 pub filed_place : (l : Lists) (id : PostId) (turns number place : ℕ) (head : Head) → AreWhole l → turns ≡ length l.turns.items → (1 ≤ id.entry) × (number ≡ id.entry - 1) → (turns ≤ number) × (place ≡ number - turns)
-    → slice_get l.heads.items place ≡ Some head → whole_by l.wholes.items head.taken ≡ None
-    → (o : Option ℕ) → MatchOption o (head.posts.count ≤ id.place) (λ at. (at ≡ head.posts.start + id.place) × (id.place < head.posts.count)) → IsPlaced l id o
-filed_place l id turns number place head whole many from past is none None h = record { within = tt; post = tt }
-filed_place l id turns number place head whole many from past is none (Some at) h =
-    let lies : IsHeadIn (length l.posts.items) (length l.notes.items) (length l.wholes.items) head =
-    each_at (IsHeadIn (length l.posts.items) (length l.notes.items) (length l.wholes.items)) l.heads.items place head whole.heads is in
+    → slice_get l.heads.items place ≡ Some head → whole_by l.wholes.items head.input ≡ None
+    → (end : ℕ) → end ≡ posts_from (length l.posts.items) (slice_get l.heads.items (suc place)) → (o : Option ℕ) → MatchOption o (end ≤ head.posts + id.place) (λ at. (at ≡ head.posts + id.place) × (at < end)) → IsPlaced l id o
+filed_place l id turns number place head whole many from past is none end ends None h = record { within = tt; post = tt }
+filed_place l id turns number place head whole many from past is none end ends (Some at) h =
+    let lies = head_in (length l.posts.items) (length l.notes.items) (length l.wholes.items) l.heads.items place head whole.heads is in
     record {
-      within = omega (arith, h.0, h.1, lies.posts_end);
-      post = ap (λ k. slice_get l.posts.items k) h.0 ∙ named_post l id turns number place head many from past is none h.1;
+      within = omega (arith, h.1, ends, lies.posts_within);
+      post = ap (λ k. slice_get l.posts.items k) h.0 ∙ named_post l id turns number place head many from past is none (omega (arith, h.0, h.1, ends));
     }
 
 -- a post that was sent is one of the entries
@@ -200,7 +193,7 @@ few_named l r p n id at has for within is =
     let sent = some_at l.posts.items at within in
     let number = sent_within (entries_in l) id sent.0 (sym is ∙ sent.1) in
     let few = few_with_room l r p n has for in
-    let long = length-append (map (turned l.parts.items) l.turns.items) (map (entry_by l.posts.items l.notes.items l.wholes.items) l.heads.items) in
+    let long = length-append (map (turned l.parts.items) l.turns.items) (entries_by l.posts.items l.notes.items l.wholes.items l.heads.items) in
     let turns = length-map l.turns.items (turned l.parts.items) in
-    let heads = length-map l.heads.items (entry_by l.posts.items l.notes.items l.wholes.items) in
+    let heads = length_entries l.posts.items l.notes.items l.wholes.items l.heads.items in
     omega (arith, number, few, long, turns, heads)

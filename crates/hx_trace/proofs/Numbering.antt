@@ -5,7 +5,7 @@ use Rattle.std.proofs.lemmas.Bool.{cond_both, eqb-true, eqb-false, ne_eqb}
 use Rattle.std.proofs.lemmas.List.{reverse-append, reverse-reverse, length-reverse}
 use Rattle.hx_model.specs.Types.{Entry}
 use Rattle.hx_model.specs.Runs.{entry_at}
-use Rattle.hx_trace.proofs.Spans.{get_end}
+use Rattle.hx_clock.proofs.Lemmas.{get_end}
 
 slice_get-before : {A : Type 0} (xs : List A) (x : A) (i : ℕ) → (i ≡ length xs → ⊥) → slice_get (xs ++ x ∷ []) i ≡ slice_get xs i
 slice_get-before [] x zero h = absurd (h refl)

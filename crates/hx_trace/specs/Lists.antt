@@ -1,20 +1,15 @@
 -- How a trace lies in memory: first the entries of adopted parts, a turn for each, which lie in their parts; then a head for
 -- each entry that was put at the end, and the posts and notes of these one after another. Those that are kept whole lie apart.
-use Rattle.std.specs.Prelude.{◌≡◌, ◌⊎◌, ℕ, ◌+◌, ◌<◌, ◌≤◌, ◌^◌, ◌++◌, List, length, map, slice_get, slice_range, Option, None, Some, vec_capacity, ⊤}
+use Rattle.std.specs.Prelude.{◌≡◌, ◌⊎◌, ℕ, ◌+◌, ◌<◌, ◌≤◌, ◌^◌, ◌++◌, List, [], ◌∷◌, length, map, slice_get, slice_range, Option, None, Some, vec_capacity, ⊤}
 use Rattle.std.specs.List.{AllByRecursion}
-use Rattle.hx_model.specs.Types.{Deliver, Entry, Halt, Input, Note, Post, PostId, Tick}
+use Rattle.hx_model.specs.Types.{Coordinator, Deliver, Entry, Halt, Input, Note, Post, PostId, Tick}
 use Rattle.hx_types.specs.Words.{when_some}
 use Rattle.hx_trace.specs.declared.heads.Head.{Head}
-use Rattle.hx_trace.specs.declared.heads.Span.{Span}
-use Rattle.hx_trace.specs.declared.heads.Taken.{Taken}
-use Rattle.hx_trace.specs.declared.heads.Taken.TheVariants as a_taken
+use Rattle.hx_trace.specs.declared.heads.InputHead.{InputHead}
+use Rattle.hx_trace.specs.declared.heads.InputHead.TheVariants as a_head
 use Rattle.hx_trace.specs.declared.lists.Lists.{Lists}
 use Rattle.hx_trace.specs.declared.turns.Turn.{Turn}
 use Rattle.hx_trace.specs.Turns.{IsTurnOf, turned}
-
--- the items of a run
-abbrev pub spanned : {A : Type 0} → List A → Span → List A
-spanned xs s = slice_range xs s.start (s.start + s.count)
 
 -- the delivery of a post
 abbrev pub delivery : PostId → Option Post → Input
@@ -22,67 +17,92 @@ delivery id None = Tick
 delivery id (Some p) = Deliver id p.from p.message
 
 -- the entry that is kept whole, where the head names one
-abbrev pub whole_by : List Entry → Taken → Option Entry
-whole_by wholes a_taken.Tick = None
-whole_by wholes a_taken.Halt = None
-whole_by wholes (a_taken.Sent entry place at) = None
-whole_by wholes (a_taken.Whole at) = slice_get wholes at
+abbrev pub whole_by : List Entry → InputHead → Option Entry
+whole_by wholes a_head.Tick = None
+whole_by wholes a_head.Halt = None
+whole_by wholes (a_head.Sent entry place at) = None
+whole_by wholes (a_head.Whole at) = slice_get wholes at
 
 -- what was taken in an entry that isn't kept whole
-abbrev pub input_by : List Post → Taken → Input
-input_by posts a_taken.Tick = Tick
-input_by posts a_taken.Halt = Halt
-input_by posts (a_taken.Sent entry place at) = delivery (record { entry = entry; place = place }) (slice_get posts at)
-input_by posts (a_taken.Whole at) = Tick
+abbrev pub input_by : List Post → InputHead → Input
+input_by posts a_head.Tick = Tick
+input_by posts a_head.Halt = Halt
+input_by posts (a_head.Sent entry place at) = delivery (record { entry = entry; place = place }) (slice_get posts at)
+input_by posts (a_head.Whole at) = Tick
 
--- the entry of a head whose posts and notes lie in the lists
-abbrev pub filed_by : List Post → List Note → Head → Entry
-filed_by posts notes h = record { actor = h.actor; input = input_by posts h.taken; outputs = spanned posts h.posts; notes = spanned notes h.notes }
+-- where the next head's run begins, or the end of all where there is none
+abbrev pub posts_from : ℕ → Option Head → ℕ
+posts_from all None = all
+posts_from all (Some h) = h.posts
 
--- the entry of a head
-abbrev pub entry_by : List Post → List Note → List Entry → Head → Entry
-entry_by posts notes wholes h = when_some (whole_by wholes h.taken) (filed_by posts notes h) (λ whole. whole)
+abbrev pub notes_from : ℕ → Option Head → ℕ
+notes_from all None = all
+notes_from all (Some h) = h.notes
 
--- the entries of heads of the lists
-abbrev pub entries_by : Lists → List Head → List Entry
-entries_by l heads = map (entry_by l.posts.items l.notes.items l.wholes.items) heads
+-- the entry of a head, and the next head, whose posts and notes lie in the lists
+abbrev pub filed_by : List Post → List Note → Head → Option Head → Entry
+filed_by posts notes h next = record {
+  actor = h.actor;
+  input = input_by posts h.input;
+  outputs = slice_range posts h.posts (posts_from (length posts) next);
+  notes = slice_range notes h.notes (notes_from (length notes) next);
+}
+
+-- the entry of a head, and the next head
+abbrev pub entry_by : List Post → List Note → List Entry → Head → Option Head → Entry
+entry_by posts notes wholes h next = when_some (whole_by wholes h.input) (filed_by posts notes h next) (λ whole. whole)
+
+-- the entries of heads
+abbrev pub entries_by : List Post → List Note → List Entry → List Head → List Entry
+entries_by posts notes wholes [] = []
+entries_by posts notes wholes (h ∷ hs) = entry_by posts notes wholes h (slice_get hs 0) ∷ entries_by posts notes wholes hs
 
 -- the entries of turns of the parts, and then those of heads of the lists
 abbrev pub entries_of : Lists → List Turn → List Head → List Entry
-entries_of l ts hs = map (turned l.parts.items) ts ++ entries_by l hs
+entries_of l ts hs = map (turned l.parts.items) ts ++ entries_by l.posts.items l.notes.items l.wholes.items hs
 
 -- the entries of the lists
 abbrev pub entries_in : Lists → List Entry
 entries_in l = entries_of l l.turns.items l.heads.items
 
 -- what the head names lies in the lists
-abbrev pub IsTakenIn : ℕ → ℕ → Taken → Type 0
-IsTakenIn posts wholes a_taken.Tick = ⊤
-IsTakenIn posts wholes a_taken.Halt = ⊤
-IsTakenIn posts wholes (a_taken.Sent entry place at) = at < posts
-IsTakenIn posts wholes (a_taken.Whole at) = at < wholes
+abbrev pub IsInputIn : ℕ → ℕ → InputHead → Type 0
+IsInputIn posts wholes a_head.Tick = ⊤
+IsInputIn posts wholes a_head.Halt = ⊤
+IsInputIn posts wholes (a_head.Sent entry place at) = at < posts
+IsInputIn posts wholes (a_head.Whole at) = at < wholes
 
 -- t is what is kept of the input of an entry that isn't kept whole
-pub record IsFiledAs (l : Lists) (i : Input) (t : Taken) : Type 0 where
-  pub within : IsTakenIn (length l.posts.items) (length l.wholes.items) t
+pub record IsFiledAs (l : Lists) (i : Input) (t : InputHead) : Type 0 where
+  pub within : IsInputIn (length l.posts.items) (length l.wholes.items) t
   pub filed : whole_by l.wholes.items t ≡ None
   pub input : input_by l.posts.items t ≡ i
 
-pub record IsHeadIn (posts notes wholes : ℕ) (h : Head) : Type 0 where
-  pub taken : IsTakenIn posts wholes h.taken
-  pub posts_end : h.posts.start + h.posts.count ≤ posts
-  pub notes_end : h.notes.start + h.notes.count ≤ notes
+-- a head's runs begin where they end or before, and lie in the lists
+pub record IsHeadIn (posts notes wholes : ℕ) (h : Head) (next : Option Head) : Type 0 where
+  pub input : IsInputIn posts wholes h.input
+  pub posts_order : h.posts ≤ posts_from posts next
+  pub posts_within : posts_from posts next ≤ posts
+  pub notes_order : h.notes ≤ notes_from notes next
+  pub notes_within : notes_from notes next ≤ notes
 
-abbrev pub AreHeadsIn : Lists → List Head → Type 0
-AreHeadsIn l heads = AllByRecursion (IsHeadIn (length l.posts.items) (length l.notes.items) (length l.wholes.items)) heads
+abbrev pub AreHeadsIn : ℕ → ℕ → ℕ → List Head → Type 0
+AreHeadsIn posts notes wholes [] = ⊤
+AreHeadsIn posts notes wholes (h ∷ hs) = IsHeadIn posts notes wholes h (slice_get hs 0) × AreHeadsIn posts notes wholes hs
 
--- each turn names an entry of its part, and what each head names lies in the lists
+-- each turn names an entry of its part, what each head names lies in the lists, and there are few posts and notes
 pub record AreIn (l : Lists) (ts : List Turn) (hs : List Head) : Type 0 where
   pub turns : AllByRecursion (IsTurnOf l.parts.items) ts
-  pub heads : AreHeadsIn l hs
+  pub heads : AreHeadsIn (length l.posts.items) (length l.notes.items) (length l.wholes.items) hs
+  pub few_posts : length l.posts.items < 2 ^ 32
+  pub few_notes : length l.notes.items < 2 ^ 32
 
 abbrev pub AreWhole : Lists → Type 0
 AreWhole l = AreIn l l.turns.items l.heads.items
+
+-- the head of an entry that is kept whole, where there are so many posts, notes and such entries before it
+abbrev pub kept : ℕ → ℕ → ℕ → Head
+kept posts notes wholes = record { actor = Coordinator; input = a_head.Whole wholes; posts = posts; notes = notes }
 
 -- there is room for one entry more that is kept whole
 pub record HasWholeRoom (l : Lists) : Type 0 where

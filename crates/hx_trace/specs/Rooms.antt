@@ -1,8 +1,9 @@
 -- A trace that grows, and the room that it has.
-use Rattle.std.specs.Prelude.{◌≡◌, ℕ, ◌<◌, ◌≤◌, List, Option, None, Some, length, reverse, slice_get, ⊤}
+use Rattle.std.specs.Prelude.{◌≡◌, ℕ, ◌<◌, List, Option, None, Some, length, reverse, slice_get, ⊤}
 use Rattle.hx_model.specs.Types.{Entry, Post, PostId}
 use Rattle.hx_model.specs.Runs.{post_named}
-use Rattle.hx_trace.specs.declared.heads.Room.{Room}
+use Rattle.hx_clock.specs.declared.rooms.Room.{Room}
+pub use Rattle.hx_clock.specs.Rooms.{IsRoomFor}
 use Rattle.hx_trace.specs.declared.lists.Lists.{Lists}
 use Rattle.hx_trace.specs.Lists.{AreWhole, HasRoom}
 
@@ -21,11 +22,6 @@ HasItsRoom l (Some r) = HasRoom l r.posts r.notes
 pub record IsGrowing (l : Lists) (r : Option Room) : Type 0 where
   pub whole : AreWhole l
   pub room : HasItsRoom l r
-
--- there is room for so many posts and notes
-abbrev pub IsRoomFor : Option Room → ℕ → ℕ → Type 0
-IsRoomFor None p n = ⊥
-IsRoomFor (Some r) p n = (p ≤ r.posts) × (n ≤ r.notes)
 
 -- the post of this name lies at this place
 pub record LiesAt (g : Growth) (id : PostId) (at : ℕ) : Type 0 where

@@ -5,32 +5,8 @@ ghost use Rattle.hx_trace.specs.Entries.{entry_seen};
 use crate::heads::Head;
 use crate::lists::{Lists, entry_of, entry_of_turn};
 use crate::turns::Turn;
-use hx_types::{Actor, Message, Note, Post, PostId};
+use hx_clock::EntryRef;
 use std::marker::Model;
-
-/// What an actor took in an entry of a trace.
-#[derive(Clone, Copy)]
-pub enum InputRef<'a> {
-    /// Its own turn.
-    Tick,
-    /// It failed.
-    Halt,
-    /// A post that was sent to it.
-    Deliver {
-        id: PostId,
-        from: Actor,
-        message: &'a Message,
-    },
-}
-
-/// An entry of a trace: the input that its actor took, and what it posted and noted.
-#[derive(Clone, Copy)]
-pub struct EntryRef<'a> {
-    pub actor: Actor,
-    pub input: InputRef<'a>,
-    pub outputs: &'a [Post],
-    pub notes: &'a [Note],
-}
 
 /// The entries of a trace in order.
 #[derive(Drop)]
@@ -67,6 +43,6 @@ impl<'a> Iterator for Entries<'a> {
         }
         let (head, rest) = self.heads.split_first()?;
         self.heads = rest;
-        Some(entry_of(self.lists, head))
+        Some(entry_of(self.lists, head, rest.first()))
     }
 }

@@ -7,11 +7,11 @@ ghost use Rattle.hx_trace.specs.Lists.{AreAllFiled, AreWhole, IsFiledAs, deliver
 ghost use Rattle.hx_trace.specs.Rooms.{IsRoomFor, LiesAt};
 ghost use Rattle.hx_trace.specs.Turns.{IsTurnOf, turned};
 
-use crate::filing::{file, file_from, has_room, keep, reserve, reserve_whole};
-use crate::heads::{Room, Span, Taken};
-use crate::lists::{Lists, adopted, count, empty, head_at};
+use crate::filing::{append_parts, append_whole, has_room, reserve, reserve_whole};
+use crate::heads::InputHead;
+use crate::lists::{Lists, adopted, count, empty, head_at, next_of, posts_end};
 use crate::turns::Turn;
-use hx_clock::Parts;
+use hx_clock::{Parts, Room};
 use hx_types::{Actor, Entry, Input, Memory, Message, Notes, Post, PostId, Posts};
 use std::alloc::Global;
 use std::marker::Model;
@@ -43,7 +43,7 @@ impl Model for GrowingTrace {
 
 /// What is kept of an input that an actor may take: of a delivery its post's place in the trace.
 /// There is `None` where the post is one of an entry that is kept whole, which has no such place.
-fn taken_of(lists: &Lists, actor: Actor, input: &Input) -> Option<Taken>
+fn head_of_input(lists: &Lists, actor: Actor, input: &Input) -> Option<InputHead>
     requires whole { AreWhole lists.now }
     requires few_entries { length lists.now.turns.items + length lists.now.heads.items < 2 ^ 32 }
     requires few_posts { length lists.now.posts.items < 2 ^ 32 }
@@ -52,14 +52,20 @@ fn taken_of(lists: &Lists, actor: Actor, input: &Input) -> Option<Taken>
     ensures unfiled { IfNone result (AreAllFiled lists.now → ⊥) }
 {
     match input {
-        Input::Tick => Some(Taken::Tick),
-        Input::Halt => Some(Taken::Halt),
+        Input::Tick => Some(InputHead::Tick),
+        Input::Halt => Some(InputHead::Halt),
         Input::Deliver { id, from, message } => sent_at(lists, actor, *id, *from, message),
     }
 }
 
 /// A post of the trace, with the place where it lies, or `None` where its entry is kept whole.
-fn sent_at(lists: &Lists, to: Actor, id: PostId, from: Actor, message: &Message) -> Option<Taken>
+fn sent_at(
+    lists: &Lists,
+    to: Actor,
+    id: PostId,
+    from: Actor,
+    message: &Message,
+) -> Option<InputHead>
     requires whole { AreWhole lists.now }
     requires few_entries { length lists.now.turns.items + length lists.now.heads.items < 2 ^ 32 }
     requires few_posts { length lists.now.posts.items < 2 ^ 32 }
@@ -72,12 +78,12 @@ fn sent_at(lists: &Lists, to: Actor, id: PostId, from: Actor, message: &Message)
         // The post was sent, so its entry has a head.
         unreachable!()
     };
-    match head.taken {
-        Taken::Whole { .. } => None,
-        _ => Some(Taken::Sent {
+    match head.input {
+        InputHead::Whole { .. } => None,
+        _ => Some(InputHead::Sent {
             entry: id.entry as u32,
             place: id.place,
-            at: head.posts.start + id.place,
+            at: head.posts + id.place,
         }),
     }
 }
@@ -92,22 +98,23 @@ fn place_in(lists: &Lists, id: PostId) -> Option<usize>
     let number = id.entry.checked_sub(1)?;
     let place = (number as usize).checked_sub(lists.turns.len())?;
     let head = head_at(lists, place)?;
-    match head.taken {
-        Taken::Whole { .. } => None,
-        _ => place_among(head.posts, id.place),
+    match head.input {
+        InputHead::Whole { .. } => None,
+        _ => place_among(
+            head.posts,
+            posts_end(lists, next_of(lists, place)),
+            id.place,
+        ),
     }
 }
 
 /// Where an item of a run lies, by its place from 0 in the run, or `None` past the end.
 #[inline(always)]
-fn place_among(span: Span, place: u32) -> Option<usize>
-    ensures { MatchOption result (span.count ≤ place) (λ at. (at ≡ span.start + place) × (place < span.count)) }
+fn place_among(start: u32, end: usize, place: u32) -> Option<usize>
+    ensures { MatchOption result (end ≤ start + place) (λ at. (at ≡ start + place) × (at < end)) }
 {
-    if place < span.count {
-        Some(span.start as usize + place as usize)
-    } else {
-        None
-    }
+    let at = start as usize + place as usize;
+    if at < end { Some(at) } else { None }
 }
 
 impl GrowingTrace {
@@ -185,19 +192,13 @@ impl GrowingTrace {
         ensures room { self.new.room ≡ None }
     {
         self.room = None;
-        match taken_of(&self.lists, entry.actor, &entry.input) {
-            Some(taken) => {
+        match head_of_input(&self.lists, entry.actor, &entry.input) {
+            Some(input) => {
                 let actor = entry.actor;
-                let (outputs, notes) = entry.into_outputs_and_notes();
-                file(
-                    &mut self.lists,
-                    actor,
-                    taken,
-                    outputs.into_vec(),
-                    notes.into_vec(),
-                )
+                let (mut outputs, mut notes) = entry.into_outputs_and_notes();
+                append_parts(&mut self.lists, actor, input, &mut outputs, &mut notes);
             }
-            None => keep(&mut self.lists, entry),
+            None => append_whole(&mut self.lists, entry),
         }
     }
 
@@ -241,12 +242,12 @@ impl GrowingTrace {
         ensures notes { notes.new ≡ [] }
     {
         self.room = None;
-        let taken = Taken::Sent {
+        let input = InputHead::Sent {
             entry: id.entry as u32,
             place: id.place,
             at: at as u32,
         };
-        file_from(&mut self.lists, actor, taken, outputs, notes);
+        append_parts(&mut self.lists, actor, input, outputs, notes);
     }
 
     /// Puts an entry of an actor's own turn at the end. Its posts and notes move out of the lists
@@ -261,7 +262,7 @@ impl GrowingTrace {
         ensures notes { notes.new ≡ [] }
     {
         self.room = None;
-        file_from(&mut self.lists, actor, Taken::Tick, outputs, notes);
+        append_parts(&mut self.lists, actor, InputHead::Tick, outputs, notes);
     }
 
     /// Keeps a whole entry at the end, with its message. Where there is no memory the entries stay.
@@ -271,7 +272,7 @@ impl GrowingTrace {
     {
         self.room = None;
         reserve_whole(&mut self.lists)?;
-        keep(&mut self.lists, entry);
+        append_whole(&mut self.lists, entry);
         Ok(())
     }
 }

@@ -20,9 +20,8 @@ mod lists;
 mod traces;
 mod turns;
 
-pub use entries::{Entries, EntryRef, InputRef};
+pub use entries::Entries;
 pub use growing::GrowingTrace;
-pub use heads::Room;
-pub use hx_clock::{Part, Parts, Stamped};
+pub use hx_clock::{EntryRef, InputRef, Part, Parts, Room, Stamped};
 pub use traces::Trace;
 pub use turns::Turn;

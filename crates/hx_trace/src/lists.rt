@@ -1,15 +1,14 @@
-ghost use Rattle.std.specs.Prelude.{◌≡◌, ◌+◌, ◌<◌, ◌≤◌, ◌^◌, ◌++◌, [], ◌∷◌, false, length, map, nat_lt, slice_get};
+ghost use Rattle.std.specs.Prelude.{◌≡◌, ◌+◌, ◌<◌, ◌++◌, [], ◌∷◌, false, length, map, nat_lt, slice_get, slice_range, suc};
 ghost use Rattle.std.specs.List.{AllByRecursion};
 ghost use Rattle.std.specs.Option.{option_copied, option_map};
 ghost use Rattle.hx_types.specs.Words.{when_some};
 ghost use Rattle.hx_trace.specs.Entries.{entry_seen, input_seen};
-ghost use Rattle.hx_trace.specs.Lists.{AreWhole, IsHeadIn, delivery, entries_in, entry_by, input_by, spanned, whole_by};
+ghost use Rattle.hx_trace.specs.Lists.{AreWhole, IsHeadIn, delivery, entries_by, entries_in, entry_by, input_by, notes_from, posts_from, whole_by};
 ghost use Rattle.hx_trace.specs.Turns.{IsTurnOf, turned};
 
-use crate::entries::{EntryRef, InputRef};
-use crate::heads::{Head, Span, Taken};
-use crate::turns::{Turn, turned_entry};
-use hx_clock::{Part, Parts};
+use crate::heads::{Head, InputHead};
+use crate::turns::{Turn, turned_part};
+use hx_clock::{EntryRef, InputRef, Part, Parts, run_of};
 use hx_types::{Entry, Input, Note, Post, PostId};
 use std::alloc::Global;
 
@@ -80,24 +79,45 @@ pub fn head_at(lists: &Lists, place: usize) -> Option<&Head>
     lists.heads.get(place)
 }
 
-/// The items of a run.
+/// The head after that at a place, or `None` where that is the last.
 #[inline(always)]
-fn items_of<T>(list: &[T], span: Span) -> &[T]
-    requires { span.start + span.count ≤ length list.now }
-    ensures { result.now ≡ spanned list.now span }
+pub fn next_of(lists: &Lists, place: usize) -> Option<&Head>
+    requires { place < length lists.now.heads.items }
+    ensures { option_copied result ≡ slice_get lists.now.heads.items (suc place) }
 {
-    let start = span.start as usize;
-    &list[start..start + span.count as usize]
+    lists.heads.get(place + 1)
+}
+
+/// Where the posts of a head end, by the next head.
+#[inline(always)]
+pub fn posts_end(lists: &Lists, next: Option<&Head>) -> usize
+    ensures { result ≡ posts_from (length lists.now.posts.items) (option_copied next.entry) }
+{
+    match next {
+        Some(next) => next.posts as usize,
+        None => lists.posts.len(),
+    }
+}
+
+/// Where the notes of a head end, by the next head.
+#[inline(always)]
+fn notes_end(lists: &Lists, next: Option<&Head>) -> usize
+    ensures { result ≡ notes_from (length lists.now.notes.items) (option_copied next.entry) }
+{
+    match next {
+        Some(next) => next.notes as usize,
+        None => lists.notes.len(),
+    }
 }
 
 /// The entry that is kept whole, if the head names one.
 #[inline(always)]
-fn whole_of(lists: &Lists, taken: Taken) -> Option<&Entry>
-    ensures { option_copied result ≡ whole_by lists.now.wholes.items taken }
+fn whole_of(lists: &Lists, input: InputHead) -> Option<&Entry>
+    ensures { option_copied result ≡ whole_by lists.now.wholes.items input }
 {
-    match taken {
-        Taken::Whole { at } => lists.wholes.get(at as usize),
-        Taken::Tick | Taken::Halt | Taken::Sent { .. } => None,
+    match input {
+        InputHead::Whole { at } => lists.wholes.get(at as usize),
+        InputHead::Tick | InputHead::Halt | InputHead::Sent { .. } => None,
     }
 }
 
@@ -121,14 +141,18 @@ fn delivered(entry: u32, place: u32, post: Option<&Post>) -> InputRef<'_>
 
 /// What the actor took, where the entry isn't kept whole.
 #[inline(always)]
-fn input_of<'a>(lists: &'a Lists, taken: Taken) -> InputRef<'a>
-    ensures { input_seen result ≡ input_by lists.now.posts.items taken }
+fn input_of<'a>(lists: &'a Lists, input: InputHead) -> InputRef<'a>
+    ensures { input_seen result ≡ input_by lists.now.posts.items input }
 {
-    match taken {
-        Taken::Tick => InputRef::Tick,
-        Taken::Halt => InputRef::Halt,
-        Taken::Sent { entry, place, at } => delivered(entry, place, lists.posts.get(at as usize)),
-        Taken::Whole { .. } => InputRef::Tick,
+    match input {
+        InputHead::Tick => InputRef::Tick,
+        InputHead::Halt => InputRef::Halt,
+        InputHead::Sent { entry, place, at } => delivered(
+            entry,
+            place,
+            lists.posts.get(at as usize),
+        ),
+        InputHead::Whole { .. } => InputRef::Tick,
     }
 }
 
@@ -161,20 +185,61 @@ fn lent_entry(entry: &Entry) -> EntryRef<'_>
     }
 }
 
-/// The entry of a head.
+/// The posts of a head, by the next head.
 #[inline(always)]
-pub fn entry_of<'a>(lists: &'a Lists, head: &Head) -> EntryRef<'a>
-    requires { IsHeadIn (length lists.now.posts.items) (length lists.now.notes.items) (length lists.now.wholes.items) head.now }
-    ensures { entry_seen result ≡ entry_by lists.now.posts.items lists.now.notes.items lists.now.wholes.items head.now }
+fn posts_of<'a>(lists: &'a Lists, head: &Head, next: Option<&Head>) -> &'a [Post]
+    requires { IsHeadIn (length lists.now.posts.items) (length lists.now.notes.items) (length lists.now.wholes.items) head.now (option_copied next) }
+    ensures { result.now ≡ slice_range lists.now.posts.items head.now.posts (posts_from (length lists.now.posts.items) (option_copied next.entry)) }
 {
-    match whole_of(lists, head.taken) {
+    run_of(lists.posts.as_slice(), head.posts, posts_end(lists, next))
+}
+
+/// The notes of a head, by the next head.
+#[inline(always)]
+fn notes_of<'a>(lists: &'a Lists, head: &Head, next: Option<&Head>) -> &'a [Note]
+    requires { IsHeadIn (length lists.now.posts.items) (length lists.now.notes.items) (length lists.now.wholes.items) head.now (option_copied next) }
+    ensures { result.now ≡ slice_range lists.now.notes.items head.now.notes (notes_from (length lists.now.notes.items) (option_copied next.entry)) }
+{
+    run_of(lists.notes.as_slice(), head.notes, notes_end(lists, next))
+}
+
+/// The entry of a head, by the next head.
+#[inline(always)]
+pub fn entry_of<'a>(lists: &'a Lists, head: &Head, next: Option<&Head>) -> EntryRef<'a>
+    requires { IsHeadIn (length lists.now.posts.items) (length lists.now.notes.items) (length lists.now.wholes.items) head.now (option_copied next) }
+    ensures { entry_seen result ≡ entry_by lists.now.posts.items lists.now.notes.items lists.now.wholes.items head.now (option_copied next.entry) }
+{
+    match whole_of(lists, head.input) {
         Some(whole) => lent_entry(whole),
         None => EntryRef {
             actor: head.actor,
-            input: input_of(lists, head.taken),
-            outputs: items_of(lists.posts.as_slice(), head.posts),
-            notes: items_of(lists.notes.as_slice(), head.notes),
+            input: input_of(lists, head.input),
+            outputs: posts_of(lists, head, next),
+            notes: notes_of(lists, head, next),
         },
+    }
+}
+
+/// The entry of the head at a place.
+#[inline(always)]
+fn entry_of_head(lists: &Lists, place: usize) -> Option<EntryRef<'_>>
+    requires { AreWhole lists.now }
+    ensures { option_map entry_seen result ≡ slice_get (entries_by lists.now.posts.items lists.now.notes.items lists.now.wholes.items lists.now.heads.items) place }
+{
+    let head = head_at(lists, place)?;
+    Some(entry_of(lists, head, next_of(lists, place)))
+}
+
+/// The posts of the head at a place. Nothing else of the entry is read.
+#[inline(always)]
+fn posts_of_head(lists: &Lists, place: usize) -> Option<&[Post]>
+    requires { AreWhole lists.now }
+    ensures { option_copied result ≡ option_map (λ e. e.outputs) (slice_get (entries_by lists.now.posts.items lists.now.notes.items lists.now.wholes.items lists.now.heads.items) place) }
+{
+    let head = head_at(lists, place)?;
+    match whole_of(lists, head.input) {
+        Some(whole) => Some(whole.outputs.as_slice()),
+        None => Some(posts_of(lists, head, next_of(lists, place))),
     }
 }
 
@@ -184,7 +249,7 @@ pub fn entry_of_turn(lists: &Lists, turn: Turn) -> EntryRef<'_>
     requires { IsTurnOf lists.now.parts.items turn }
     ensures { entry_seen result ≡ turned lists.now.parts.items turn }
 {
-    lent_entry(turned_entry(lists.parts.as_slice(), turn))
+    turned_part(lists.parts.as_slice(), turn).entry(turn.at as usize)
 }
 
 /// The entry at a place from 0, or `None` past the end.
@@ -195,23 +260,17 @@ pub fn entry_at(lists: &Lists, place: usize) -> Option<EntryRef<'_>>
 {
     match place.checked_sub(lists.turns.len()) {
         None => Some(entry_of_turn(lists, lists.turns[place])),
-        Some(place) => {
-            let head = head_at(lists, place)?;
-            Some(entry_of(lists, head))
-        }
+        Some(place) => entry_of_head(lists, place),
     }
 }
 
-/// The posts of a head.
+/// The posts of the entry of a turn.
 #[inline(always)]
-fn posts_of<'a>(lists: &'a Lists, head: &Head) -> &'a [Post]
-    requires { IsHeadIn (length lists.now.posts.items) (length lists.now.notes.items) (length lists.now.wholes.items) head.now }
-    ensures { result.now ≡ (entry_by lists.now.posts.items lists.now.notes.items lists.now.wholes.items head.now).outputs }
+fn posts_of_turn(lists: &Lists, turn: Turn) -> &[Post]
+    requires { IsTurnOf lists.now.parts.items turn }
+    ensures { result.now ≡ (turned lists.now.parts.items turn).outputs }
 {
-    match whole_of(lists, head.taken) {
-        Some(whole) => whole.outputs.as_slice(),
-        None => items_of(lists.posts.as_slice(), head.posts),
-    }
+    turned_part(lists.parts.as_slice(), turn).posts(turn.at as usize)
 }
 
 /// The posts of the entry at a place from 0, or `None` past the end. Nothing else of the entry is
@@ -222,14 +281,8 @@ pub fn posts_at(lists: &Lists, place: usize) -> Option<&[Post]>
     ensures { option_copied result ≡ option_map (λ e. e.outputs) (slice_get (entries_in lists.now) place) }
 {
     match place.checked_sub(lists.turns.len()) {
-        None => {
-            let entry = turned_entry(lists.parts.as_slice(), lists.turns[place]);
-            Some(entry.outputs.as_slice())
-        }
-        Some(place) => {
-            let head = head_at(lists, place)?;
-            Some(posts_of(lists, head))
-        }
+        None => Some(posts_of_turn(lists, lists.turns[place])),
+        Some(place) => posts_of_head(lists, place),
     }
 }
 
@@ -250,8 +303,8 @@ pub fn has_notes_at(lists: &Lists, place: usize) -> bool
 {
     match place.checked_sub(lists.turns.len()) {
         None => lists.turns[place].has_notes,
-        Some(place) => match head_at(lists, place) {
-            Some(head) => entry_of(lists, head).notes.len() > 0,
+        Some(place) => match entry_of_head(lists, place) {
+            Some(entry) => entry.notes.len() > 0,
             None => false,
         },
     }

@@ -7,11 +7,11 @@ ghost use Rattle.hx_trace.specs.Entries.{entry_seen, if_noted};
 ghost use Rattle.hx_trace.specs.Lending.{LendsGrowing};
 ghost use Rattle.hx_trace.specs.Turns.{IsTurnOf, turned};
 
-use crate::entries::{Entries, EntryRef};
+use crate::entries::Entries;
 use crate::growing::GrowingTrace;
 use crate::lists::{entry_at, has_notes_at, post_at, posts_at};
 use crate::turns::Turn;
-use hx_clock::Parts;
+use hx_clock::{EntryRef, Parts};
 use hx_types::{Entry, Memory, Post, PostId};
 use std::alloc::Global;
 use std::marker::Model;

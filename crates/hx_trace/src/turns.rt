@@ -1,8 +1,7 @@
-ghost use Rattle.std.specs.Prelude.{◌≡◌};
-ghost use Rattle.hx_trace.specs.Turns.{IsTurnOf, turned};
+ghost use Rattle.std.specs.Prelude.{◌≡◌, ◌<◌, length};
+ghost use Rattle.hx_trace.specs.Turns.{IsTurnOf, part_at};
 
 use hx_clock::Part;
-use hx_types::Entry;
 
 /// A turn of a part: which of its entries stands next in a trace.
 #[derive(Clone, Copy)]
@@ -15,11 +14,12 @@ pub struct Turn {
     pub has_notes: bool,
 }
 
-/// The entry of a turn.
+/// The part of a turn.
 #[inline(always)]
-pub fn turned_entry(parts: &[Part], turn: Turn) -> &Entry
+pub fn turned_part(parts: &[Part], turn: Turn) -> &Part
     requires { IsTurnOf parts.now turn }
-    ensures { result.now ≡ turned parts.now turn }
+    ensures part { result.now ≡ part_at parts.now turn.part }
+    ensures there { turn.at < length result.now }
 {
-    &parts[turn.part as usize].as_slice()[turn.at as usize].entry
+    &parts[turn.part as usize]
 }

@@ -1,10 +1,10 @@
-ghost use Rattle.std.specs.Prelude.{◌≡◌, ◌+◌, [], ◌∷◌, length};
+ghost use Rattle.std.specs.Prelude.{◌≡◌, ◌+◌, ◌++◌, [], ◌∷◌, length};
 ghost use Rattle.hx_types.specs.declared.ids.Actor.TheVariants as an_actor;
 ghost use Rattle.hx_types.specs.declared.messages.Message.TheVariants as a_message;
 ghost use Rattle.hx_types.specs.declared.traces.Input.TheVariants as an_input;
 
 use crate::parts::list;
-use hx_trace::{InputRef, Stamped, Trace, Turn};
+use hx_trace::{InputRef, Part, Stamped, Trace, Turn};
 use hx_types::{
     Actor, Entry, Epoch, Input, Message, Note, Notes, Post, PostId, Posts, ServerId, SessionId,
     Stamp,
@@ -253,14 +253,15 @@ fn whole_entries_are_read_back(rt: HostRuntime) {
     assert!(&rt; are_sent && are_delivered);
 }
 
-/// An entry of a part. Its stamp counts for nothing here.
-fn stamped(entry: Entry) -> Stamped
-    ensures { result.entry ≡ entry }
+/// A part with an entry more. Its stamp counts for nothing here.
+fn longer<R: Abort + AllocGlobal>(rt: &R, mut part: Part, entry: Entry) -> Part
+    ensures { result ≡ part ++ record { stamp = record { 0 = 7 }; entry = entry } ∷ [] }
 {
-    Stamped {
-        stamp: Stamp(7),
-        entry,
-    }
+    let stamp = Stamp(7);
+    let Ok(()) = part.push(rt.alloc(), Stamped { stamp, entry }) else {
+        panic!(rt; "memory");
+    };
+    part
 }
 
 /// The turn of an entry of a part.
@@ -286,8 +287,9 @@ fn are_noted(trace: &Trace, wanted: &[bool]) -> bool {
 
 #[test]
 fn parts_give_their_entries_in_turns(rt: HostRuntime) {
-    let first = list(&rt, [stamped(asking(&rt)), stamped(hearing(&rt))]);
-    let second = list(&rt, [stamped(taking(&rt, 9))]);
+    let first = longer(&rt, Part::new(rt.alloc()), asking(&rt));
+    let first = longer(&rt, first, hearing(&rt));
+    let second = longer(&rt, Part::new(rt.alloc()), taking(&rt, 9));
     let parts = list(&rt, [first, second]);
     let turns = [turn(0, 0, true), turn(1, 0, false), turn(0, 1, true)];
     let turns = Vec::from_array(rt.alloc(), turns).expect(&rt, "memory");

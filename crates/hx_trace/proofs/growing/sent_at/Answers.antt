@@ -1,7 +1,8 @@
-use Rattle.std.proofs.Common.{◌≡◌, Some, None, refl, ap, sym, ◌∙◌, arith}
+use Rattle.std.proofs.Common.{◌≡◌, ◌<◌, Some, None, length, refl, ap, subst, sym, ◌∙◌, arith}
 use Rattle.std.specs.Option.{option_copied}
 use Rattle.std.specs.Prelude.{slice_get}
-use Rattle.hx_trace.specs.Lists.{delivery, entries_in}
+use Rattle.hx_trace.specs.Lists.{IsInputIn, delivery, entries_in}
+use Rattle.hx_trace.proofs.Longer.{head_in}
 use Rattle.hx_trace.proofs.Naming.{get_within, lies_in, post_filed, sent_some, unkept}
 use Rattle.hx_trace.proofs.growing.sent_at.Goals as goal
 
@@ -20,15 +21,23 @@ overflow_add-result c =
     let l = c.args.lists.now in
     let at = lies_in l c.args.id _ c.len.result c.in_ok-place.place c.requires.sent (c.len.ensures ∙ l.turns.ok.0) c.in_ok-place.ensures.0 c.in_ok-place.ensures.1 in
     let is : slice_get l.heads.items c.in_ok-place.place ≡ Some c.in-Some.head.now = sym c.head_at.ensures ∙ ap option_copied c.in-Some.is in
-    let none = unkept l.wholes.items c.in-Some.head.now.taken c.in_default-taken.not-Whole in
+    let none = unkept l.wholes.items c.in-Some.head.now.input c.in_default-input.not-Whole in
     let post = post_filed l.posts.items l.notes.items l.wholes.items l.heads.items c.in_ok-place.place c.args.id.place _ c.in-Some.head.now at is none in
     omega (arith, get_within l.posts.items _ _ post, c.requires.few_posts)
 
-pub returns-in_default-taken : goal.returns-in_default-taken
-returns-in_default-taken c =
+pub returns-in_default-input : goal.returns-in_default-input
+returns-in_default-input c =
     let l = c.args.lists.now in
     let at = lies_in l c.args.id _ c.len.result c.in_ok-place.place c.requires.sent (c.len.ensures ∙ l.turns.ok.0) c.in_ok-place.ensures.0 c.in_ok-place.ensures.1 in
     let is : slice_get l.heads.items c.in_ok-place.place ≡ Some c.in-Some.head.now = sym c.head_at.ensures ∙ ap option_copied c.in-Some.is in
-    let none = unkept l.wholes.items c.in-Some.head.now.taken c.in_default-taken.not-Whole in
+    let none = unkept l.wholes.items c.in-Some.head.now.input c.in_default-input.not-Whole in
     let post = post_filed l.posts.items l.notes.items l.wholes.items l.heads.items c.in_ok-place.place c.args.id.place _ c.in-Some.head.now at is none in
     record { filed = record { within = get_within l.posts.items _ _ post; filed = refl; input = ap (delivery c.args.id) post }; unfiled = tt }
+
+pub returns-in-Whole-clause-unfiled : goal.returns-in-Whole-clause-unfiled
+returns-in-Whole-clause-unfiled c none =
+    let l = c.args.lists.now in
+    let is : slice_get l.heads.items c.in_ok-place.place ≡ Some c.in-Some.head.now = sym c.head_at.ensures ∙ ap option_copied c.in-Some.is in
+    let lies = head_in _ _ _ l.heads.items c.in_ok-place.place c.in-Some.head.now c.requires.whole.heads is in
+    let within : c.in-Whole.at < length l.wholes.items = subst (IsInputIn (length l.posts.items) (length l.wholes.items)) c.in-Whole.is lies.input in
+    omega (arith, within, none.wholes)

@@ -1,6 +1,8 @@
-use Rattle.std.proofs.Common.{◌≡◌, ◌++◌, take}
+use Rattle.std.proofs.Common.{◌≡◌, ◌++◌}
+use Rattle.std.specs.Prelude.{slice_range}
 use Rattle.hx_gather.specs.Stretches.{numbered, turn_at}
 use Rattle.hx_gather.proofs.stretches.Stretch.take_turns.Given as goal
 
-abbrev pub invariant-loop-place : goal.invariant-loop-place
-invariant-loop-place l = l.turns.items ≡ l.initial.turns.items ++ numbered (turn_at l.self.part) l.self.at (take l.place l.self.entries)
+abbrev pub invariant-loop-at : goal.invariant-loop-at
+invariant-loop-at l =
+    l.turns.items ≡ l.initial.turns.items ++ numbered (turn_at l.self-inside.place) l.self-inside.at (slice_range l.self-inside.part.now l.self-inside.at l.at)

@@ -1,5 +1,5 @@
 -- Runs of lists that grow at their end.
-use Rattle.std.proofs.Common.{◌≡◌, ℕ, zero, suc, ◌+◌, ◌-◌, ◌<◌, ◌≤◌, List, [], ◌∷◌, ◌++◌, length, Some, None, refl, sym, ap, ◌∙◌, subst, arith}
+use Rattle.std.proofs.Common.{◌≡◌, ℕ, zero, suc, ◌+◌, ◌-◌, ◌<◌, ◌≤◌, List, [], ◌∷◌, ◌++◌, length, get_or, Some, None, refl, sym, ap, ◌∙◌, subst, arith, length-append}
 use Rattle.std.specs.Prelude.{slice_get, slice_range, take, drop}
 
 take_before : {A : Type 0} (n : ℕ) (xs ys : List A) → n ≤ length xs → take n (xs ++ ys) ≡ take n xs
@@ -26,17 +26,15 @@ dropped (suc n) [] h = absurd (omega (arith, h))
 dropped (suc n) (x ∷ xs) h = let e = dropped n xs (omega (arith, h)) in omega (arith, e)
 
 -- a run within a list stays where the list grows
-pub range_before : {A : Type 0} (xs ys : List A) (start count : ℕ) → start + count ≤ length xs → slice_range (xs ++ ys) start (start + count) ≡ slice_range xs start (start + count)
-range_before xs ys start count h =
-    let n : start + count - start ≡ count = omega arith in
-    let within : start ≤ length xs = omega (arith, h) in
-    let rest = dropped start xs within in
-    rw (n, drop_before start xs ys within) (take_before count (drop start xs) ys (omega (arith, h, rest)))
+pub range_before : {A : Type 0} (xs ys : List A) (start end : ℕ) → start ≤ end → end ≤ length xs → slice_range (xs ++ ys) start end ≡ slice_range xs start end
+range_before xs ys start end order within =
+    let rest = dropped start xs (omega (arith, order, within)) in
+    rw (drop_before start xs ys (omega (arith, order, within))) (take_before (end - start) (drop start xs) ys (omega (arith, order, within, rest)))
 
 -- the run of what was added
-pub range_end : {A : Type 0} (xs ys : List A) → slice_range (xs ++ ys) (length xs) (length xs + length ys) ≡ ys
+pub range_end : {A : Type 0} (xs ys : List A) → slice_range (xs ++ ys) (length xs) (length (xs ++ ys)) ≡ ys
 range_end xs ys =
-    let n : length xs + length ys - length xs ≡ length ys = omega arith in
+    let n : length (xs ++ ys) - length xs ≡ length ys = omega (arith, length-append xs ys) in
     rw (n, drop_end xs ys) (take_whole ys)
 
 get_take : {A : Type 0} (n : ℕ) (xs : List A) (i : ℕ) (x : A) → slice_get (take n xs) i ≡ Some x → slice_get xs i ≡ Some x
@@ -63,8 +61,8 @@ get_take_before (suc n) (x ∷ xs) zero h = refl
 get_take_before (suc n) (x ∷ xs) (suc i) h = get_take_before n xs i (omega (arith, h))
 
 -- an item within a run is an item of the list
-pub get_within_range : {A : Type 0} (xs : List A) (start count i : ℕ) → i < count → slice_get (slice_range xs start (start + count)) i ≡ slice_get xs (start + i)
-get_within_range xs start count i h = get_take_before (start + count - start) (drop start xs) i (omega (arith, h)) ∙ get_drop start xs i
+pub get_within_range : {A : Type 0} (xs : List A) (start end i : ℕ) → start + i < end → slice_get (slice_range xs start end) i ≡ slice_get xs (start + i)
+get_within_range xs start end i h = get_take_before (end - start) (drop start xs) i (omega (arith, h)) ∙ get_drop start xs i
 
 pub get_before : {A : Type 0} (xs ys : List A) (i : ℕ) → i < length xs → slice_get (xs ++ ys) i ≡ slice_get xs i
 get_before [] ys i h = absurd (omega (arith, h))
@@ -74,3 +72,9 @@ get_before (x ∷ xs) ys (suc i) h = get_before xs ys i (omega (arith, h))
 pub get_end : {A : Type 0} (xs : List A) (x : A) → slice_get (xs ++ x ∷ []) (length xs) ≡ Some x
 get_end [] x = refl
 get_end (y ∷ xs) x = get_end xs x
+
+-- an item that is told by its place
+pub get_told : {A : Type 0} (xs : List A) (i : ℕ) (x : A) → i < length xs → x ≡ get_or xs i x → slice_get xs i ≡ Some x
+get_told [] i x h is = absurd (omega (arith, h))
+get_told (y ∷ xs) zero x h is = ap (λ z. Some z) (sym is)
+get_told (y ∷ xs) (suc i) x h is = get_told xs i x (omega (arith, h)) is
