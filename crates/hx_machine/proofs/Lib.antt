@@ -1,3 +1,3 @@
-mod Moving
 mod Starting
+mod Stepping
 mod Taking

@@ -36,7 +36,7 @@ small_folded space s order small r i k j =
     subst (λ n. n ≤ 4611686018427387904) (sym (ap top_of state.2 ∙ top-folded from.0.region state.0 slot.slot.floor)) (small from.0 from.1 state.0 state.1)
 
 -- what an actor that is fed sound posts is after its entries
-pub sound_after : (script : Script) (a : Actor) (past : List Stamped) (input : Input) → CanTake script a past input → IsSoundAfter script (latest past) (entries_in past) a
+sound_after : (script : Script) (a : Actor) (past : List Stamped) (input : Input) → CanTake script a past input → IsSoundAfter script (latest past) (entries_in past) a
 sound_after script a past input c = (actors_stay_sound script c.valid a c.exists past c.own c.fed).state
 
 -- what it is fed comes after lower versions

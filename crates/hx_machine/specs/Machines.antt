@@ -3,6 +3,7 @@ use Rattle.std.specs.Prelude.{◌≡◌, ◌≤◌, ◌<◌, ◌^◌, ℕ, true,
 use Rattle.hx_model.specs.Types.{Actor, Coordinator, Entry, Input, Script, Server, Session}
 use Rattle.hx_types.specs.Fitting.{IsScript}
 use Rattle.hx_model.specs.Runs.{coordinator_of, entry_of, has_halted, is_actor, made_of, server_of, session_of}
+use Rattle.hx_model.specs.ServerSteps.{server_step}
 use Rattle.hx_law_folds.specs.Folding.{IsServerOf as AreInOrder, folded_server}
 use Rattle.hx_clock.specs.declared.parts.Stamped.{Stamped}
 use Rattle.hx_law_threads.specs.Own.{IsOwn}
@@ -11,10 +12,10 @@ use Rattle.hx_coord.specs.Changes as coordinator
 use Rattle.hx_replica.specs.Plans as server
 use Rattle.hx_session.specs.Changes as session
 use Rattle.hx_session.specs.Sessions.{is_ended}
+use Rattle.hx_machine.specs.declared.changes.Change.{Change}
+use Rattle.hx_machine.specs.declared.changes.Change.TheVariants as a_change
 use Rattle.hx_machine.specs.declared.machines.Machine.{Machine}
 use Rattle.hx_machine.specs.declared.machines.Machine.TheVariants as a_machine
-use Rattle.hx_machine.specs.declared.plans.Plan.{Plan}
-use Rattle.hx_machine.specs.declared.plans.Plan.TheVariants as a_plan
 
 -- the actor has the state that is folded from its entries; a server's slots have no past
 abbrev pub IsMachine : Script → Actor → List Entry → Machine → Type 0
@@ -36,21 +37,14 @@ pub record CanTake (script : Script) (a : Actor) (past : List Stamped) (input : 
   pub few : stamp < 2 ^ 61
   pub input_to : IsFedBy script stamp a input
 
-abbrev pub entry_in : Plan → Entry
-entry_in (a_plan.Coordinator plan) = plan.value.entry
-entry_in (a_plan.Server plan) = plan.entry
-entry_in (a_plan.Session plan) = plan.entry
-
--- the entry is what the actor makes of the input after its entries
-abbrev pub IsStepOf : Script → Actor → List Entry → Input → Entry → Type 0
-IsStepOf script a past input x = x ≡ entry_of a input (made_of script past a input)
-
--- the plan is one of this actor's role, on its state
-abbrev pub IsPlanOn : Machine → Plan → Type 0
-IsPlanOn (a_machine.Coordinator c) (a_plan.Coordinator plan) = coordinator.IsPlanOn c plan.value
-IsPlanOn (a_machine.Server v) (a_plan.Server plan) = server.IsPlanOn v plan
-IsPlanOn (a_machine.Session v) (a_plan.Session plan) = session.IsPlanOn v plan
-IsPlanOn machine plan = ⊥
+-- the change is ready to be made of the actor, and is that of its step on the input after its entries
+abbrev pub IsChangeOf : Script → Actor → List Entry → Input → Machine → Change → Type 0
+IsChangeOf script Coordinator past input (a_machine.Coordinator c) (a_change.Coordinator plan) =
+    coordinator.IsPlanOn c plan.value × (plan.value.entry ≡ entry_of Coordinator input (made_of script past Coordinator input))
+IsChangeOf script (Server s) past input (a_machine.Server v) (a_change.Server change) =
+    server.IsChange v (server_step script.space (server_of script s past) input).state change
+IsChangeOf script (Session u) past input (a_machine.Session v) (a_change.Session change) = session.IsChangeOn v input change
+IsChangeOf script other past input machine change = ⊥
 
 -- the actor is no session with a call left or under way
 abbrev pub has_ended : Script → List Entry → Actor → Bool

@@ -1,20 +1,18 @@
-ghost use Rattle.std.specs.Prelude.{◌≡◌, true, [], ◌∷◌, List, IfOk};
-ghost use Rattle.hx_model.specs.Types.{Actor as ActorSeen, Entry as EntrySeen, Script as ScriptSeen};
+ghost use Rattle.std.specs.Prelude.{◌≡◌, true, [], ◌∷◌, ◌++◌, List, IfOk, OnOk};
+ghost use Rattle.hx_model.specs.Types.{Actor as ActorSeen, Entry as EntrySeen, Input as InputSeen, Script as ScriptSeen};
 ghost use Rattle.hx_types.specs.Fitting.{IsScript};
-ghost use Rattle.hx_model.specs.Runs.{has_halted, is_actor};
+ghost use Rattle.hx_model.specs.Runs.{entry_of, has_halted, is_actor, made_of};
 ghost use Rattle.hx_clock.specs.declared.parts.Stamped.{Stamped};
 ghost use Rattle.hx_law_threads.specs.Feeding.{entries_in};
 ghost use Rattle.hx_law_threads.specs.Cuts.{is_idle_actor};
-ghost use Rattle.hx_coord.specs.Changes.{IsPlanOn as IsCoordinatorPlan};
-ghost use Rattle.hx_coord.specs.Coordinators.{CanTake as CoordinatorCanTake};
-ghost use Rattle.hx_model.specs.CoordinatorSteps.{coordinator_step};
-ghost use Rattle.hx_machine.specs.Machines.{CanTake, IsMachine, IsPlanOn, IsStepOf, entry_in, has_ended};
+ghost use Rattle.hx_machine.specs.Machines.{CanTake, IsChangeOf, IsMachine, has_ended};
 
-use crate::plans::Plan;
+use crate::changes::Change;
+use crate::steps::{coordinator_makes, coordinator_steps, server_steps, session_steps};
 use hx_coord::Coordinator;
 use hx_replica::Server;
 use hx_session::Session;
-use hx_types::{Actor, Entry, Exact, Input, Memory, Script};
+use hx_types::{Actor, Exact, Input, Memory, Notes, Posts, Script};
 use std::alloc::Global;
 
 /// An actor of any role with its state.
@@ -59,50 +57,59 @@ impl Machine {
         }
     }
 
-    /// Computes the step that this input makes, and takes all memory that it needs. The actor stays
-    /// as it was. On an error the input is dropped.
-    pub fn prepare(&mut self, alloc: Global, input: Input) -> Result<Plan, Memory>
-        requires { (script : ScriptSeen) × (a : ActorSeen) × (past : List Stamped) × IsMachine script a (entries_in past) self.old × CanTake script a past input }
-        ensures plan { IfOk result (IsPlanOn self.new) }
-        ensures step { IfOk result (λ plan. (script : ScriptSeen) (a : ActorSeen) (past : List Stamped) → IsMachine script a (entries_in past) self.old → CanTake script a past input → IsStepOf script a (entries_in past) input (entry_in plan)) }
+    /// Computes the step that this input makes: what it posts and notes goes behind what the lists
+    /// hold, and what it changes is given, for [`Machine::make`]. The actor stays as it was. After
+    /// an error the lists may hold anything.
+    #[inline]
+    pub fn step(
+        &mut self,
+        alloc: Global,
+        input: &Input,
+        posts: &mut Posts,
+        notes: &mut Notes,
+    ) -> Result<Change, Memory>
+        requires { (script : ScriptSeen) × (a : ActorSeen) × (past : List Stamped) × IsMachine script a (entries_in past) self.old × CanTake script a past input.now }
+        ensures posts { OnOk result ((script : ScriptSeen) (a : ActorSeen) (past : List Stamped) → IsMachine script a (entries_in past) self.old → CanTake script a past input.now → posts.new ≡ posts.old ++ (made_of script (entries_in past) a input.now).posts) }
+        ensures notes { OnOk result ((script : ScriptSeen) (a : ActorSeen) (past : List Stamped) → IsMachine script a (entries_in past) self.old → CanTake script a past input.now → notes.new ≡ notes.old ++ (made_of script (entries_in past) a input.now).notes) }
+        ensures change { IfOk result (λ change. (script : ScriptSeen) (a : ActorSeen) (past : List Stamped) → IsMachine script a (entries_in past) self.old → CanTake script a past input.now → IsChangeOf script a (entries_in past) input.now self.new change) }
         ensures state { (script : ScriptSeen) (a : ActorSeen) (past : List EntrySeen) → IsMachine script a past self.old → IsMachine script a past self.new }
     {
         match self {
             Machine::Coordinator(coordinator) => {
-                let Ok(plan) = prepare_boxed(coordinator, alloc, input) else {
+                let Ok(plan) = coordinator_steps(coordinator, alloc, input, posts, notes) else {
                     return Err(Memory);
                 };
-                Ok(Plan::Coordinator(plan))
+                Ok(Change::Coordinator(plan))
             }
             Machine::Server(server) => {
-                let Ok(plan) = server.prepare(alloc, input) else {
+                let Ok(change) = server_steps(server, alloc, input, posts, notes) else {
                     return Err(Memory);
                 };
-                Ok(Plan::Server(plan))
+                Ok(Change::Server(change))
             }
             Machine::Session(session) => {
-                let Ok(plan) = session.prepare(alloc, input) else {
+                let Ok(change) = session_steps(session, alloc, input, posts, notes) else {
                     return Err(Memory);
                 };
-                Ok(Plan::Session(plan))
+                Ok(Change::Session(change))
             }
         }
     }
 
-    /// Makes a prepared step, and gives its entry. It takes no memory.
-    pub fn apply(&mut self, plan: Plan) -> Entry
-        requires { IsPlanOn self.old plan }
-        ensures entry { result ≡ entry_in plan }
-        ensures state { (script : ScriptSeen) (a : ActorSeen) (past : List Stamped) → IsMachine script a (entries_in past) self.old → CanTake script a past result.input → IsMachine script a (result ∷ entries_in past) self.new }
+    /// Makes what a step changes, as it was computed of this actor. It takes no memory.
+    #[inline]
+    pub fn make(&mut self, change: Change)
+        requires { (script : ScriptSeen) × (a : ActorSeen) × (past : List Stamped) × (input : InputSeen) × IsMachine script a (entries_in past) self.old × CanTake script a past input × IsChangeOf script a (entries_in past) input self.old change }
+        ensures { (script : ScriptSeen) (a : ActorSeen) (past : List Stamped) (input : InputSeen) → IsMachine script a (entries_in past) self.old → CanTake script a past input → IsChangeOf script a (entries_in past) input self.old change → IsMachine script a (entry_of a input (made_of script (entries_in past) a input) ∷ entries_in past) self.new }
     {
-        match (self, plan) {
-            (Machine::Coordinator(coordinator), Plan::Coordinator(plan)) => apply_boxed(
+        match (self, change) {
+            (Machine::Coordinator(coordinator), Change::Coordinator(plan)) => coordinator_makes(
                 coordinator,
                 plan,
             ),
-            (Machine::Server(server), Plan::Server(plan)) => server.apply(plan),
-            (Machine::Session(session), Plan::Session(plan)) => session.apply(plan),
-            // A plan is one of its actor's role.
+            (Machine::Server(server), Change::Server(change)) => server.make(change),
+            (Machine::Session(session), Change::Session(change)) => session.make(change),
+            // A change is one of its actor's role.
             _ => unreachable!(),
         }
     }
@@ -136,35 +143,4 @@ impl Machine {
             _ => true,
         }
     }
-}
-
-/// Computes a step of the coordinator. Its plan is large and rare, so it is boxed, in a function of
-/// its own: a plan of any other actor stays small.
-#[cold]
-#[inline(never)]
-fn prepare_boxed(
-    coordinator: &mut Coordinator,
-    alloc: Global,
-    input: Input,
-) -> Result<Box<hx_coord::Plan>, Memory>
-    requires { CoordinatorCanTake coordinator.old input }
-    ensures plan { IfOk result (λ plan. IsCoordinatorPlan coordinator.new plan.value) }
-    ensures input { IfOk result (λ plan. plan.value.entry.input ≡ input) }
-    ensures state { coordinator.new ≡ coordinator.old }
-{
-    let Ok(plan) = coordinator.prepare(alloc, input) else {
-        return Err(Memory);
-    };
-    Ok(Box::new(alloc, plan)?)
-}
-
-/// Makes a prepared step of the coordinator, and gives its entry.
-#[cold]
-#[inline(never)]
-fn apply_boxed(coordinator: &mut Coordinator, plan: Box<hx_coord::Plan>) -> Entry
-    requires { IsCoordinatorPlan coordinator.old plan.value }
-    ensures entry { result ≡ plan.value.entry }
-    ensures state { coordinator.new ≡ (coordinator_step coordinator.old plan.value.entry.input).state }
-{
-    coordinator.apply(Box::into_inner(plan))
 }
