@@ -6,8 +6,8 @@ ghost use Rattle.hx_cluster.specs.Setups.{AreNewDesksIn, IsNewDeskIn, IsNewInbox
 
 use crate::actors::actor_at;
 use crate::setups::Setup;
-use hx_clock::Seat;
-use hx_driver::Desk;
+use hx_clock::{GrowingPart, Seat};
+use hx_driver::{Desk, Lent};
 use hx_machine::Machine;
 use hx_mail::Port;
 use hx_types::{Actor, Memory};
@@ -36,11 +36,12 @@ fn new_desk(setup: &Setup<'_>, actor: Actor, seat: Seat, inbox: Port) -> Result<
     Ok(Desk {
         actor,
         machine: Machine::start(setup.alloc, setup.script, actor)?,
-        part: Vec::new(setup.alloc),
+        part: GrowingPart::new(setup.alloc),
         seat,
         inbox,
         kept: VecDeque::new(setup.alloc),
         heard,
+        lent: Lent::new(setup.alloc),
     })
 }
 

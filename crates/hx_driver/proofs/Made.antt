@@ -18,8 +18,8 @@ use Rattle.hx_clock.proofs.Lemmas.{each_all, in_right}
 use Rattle.hx_law_threads.specs.Feeding.{IsFed, IsFedBy}
 use Rattle.hx_law_threads.proofs.Lemmas.{actors_stay_sound, reverse_snoc}
 use Rattle.hx_law_threads.specs.Own.{IsOwn, MayHalt}
-use Rattle.hx_machine.specs.declared.plans.Plan.{Plan}
-use Rattle.hx_machine.specs.Machines.{entry_in, CanTake}
+use Rattle.hx_machine.specs.declared.changes.Change.{Change}
+use Rattle.hx_machine.specs.Machines.{CanTake}
 use Rattle.hx_mail.specs.declared.views.Mailed.{Mailed}
 use Rattle.hx_outbox.specs.Offers.{named}
 use Rattle.hx_driver.specs.declared.desks.Desk.{Desk}
@@ -35,12 +35,17 @@ pub record IsNext (script : Script) (d : Desk) (r : Entry) : Type 0 where
   pub given : CanBeGiven script d r.input
   pub enough : does_something r.input (record { posts = r.outputs; notes = r.notes }) ≡ true
 
-pub next-of : (script : Script) (d : Desk) (p : Plan) (r : Entry) → r ≡ entry_in p → IsReady script d (entry_in p).input p → MakesEnough (entry_in p).input p → IsNext script d r
-next-of script d p r e ready enough = subst (IsNext script d) (sym e) (record { step = ready.step; takes = ready.takes; given = ready.given; enough = enough })
+-- the entry of the step that is ready on the input
+abbrev pub entry_on : Desk → Input → Entry
+entry_on d input = record { actor = d.actor; input = input; outputs = d.lent.posts; notes = d.lent.notes }
 
--- what the plan says of its own input
-pub ready-own : (script : Script) (d : Desk) (input : Input) (p : Plan) → IsReady script d input p → (entry_in p).input ≡ input
-ready-own script d input p ready = ap (λ (x : Entry). x.input) ready.step
+pub next-of : (script : Script) (d : Desk) (input : Input) (c : Change) → IsReady script d input c → MakesEnough input d → IsNext script d (entry_on d input)
+next-of script d input c ready enough = record {
+  step = λ i. record { actor = d.actor; input = input; outputs = ready.posts i; notes = ready.notes i };
+  takes = ready.takes;
+  given = ready.given;
+  enough = enough;
+}
 
 given-meets : (script : Script) (d : Desk) (input : Input) → CanBeGiven script d input → InputMeets (Knows d.seat.view) d.actor input
 given-meets script d Tick g = tt

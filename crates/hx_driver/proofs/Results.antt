@@ -1,5 +1,5 @@
 -- What holds of results.
-use Rattle.std.proofs.Common.{IfOk, Result, Ok, Err}
+use Rattle.std.proofs.Common.{IfOk, OnOk, Result, Ok, Err}
 use Rattle.std.specs.Prelude.{MatchResult}
 
 pub ok-both : {T E : Type 0} (P Q R : T → Type 0) (r : Result T E) → ((x : T) → P x → Q x → R x) → IfOk r P → IfOk r Q → IfOk r R
@@ -13,3 +13,7 @@ match-map P P' Q Q' (Err e) f g h = g e h
 pub match-elim : {T E : Type 0} (P : T → Type 0) (Q : E → Type 0) (G : Type 0) (r : Result T E) → ((x : T) → P x → G) → ((e : E) → Q e → G) → MatchResult r P Q → G
 match-elim P Q G (Ok x) f g h = f x h
 match-elim P Q G (Err e) f g h = g e h
+
+pub ok-from : {T E : Type 0} (P R : T → Type 0) {Q S : Type 0} (r : Result T E) → IfOk r P → OnOk r Q → OnOk r S → ((x : T) → P x → Q → S → R x) → IfOk r R
+ok-from P R (Ok x) p q s f = f x p q s
+ok-from P R (Err e) p q s f = tt

@@ -15,8 +15,8 @@ use Rattle.hx_clock.specs.declared.parts.Stamped.{Stamped}
 use Rattle.hx_clock.specs.Seats.{Seated}
 use Rattle.hx_law_threads.specs.Cuts.{is_began, is_retry, is_tick, is_waiting}
 use Rattle.hx_machine.specs.declared.machines.Machine.{Machine}
-use Rattle.hx_machine.specs.declared.plans.Plan.{Plan}
-use Rattle.hx_machine.specs.Machines.{entry_in, CanTake, IsMachine, IsPlanOn, IsStepOf}
+use Rattle.hx_machine.specs.declared.changes.Change.{Change}
+use Rattle.hx_machine.specs.Machines.{CanTake, IsChangeOf, IsMachine}
 use Rattle.hx_mail.specs.declared.views.Mailed.{Mailed}
 use Rattle.hx_mail.specs.Boxes.{Boxed}
 use Rattle.hx_outbox.specs.declared.outboxes.Outbox.{Outbox}
@@ -26,7 +26,7 @@ use Rattle.hx_outbox.specs.Outboxes.{kept_weight, IsOutbox}
 use Rattle.hx_driver.specs.declared.desks.Desk.{Desk}
 use Rattle.hx_driver.specs.Desks.{entries_before, past_of, HasRetried, IsBrokenDesk, IsDesk, IsSame, IsWholeDesk}
 use Rattle.hx_driver.specs.Told.{told_by}
-use Rattle.hx_driver.specs.Givings.{HasTaken, IsReady, MakesEnough}
+use Rattle.hx_driver.specs.Givings.{HasTaken, IsMadeOf, IsReady, IsSameStep, MakesEnough}
 use Rattle.hx_driver.specs.Inboxes.{ins_of}
 use Rattle.hx_driver.specs.Turns.{HasRoom, IsTurn}
 use Rattle.hx_driver.proofs.Taken.{desk-same, given-view}
@@ -36,13 +36,23 @@ use Rattle.hx_driver.proofs.Turned.{turn-both, turn-none}
 pub at-same : (P : Actor → List Stamped → Type 0) (a b : Actor) (xs ys : List Stamped) → b ≡ a → ys ≡ xs → P a xs → P b ys
 at-same P a b xs ys e f h = subst (λ (c : Actor). P c ys) (sym e) (subst (P a) (sym f) h)
 
-pub ready-same : (script : Script) (d d' : Desk) (input : Input) (p : Plan) → IsSame d d' → d'.machine ≡ d.machine → IsReady script d input p → IsReady script d' input p
-ready-same script d d' input p s m r = record {
-  plan = subst (λ (x : Machine). IsPlanOn x p) (sym m) r.plan;
-  step = at-same (λ (a : Actor) xs. IsStepOf script a (entries_before xs) input (entry_in p)) d.actor d'.actor d.part.items d'.part.items s.actor s.part r.step;
+pub ready-same : (script : Script) (d d' : Desk) (input : Input) (c : Change) → IsSame d d' → IsSameStep d d' → IsReady script d input c → IsReady script d' input c
+ready-same script d d' input c s m r = record {
+  change = at-same (λ (a : Actor) xs. IsChangeOf script a (entries_before xs) input d'.machine c) d.actor d'.actor d.part.items d'.part.items s.actor s.part
+      (subst (λ (x : Machine). IsChangeOf script d.actor (entries_before d.part.items) input x c) (sym m.machine) r.change);
+  posts = m.posts ∙ at-same (λ (a : Actor) xs. d.lent.posts ≡ (made_of script (entries_before xs) a input).posts) d.actor d'.actor d.part.items d'.part.items s.actor s.part r.posts;
+  notes = m.notes ∙ at-same (λ (a : Actor) xs. d.lent.notes ≡ (made_of script (entries_before xs) a input).notes) d.actor d'.actor d.part.items d'.part.items s.actor s.part r.notes;
   takes = at-same (λ (a : Actor) xs. CanTake script a (past_of xs) input) d.actor d'.actor d.part.items d'.part.items s.actor s.part r.takes;
   given = given-view script d d' input s.actor (ap (λ (x : Seated). x.view) s.seat) r.given;
 }
+
+pub enough-same : (d d' : Desk) (input : Input) → IsSameStep d d' → MakesEnough input d → MakesEnough input d'
+enough-same d d' input m e = (λ i. does_something input (record { posts = m.posts i; notes = m.notes i })) ∙ e
+
+-- the entry is that of the same desk
+pub made-same : (script : Script) (d d' : Desk) (input : Input) (x : Stamped) → IsSame d d' → IsMadeOf script d' input x → IsMadeOf script d input x
+made-same script d d' input x s h =
+    at-same (λ (a : Actor) xs. x.entry ≡ entry_of a input (made_of script (entries_before xs) a input)) d'.actor d.actor d'.part.items d.part.items (sym s.actor) (sym s.part) h
 
 pub room-same : (o : Outbox) (d d' : Desk) (t : Totals) → d'.kept.items ≡ d.kept.items → HasRoom o d t → HasRoom o d' t
 room-same o d d' t kept h =
@@ -51,10 +61,9 @@ room-same o d d' t kept h =
     record { weight = omega (arith, e, l); posts = h.posts; total = h.total }
 
 -- the same desk, for an actor that is told something
-pub desk-told : (script : Script) (clock : TableId) (boxes : List Boxed) (w : ℕ) (d d' : Desk) (input other : Input) → IsSame d d' → other ≡ input → IsDesk script clock boxes w (told_by d.actor input) d'
-    → IsDesk script clock boxes w (told_by d'.actor other) d'
-desk-told script clock boxes w d d' input other s e h =
-    subst (λ (i : Input). IsDesk script clock boxes w (told_by d'.actor i) d') (sym e) (subst (λ (a : Actor). IsDesk script clock boxes w (told_by a input) d') (sym s.actor) h)
+pub desk-told : (script : Script) (clock : TableId) (boxes : List Boxed) (w : ℕ) (d d' : Desk) (input : Input) → IsSame d d' → IsDesk script clock boxes w (told_by d.actor input) d'
+    → IsDesk script clock boxes w (told_by d'.actor input) d'
+desk-told script clock boxes w d d' input s h = subst (λ (a : Actor). IsDesk script clock boxes w (told_by a input) d') (sym s.actor) h
 
 pub desk-kept : (script : Script) (clock : TableId) (boxes : List Boxed) (w : ℕ) (rest : List Mailed) (d d' : Desk) → IsSame d d' → d'.machine ≡ d.machine → IsDesk script clock boxes w rest d → IsDesk script clock boxes w rest d'
 desk-kept script clock boxes w rest d d' s m h = desk-same script clock boxes w rest d d' s (subst (IsMachine script d.actor (entries_before d.part.items)) (sym m) h.machine) h
@@ -69,12 +78,10 @@ turn-after boxes d d' e o p t u k l xs s out total h = turn-both boxes d d' e o 
 pub turn-taken : (boxes : List Boxed) (d d' e : Desk) (o p : Outbox) (t u : Totals) (k l : FateState) (xs : List Stamped) → HasTaken d d' → IsOutbox boxes o → IsTotal t → IsTurn boxes d' e o p t u k l xs → IsTurn boxes d e o p t u k l xs
 turn-taken boxes d d' e o p t u k l xs s out total h = turn-both boxes d d' e o o p t u k l xs (turn-none boxes d d' o t k s.actor s.part s.kept s.ins out total) h
 
--- the step of an input that makes something does so
-pub step-enough : (script : Script) (d : Desk) (input : Input) (p : Plan) → IsReady script d input p → does_something input (made_of script (entries_before d.part.items) d.actor input) ≡ true → MakesEnough (entry_in p).input p
-step-enough script d input p r e = subst (λ (y : Entry). does_something y.input (record { posts = y.outputs; notes = y.notes }) ≡ true) (sym r.step) e
-
-pub ready-input : (script : Script) (d : Desk) (input : Input) (p : Plan) → IsReady script d input p → IsReady script d (entry_in p).input p
-ready-input script d input p r = subst (λ (i : Input). IsReady script d i p) (sym (ap (λ (x : Entry). x.input) r.step)) r
+-- what is ready on an input is what the input makes
+pub ready-enough : (script : Script) (d : Desk) (input : Input) (c : Change) → IsReady script d input c
+    → does_something input (record { posts = d.lent.posts; notes = d.lent.notes }) ≡ does_something input (made_of script (entries_before d.part.items) d.actor input)
+ready-enough script d input c r = λ i. does_something input (record { posts = r.posts i; notes = r.notes i })
 
 pub no-tick : (a : Actor) (input : Input) (m : Output) → is_tick input ≡ false → is_retry (entry_of a input m) ≡ false
 no-tick a input m e = ap (λ b. b && not (list_any is_began m.notes)) e
@@ -108,10 +115,6 @@ retried-same script d d' e s h = record {
   waiting = at-same (λ (a : Actor) xs. is_waiting script (entries_before xs) a ≡ true → (x : Stamped) × (is_retry x.entry ≡ true) × (e.part.items ≡ xs ++ x ∷ [])) d'.actor d.actor d'.part.items d.part.items (sym s.actor) (sym s.part) h.waiting;
   other = at-same (λ (a : Actor) xs. is_waiting script (entries_before xs) a ≡ false → e.part.items ≡ xs) d'.actor d.actor d'.part.items d.part.items (sym s.actor) (sym s.part) h.other;
 }
-
--- what is told by a plan's input is what is told by the input
-pub desk-input : (script : Script) (clock : TableId) (boxes : List Boxed) (w : ℕ) (d : Desk) (input : Input) (p : Plan) → IsReady script d input p → IsDesk script clock boxes w (told_by d.actor input) d → IsDesk script clock boxes w (told_by d.actor (entry_in p).input) d
-desk-input script clock boxes w d input p r h = subst (λ (i : Input). IsDesk script clock boxes w (told_by d.actor i) d) (sym (ap (λ (x : Entry). x.input) r.step)) h
 
 -- whatever was taken, nothing else is open
 pub taken-broken : (script : Script) (clock : TableId) (boxes : List Boxed) (w : ℕ) (rest : List Mailed) (d d' : Desk) (taken : Option Input) → IsDesk script clock boxes w rest d

@@ -63,3 +63,10 @@ no-retry-both d e f part h n y le at = h n y (subst (λ l. length l ≤ n) (sym 
 -- nothing was done
 pub turn-self : (boxes : List Boxed) (d : Desk) (o : Outbox) (t : Totals) (f : FateState) → IsOutbox boxes o → IsTotal t → IsTurn boxes d d o o t t f f []
 turn-self boxes d o t f out total = turn-none boxes d d o t f refl refl refl (begins-refl (ins_of d.inbox)) out total
+
+-- the same desk
+pub turn-still : (boxes : List Boxed) (d d' : Desk) (o : Outbox) (t : Totals) (f : FateState) → d' ≡ d → IsOutbox boxes o → IsTotal t → IsTurn boxes d d' o o t t f f []
+turn-still boxes d d' o t f same out total = subst (λ (e : Desk). IsTurn boxes d e o o t t f f []) (sym same) (turn-self boxes d o t f out total)
+
+pub turn-from : (boxes : List Boxed) (d d' e : Desk) (o p : Outbox) (t u : Totals) (k l : FateState) (xs : List Stamped) → d' ≡ d → IsTurn boxes d' e o p t u k l xs → IsTurn boxes d e o p t u k l xs
+turn-from boxes d d' e o p t u k l xs same h = subst (λ (x : Desk). IsTurn boxes x e o p t u k l xs) same h

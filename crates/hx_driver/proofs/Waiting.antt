@@ -28,11 +28,8 @@ use Rattle.hx_model.specs.SessionSteps.{ask_regions, begin, send, send_to, sessi
 use Rattle.hx_clock.specs.declared.parts.Stamped.{Stamped}
 use Rattle.hx_clock.proofs.Lemmas.{get-below}
 use Rattle.hx_law_threads.specs.Cuts.{is_began, is_idle_actor, is_retry, is_waiting}
-use Rattle.hx_machine.specs.declared.plans.Plan.{Plan}
-use Rattle.hx_machine.specs.Machines.{entry_in}
 use Rattle.hx_driver.specs.declared.desks.Desk.{Desk}
 use Rattle.hx_driver.specs.Desks.{entries_before, HasRetried}
-use Rattle.hx_driver.specs.Givings.{IsReady}
 
 -- no note tells of a call that began
 abbrev IsQuiet : List Note → Type 0
@@ -121,11 +118,6 @@ some-enough (p ∷ posts) (n ∷ notes) e = refl
 -- an idle session's tick makes something
 pub idle-enough : (script : Script) (own : List Entry) (a : Actor) → is_idle_actor script own a ≡ true → does_something Tick (made_of script own a Tick) ≡ true
 idle-enough script own a e = some-enough (made_of script own a Tick).posts (made_of script own a Tick).notes (begins script own a e)
-
--- what the plan of a tick makes
-pub plan-enough : (script : Script) (d : Desk) (p : Plan) → IsReady script d Tick p
-    → does_something Tick (record { posts = (entry_in p).outputs; notes = (entry_in p).notes }) ≡ does_something Tick (made_of script (entries_before d.part.items) d.actor Tick)
-plan-enough script d p ready = ap (λ (y : Entry). does_something Tick (record { posts = y.outputs; notes = y.notes })) ready.step
 
 and-parts : (h i m : Bool) → not h && not i && m ≡ true → (h ≡ false) × (i ≡ false) × (m ≡ true)
 and-parts true true true e = absurd (true≢false (sym e))

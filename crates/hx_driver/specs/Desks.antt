@@ -71,7 +71,7 @@ pub record IsLater (d d' : Desk) : Type 0 where
   pub part : IsPrefix d.part.items d'.part.items
   pub ins : IsPrefix (ins_of d.inbox) (ins_of d'.inbox)
 
--- the same desk, but for room
+-- the same desk, but for room and for the lists that it lends
 pub record IsSame (d d' : Desk) : Type 0 where
   pub actor : d'.actor ≡ d.actor
   pub part : d'.part.items ≡ d.part.items

@@ -7,7 +7,7 @@ ghost use Rattle.hx_model.specs.Runs.{has_halted, does_something};
 ghost use Rattle.hx_clock.specs.declared.parts.Stamped.{Stamped};
 ghost use Rattle.hx_law_threads.specs.Cuts.{is_idle_actor};
 ghost use Rattle.hx_mail.specs.declared.views.Mailed.{Mailed};
-ghost use Rattle.hx_machine.specs.Machines.{IsMachine, entry_in};
+ghost use Rattle.hx_machine.specs.Machines.{IsMachine};
 ghost use Rattle.hx_outbox.specs.Outboxes.{IsOutbox};
 ghost use Rattle.hx_driver.specs.Desks.{HasRetried, entries_before};
 ghost use Rattle.hx_driver.specs.Floors.{IsDeskOn, IsWholeDeskOn};
@@ -18,9 +18,10 @@ use crate::desks::Desk;
 use crate::entering::reserve_and_make;
 use crate::faults::Fault;
 use crate::gates::Gate;
+use crate::lent::Lent;
 use crate::preparing::{is_worn, prepare_step};
 use hx_fate::Fate;
-use hx_machine::{Machine, Plan};
+use hx_machine::{Change, Machine};
 use hx_outbox::{Floor, Outbox};
 use hx_types::{Input, Totals};
 use std::sync::Wait;
@@ -33,11 +34,10 @@ fn rests(machine: &Machine) -> bool
 }
 
 /// Whether a step posts or notes anything.
-fn makes_anything(plan: &Plan) -> bool
-    ensures { result ≡ does_something Tick (record { posts = (entry_in plan.now).outputs; notes = (entry_in plan.now).notes }) }
+fn makes_anything(lent: &Lent) -> bool
+    ensures { result ≡ does_something Tick (record { posts = lent.now.posts; notes = lent.now.notes }) }
 {
-    let entry = plan.entry();
-    !(entry.outputs.is_empty() && entry.notes.is_empty())
+    !(lent.posts.is_empty() && lent.notes.is_empty())
 }
 
 /// Makes the tick that the actor is ready for, where it makes anything.
@@ -47,12 +47,12 @@ fn finish<R: Wait, G: Gate>(
     out: &mut Outbox,
     fate: &mut Box<dyn Fate + Send>,
     totals: &mut Totals,
-    plan: Plan,
+    change: Change,
 ) -> Result<(), Fault>
     requires desk { (w : ℕ) × IsDeskOn floor.now w [] desk.old }
     requires running { has_halted floor.now.script.now (entries_before desk.old.part.items) desk.old.actor ≡ false }
     requires waits { is_idle_actor floor.now.script.now (entries_before desk.old.part.items) desk.old.actor ≡ false }
-    requires ready { IsReady floor.now.script.now desk.old Tick plan }
+    requires ready { IsReady floor.now.script.now desk.old Tick change }
     requires out { IsOutbox floor.now.boxes.now out.old }
     requires room { HasRoom out.old desk.old totals.old }
     ensures desk { (w : ℕ) → IsDeskOn floor.now w [] desk.old → IsDeskOn floor.now w [] desk.new }
@@ -60,14 +60,14 @@ fn finish<R: Wait, G: Gate>(
     ensures fault { MatchResult result (λ _. ⊤) (λ fault. IsFaultOf floor.now.script.now true desk.new fault) }
     ensures turn { (xs : List Stamped) × IsTurn floor.now.boxes.now desk.old desk.new out.old out.new totals.old totals.new (state fate.old) (state fate.new) xs }
 {
-    if !makes_anything(&plan) {
-        drop(plan);
+    if !makes_anything(&desk.lent) {
+        drop(change);
         Ok(())
     } else if is_worn(desk) {
-        drop(plan);
+        drop(change);
         Err(Fault::Worn(desk.actor))
     } else {
-        reserve_and_make(floor, desk, out, fate, totals, plan)
+        reserve_and_make(floor, desk, out, fate, totals, Input::Tick, change)
     }
 }
 
@@ -89,8 +89,8 @@ fn tick<R: Wait, G: Gate>(
     ensures fault { MatchResult result (λ _. ⊤) (λ fault. IsFaultOf floor.now.script.now true desk.new fault) }
     ensures turn { (xs : List Stamped) × IsTurn floor.now.boxes.now desk.old desk.new out.old out.new totals.old totals.new (state fate.old) (state fate.new) xs }
 {
-    match prepare_step(floor, desk, Input::Tick) {
-        Ok(plan) => finish(floor, desk, out, fate, totals, plan),
+    match prepare_step(floor, desk, &Input::Tick) {
+        Ok(change) => finish(floor, desk, out, fate, totals, change),
         Err(_) => Err(Fault::Memory),
     }
 }

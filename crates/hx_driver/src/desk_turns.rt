@@ -19,7 +19,7 @@ use crate::faults::Fault;
 use crate::gates::Gate;
 use crate::receiving::receive;
 use hx_fate::Fate;
-use hx_outbox::{Floor, Outbox, put_kept};
+use hx_outbox::{Floor, Outbox, place_of, put_kept};
 use hx_types::{Input, Totals};
 use std::sync::Wait;
 
@@ -33,6 +33,21 @@ fn resend<R: Wait, G>(floor: &Floor<'_, R, G>, desk: &mut Desk, out: &mut Outbox
     ensures room { (totals : TotalsSeen) → HasRoom out.old desk.old totals → HasRoom out.new desk.new totals }
 {
     put_kept(floor, out, &mut desk.kept);
+}
+
+/// Whether a turn finds nothing to do: nothing is kept, the actor isn't a session that can begin
+/// its next call, and its box is empty.
+#[inline]
+fn finds_nothing<R: Wait, G>(floor: &Floor<'_, R, G>, desk: &mut Desk) -> bool
+    requires desk { (w : ℕ) × (rest : List Mailed) × IsDeskOn floor.now w rest desk.old }
+    ensures same { desk.new ≡ desk.old }
+{
+    if !desk.kept.is_empty() || desk.machine.idle() {
+        return false;
+    }
+    let place = place_of(&floor.script.space, desk.actor);
+    let boxes = floor.boxes;
+    boxes[place].is_empty(&mut desk.inbox)
 }
 
 /// Whether each count can be raised. What a halted server takes isn't bounded by its entries.
@@ -107,11 +122,9 @@ fn take_and_enter<R: Wait, G: Gate>(
     }
 }
 
-/// One turn of an actor: its kept envelopes are put again; it takes an envelope and makes an entry
-/// of it, or, where its box is empty and it is a session that can begin its next call, it begins
-/// that. A halted server drops what it takes. Where the actor is worn, the entry that it has still
-/// to make is no retry.
-pub fn turn<R: Wait, G: Gate>(
+/// A turn in which there may be something to do.
+#[inline]
+fn busy_turn<R: Wait, G: Gate>(
     floor: &Floor<'_, R, G>,
     desk: &mut Desk,
     out: &mut Outbox,
@@ -131,5 +144,32 @@ pub fn turn<R: Wait, G: Gate>(
         discard(floor, desk)
     } else {
         take_and_enter(floor, desk, out, fate, totals)
+    }
+}
+
+/// One turn of an actor: its kept envelopes are put again; it takes an envelope and makes an entry
+/// of it, or, where its box is empty and it is a session that can begin its next call, it begins
+/// that. A halted server drops what it takes. Where the actor is worn, the entry that it has still
+/// to make is no retry.
+#[inline]
+pub fn turn<R: Wait, G: Gate>(
+    floor: &Floor<'_, R, G>,
+    desk: &mut Desk,
+    out: &mut Outbox,
+    fate: &mut Box<dyn Fate + Send>,
+    totals: &mut Totals,
+) -> Result<(), Fault>
+    requires desk { (w : ℕ) × IsWholeDeskOn floor.now w desk.old }
+    requires out { IsOutbox floor.now.boxes.now out.old }
+    requires room { HasRoom out.old desk.old totals.old }
+    ensures desk { MatchResult result (λ _. (w : ℕ) → IsWholeDeskOn floor.now w desk.old → IsWholeDeskOn floor.now w desk.new) (λ _. (w : ℕ) → IsWholeDeskOn floor.now w desk.old → IsBrokenDeskOn floor.now w desk.new) }
+    ensures fault { MatchResult result (λ _. ⊤) (λ fault. IsFaultOf floor.now.script.now false desk.new fault) }
+    ensures turn { (xs : List Stamped) × IsTurn floor.now.boxes.now desk.old desk.new out.old out.new totals.old totals.new (state fate.old) (state fate.new) xs }
+    ensures retries { HasNoRetry desk.old desk.new }
+{
+    if finds_nothing(floor, desk) {
+        Ok(())
+    } else {
+        busy_turn(floor, desk, out, fate, totals)
     }
 }

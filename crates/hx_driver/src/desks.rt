@@ -1,6 +1,7 @@
 ghost use Rattle.std.specs.Prelude.{◌≡◌};
 
-use hx_clock::{Seat, Stamped};
+use crate::lent::Lent;
+use hx_clock::{GrowingPart, Seat};
 use hx_machine::Machine;
 use hx_mail::{Envelope, Port};
 use hx_types::Actor;
@@ -8,15 +9,17 @@ use std::collections::VecDeque;
 use std::mem::ManuallyDrop;
 
 /// An actor with its state, its entries and its seat, the first port of its box, the envelopes that
-/// its driver keeps for it until there is room, and how many envelopes of each port's name it took.
+/// its driver keeps for it until there is room, how many envelopes of each port's name it took, and
+/// the lists that it lends for each step.
 pub struct Desk {
     pub actor: Actor,
     pub machine: Machine,
-    pub part: Vec<Stamped>,
+    pub part: GrowingPart,
     pub seat: Seat,
     pub inbox: Port,
     pub kept: VecDeque<Envelope>,
     pub heard: Vec<u64>,
+    pub lent: Lent,
 }
 
 impl Drop for Desk {
@@ -29,6 +32,7 @@ impl Drop for Desk {
             inbox: _,
             kept: _,
             heard: _,
+            lent: _,
         } = self;
     }
 }
@@ -37,7 +41,7 @@ impl Desk {
     /// What is left of an actor that takes no more turns: the actor, its entries, its seat and the
     /// first port of its box. The memory of its state is left to the system: to give it back piece
     /// by piece takes longer than to end.
-    pub fn leave(self) -> (Actor, Vec<Stamped>, Seat, Port)
+    pub fn leave(self) -> (Actor, GrowingPart, Seat, Port)
         ensures { (result.0 ≡ self.actor) × (result.1 ≡ self.part) × (result.2 ≡ self.seat) × (result.3 ≡ self.inbox) }
     {
         let Desk {
@@ -48,6 +52,7 @@ impl Desk {
             inbox,
             kept: _,
             heard: _,
+            lent: _,
         } = self;
         let _left = ManuallyDrop::new(machine);
         (actor, part, seat, inbox)

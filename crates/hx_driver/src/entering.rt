@@ -6,7 +6,6 @@ ghost use Rattle.hx_model.specs.Runs.{entry_of, has_halted, made_of, does_someth
 ghost use Rattle.hx_clock.specs.declared.parts.Stamped.{Stamped};
 ghost use Rattle.hx_law_threads.specs.Cuts.{is_retry};
 ghost use Rattle.hx_mail.specs.declared.views.Mailed.{Mailed};
-ghost use Rattle.hx_machine.specs.Machines.{entry_in};
 ghost use Rattle.hx_outbox.specs.Offers.{firsts_of};
 ghost use Rattle.hx_outbox.specs.Outboxes.{IsOutbox};
 ghost use Rattle.hx_driver.specs.declared.faults.Fault.TheVariants as a_fault;
@@ -20,10 +19,9 @@ use crate::desks::Desk;
 use crate::faults::Fault;
 use crate::gates::Gate;
 use crate::preparing::{is_worn, make_room, prepare_step};
-use hx_clock::Stamped;
 use hx_fate::Fate;
-use hx_machine::Plan;
-use hx_outbox::{Copies, Floor, Outbox, offer_all};
+use hx_machine::Change;
+use hx_outbox::{Floor, Outbox, offer_all};
 use hx_types::{Input, Totals};
 use std::sync::Wait;
 
@@ -35,21 +33,27 @@ fn make_entry<R: Wait, G: Gate>(
     out: &mut Outbox,
     fate: &mut Box<dyn Fate + Send>,
     totals: &mut Totals,
-    plan: Plan,
-    copies: Vec<Copies>,
+    input: Input,
+    change: Change,
 )
-    requires desk { (w : ℕ) × IsDeskOn floor.now w (told_by desk.old.actor (entry_in plan).input) desk.old }
-    requires step { IsReady floor.now.script.now desk.old (entry_in plan).input plan × MakesEnough (entry_in plan).input plan }
-    requires copies { (firsts_of copies.items ≡ (entry_in plan).outputs) × (length copies.items < 2 ^ 32) }
-    requires places { HasPlaces desk.old (length copies.items) × (length desk.old.part.items < MOST_ENTRIES) }
+    requires desk { (w : ℕ) × IsDeskOn floor.now w (told_by desk.old.actor input) desk.old }
+    requires step { IsReady floor.now.script.now desk.old input change × MakesEnough input desk.old }
+    requires copies { (firsts_of desk.old.lent.copies.items ≡ desk.old.lent.posts) × (length desk.old.lent.posts < 2 ^ 32) }
+    requires places { HasPlaces desk.old × (length desk.old.part.items < MOST_ENTRIES) }
     requires out { IsOutbox floor.now.boxes.now out.old }
     requires room { HasRoom out.old desk.old totals.old }
-    ensures desk { (w : ℕ) → IsDeskOn floor.now w (told_by desk.old.actor (entry_in plan).input) desk.old → IsDeskOn floor.now w [] desk.new }
-    ensures turn { (x : Stamped) × (x.entry ≡ entry_in plan) × IsTurn floor.now.boxes.now desk.old desk.new out.old out.new totals.old totals.new (state fate.old) (state fate.new) (x ∷ []) }
+    ensures desk { (w : ℕ) → IsDeskOn floor.now w (told_by desk.old.actor input) desk.old → IsDeskOn floor.now w [] desk.new }
+    ensures turn { (x : Stamped) × IsMadeOf floor.now.script.now desk.old input x × IsTurn floor.now.boxes.now desk.old desk.new out.old out.new totals.old totals.new (state fate.old) (state fate.new) (x ∷ []) }
 {
     floor.gate.before(desk.actor);
-    let entry = desk.machine.apply(plan);
-    let stamp = floor.clock.act(&mut desk.seat, &entry);
+    desk.machine.make(change);
+    let stamp = floor.clock.act_on(
+        &mut desk.seat,
+        desk.actor,
+        &input,
+        &desk.lent.posts,
+        &desk.lent.notes,
+    );
     offer_all(
         floor,
         out,
@@ -58,9 +62,15 @@ fn make_entry<R: Wait, G: Gate>(
         fate,
         totals,
         stamp.0 + 1,
-        copies,
+        &mut desk.lent.copies,
     );
-    desk.part.push_reserved(Stamped { stamp, entry });
+    desk.part.push_reserved(
+        stamp,
+        desk.actor,
+        input,
+        &mut desk.lent.posts,
+        &mut desk.lent.notes,
+    );
 }
 
 /// Takes the memory that a step still needs, and makes it. The actor isn't worn.
@@ -70,24 +80,26 @@ pub(crate) fn reserve_and_make<R: Wait, G: Gate>(
     out: &mut Outbox,
     fate: &mut Box<dyn Fate + Send>,
     totals: &mut Totals,
-    plan: Plan,
+    input: Input,
+    change: Change,
 ) -> Result<(), Fault>
-    requires desk { (w : ℕ) × IsDeskOn floor.now w (told_by desk.old.actor (entry_in plan).input) desk.old }
-    requires step { IsReady floor.now.script.now desk.old (entry_in plan).input plan × MakesEnough (entry_in plan).input plan }
+    requires desk { (w : ℕ) × IsDeskOn floor.now w (told_by desk.old.actor input) desk.old }
+    requires step { IsReady floor.now.script.now desk.old input change × MakesEnough input desk.old }
     requires fresh { length desk.old.part.items < MOST_ENTRIES }
     requires out { IsOutbox floor.now.boxes.now out.old }
     requires room { HasRoom out.old desk.old totals.old }
-    ensures desk { MatchResult result (λ _. (w : ℕ) → IsDeskOn floor.now w (told_by desk.old.actor (entry_in plan).input) desk.old → IsDeskOn floor.now w [] desk.new) (λ _. (w : ℕ) (rest : List Mailed) → IsDeskOn floor.now w rest desk.old → IsDeskOn floor.now w rest desk.new) }
-    ensures turn { MatchResult result (λ _. (x : Stamped) × (x.entry ≡ entry_in plan) × IsTurn floor.now.boxes.now desk.old desk.new out.old out.new totals.old totals.new (state fate.old) (state fate.new) (x ∷ [])) (λ _. IsTurn floor.now.boxes.now desk.old desk.new out.old out.new totals.old totals.new (state fate.old) (state fate.new) []) }
+    ensures desk { MatchResult result (λ _. (w : ℕ) → IsDeskOn floor.now w (told_by desk.old.actor input) desk.old → IsDeskOn floor.now w [] desk.new) (λ _. (w : ℕ) (rest : List Mailed) → IsDeskOn floor.now w rest desk.old → IsDeskOn floor.now w rest desk.new) }
+    ensures turn { MatchResult result (λ _. (x : Stamped) × IsMadeOf floor.now.script.now desk.old input x × IsTurn floor.now.boxes.now desk.old desk.new out.old out.new totals.old totals.new (state fate.old) (state fate.new) (x ∷ [])) (λ _. IsTurn floor.now.boxes.now desk.old desk.new out.old out.new totals.old totals.new (state fate.old) (state fate.new) []) }
     ensures fault { MatchResult result (λ _. ⊤) (λ fault. fault ≡ a_fault.Memory) }
 {
-    match make_room(floor.alloc, desk, &plan) {
-        Ok(copies) => {
-            make_entry(floor, desk, out, fate, totals, plan, copies);
+    match make_room(floor.alloc, desk) {
+        Ok(()) => {
+            make_entry(floor, desk, out, fate, totals, input, change);
             Ok(())
         }
         Err(_) => {
-            drop(plan);
+            drop(input);
+            drop(change);
             Err(Fault::Memory)
         }
     }
@@ -113,9 +125,12 @@ fn step_on<R: Wait, G: Gate>(
     ensures turn { MatchResult result (λ _. (x : Stamped) × IsMadeOf floor.now.script.now desk.old input x × IsTurn floor.now.boxes.now desk.old desk.new out.old out.new totals.old totals.new (state fate.old) (state fate.new) (x ∷ [])) (λ _. IsTurn floor.now.boxes.now desk.old desk.new out.old out.new totals.old totals.new (state fate.old) (state fate.new) []) }
     ensures fault { MatchResult result (λ _. ⊤) (λ fault. fault ≡ a_fault.Memory) }
 {
-    match prepare_step(floor, desk, input) {
-        Ok(plan) => reserve_and_make(floor, desk, out, fate, totals, plan),
-        Err(_) => Err(Fault::Memory),
+    match prepare_step(floor, desk, &input) {
+        Ok(change) => reserve_and_make(floor, desk, out, fate, totals, input, change),
+        Err(_) => {
+            drop(input);
+            Err(Fault::Memory)
+        }
     }
 }
 

@@ -3,17 +3,17 @@ ghost use Rattle.std.specs.Prelude.{ℕ, ◌≡◌, ◌<◌, ◌≤◌, ◌^◌,
 ghost use Rattle.hx_types.specs.declared.limits.TheConstants.{MOST_ENTRIES};
 ghost use Rattle.hx_model.specs.Runs.{has_halted};
 ghost use Rattle.hx_mail.specs.declared.views.Mailed.{Mailed};
-ghost use Rattle.hx_machine.specs.Machines.{IsMachine, entry_in};
 ghost use Rattle.hx_outbox.specs.Offers.{firsts_of};
 ghost use Rattle.hx_driver.specs.Desks.{IsSame, entries_before};
 ghost use Rattle.hx_driver.specs.Floors.{IsDeskOn};
-ghost use Rattle.hx_driver.specs.Givings.{CanBeGiven, HasPlaces, IsReady};
+ghost use Rattle.hx_driver.specs.Givings.{CanBeGiven, HasPlaces, IsReady, IsSameStep};
 
 use crate::desks::Desk;
-use hx_machine::Plan;
+use hx_machine::Change;
 use hx_outbox::{Copies, Floor};
 use hx_types::{Exact, Input, MOST_ENTRIES, Memory, Post};
 use std::alloc::Global;
+use std::collections::VecDeque;
 
 /// Whether the actor has made the most entries that it may make.
 pub(crate) fn is_worn(desk: &Desk) -> bool
@@ -24,27 +24,37 @@ pub(crate) fn is_worn(desk: &Desk) -> bool
     desk.part.len() >= MOST_ENTRIES as usize
 }
 
-/// The step that the actor makes of an input that it can be given.
+/// What the step changes that the actor makes of an input that it can be given. The desk's lists
+/// then hold what it posts and notes.
+#[inline]
 pub(crate) fn prepare_step<R, G>(
     floor: &Floor<'_, R, G>,
     desk: &mut Desk,
-    input: Input,
-) -> Result<Plan, Memory>
+    input: &Input,
+) -> Result<Change, Memory>
     requires desk { (w : ℕ) × (rest : List Mailed) × IsDeskOn floor.now w rest desk.old }
     requires running { has_halted floor.now.script.now (entries_before desk.old.part.items) desk.old.actor ≡ false }
-    requires given { CanBeGiven floor.now.script.now desk.old input }
+    requires given { CanBeGiven floor.now.script.now desk.old input.now }
     ensures same { IsSame desk.old desk.new }
     ensures desk { (w : ℕ) (rest : List Mailed) → IsDeskOn floor.now w rest desk.old → IsDeskOn floor.now w rest desk.new }
-    ensures ready { IfOk result (IsReady floor.now.script.now desk.new input) }
+    ensures ready { IfOk result (IsReady floor.now.script.now desk.new input.now) }
 {
     let _drawn = floor.clock.now(&mut desk.seat);
-    desk.machine.prepare(floor.alloc, input)
+    desk.lent.posts.clear();
+    desk.lent.notes.clear();
+    desk.machine.step(
+        floor.alloc,
+        input,
+        &mut desk.lent.posts,
+        &mut desk.lent.notes,
+    )
 }
 
-/// A post twice.
-fn copy_twice(alloc: Global, post: &Post) -> Result<Copies, Memory>
-    ensures { IfOk result (λ copies. copies.first ≡ post.now) }
+/// Adds a post twice.
+fn add_twice(alloc: Global, copies: &mut VecDeque<Copies>, post: &Post) -> Result<(), Memory>
+    ensures { OnOk result (firsts_of copies.new.items ≡ firsts_of copies.old.items ++ post.now ∷ []) }
 {
+    copies.reserve(1)?;
     let Ok(first) = post.copy(alloc) else {
         return Err(Memory);
     };
@@ -52,41 +62,35 @@ fn copy_twice(alloc: Global, post: &Post) -> Result<Copies, Memory>
         drop(first);
         return Err(Memory);
     };
-    Ok(Copies { first, second })
-}
-
-/// Adds a post twice.
-fn add_twice(alloc: Global, copies: &mut Vec<Copies>, post: &Post) -> Result<(), Memory>
-    ensures { OnOk result (firsts_of copies.new.items ≡ firsts_of copies.old.items ++ post.now ∷ []) }
-{
-    copies.push(copy_twice(alloc, post)?)?;
+    copies.push_back_reserved(Copies { first, second });
     Ok(())
 }
 
-/// Each post twice.
-fn copies_of(alloc: Global, posts: &[Post]) -> Result<Vec<Copies>, Memory>
-    ensures { IfOk result (λ copies. firsts_of copies.items ≡ posts.now) }
+/// Each post twice, in place of what the list held.
+fn copy_all(alloc: Global, posts: &[Post], copies: &mut VecDeque<Copies>) -> Result<(), Memory>
+    ensures { OnOk result (firsts_of copies.new.items ≡ posts.now) }
 {
-    let mut copies = Vec::with_capacity(alloc, posts.len())?;
-    for post in posts {
-        add_twice(alloc, &mut copies, post)?;
+    if !copies.is_empty() {
+        copies.clear();
     }
-    Ok(copies)
+    for post in posts {
+        add_twice(alloc, copies, post)?;
+    }
+    Ok(())
 }
 
 /// The copies of a step's posts, and room for its entry and for what may have to be kept.
-pub(crate) fn make_room(alloc: Global, desk: &mut Desk, plan: &Plan) -> Result<Vec<Copies>, Memory>
-    ensures same { IsSame desk.old desk.new × (desk.new.machine ≡ desk.old.machine) }
-    ensures copies { IfOk result (λ copies. firsts_of copies.items ≡ (entry_in plan.now).outputs) }
-    ensures few { IfOk result (λ copies. length copies.items < 2 ^ 32) }
-    ensures places { IfOk result (λ copies. HasPlaces desk.new (length copies.items)) }
+pub(crate) fn make_room(alloc: Global, desk: &mut Desk) -> Result<(), Memory>
+    ensures same { IsSame desk.old desk.new × IsSameStep desk.old desk.new }
+    ensures copies { OnOk result (firsts_of desk.new.lent.copies.items ≡ desk.new.lent.posts) }
+    ensures few { OnOk result (length desk.new.lent.posts < 2 ^ 32) }
+    ensures places { OnOk result (HasPlaces desk.new) }
 {
-    let posts = plan.entry().outputs.as_slice();
-    let count = posts.len();
+    let count = desk.lent.posts.len();
     if count >= 1 << 32 {
         return Err(Memory);
     }
-    desk.part.reserve(1)?;
+    desk.part.reserve(count, desk.lent.notes.len())?;
     desk.kept.reserve(2 * count)?;
-    copies_of(alloc, posts)
+    copy_all(alloc, desk.lent.posts.as_slice(), &mut desk.lent.copies)
 }

@@ -1,4 +1,4 @@
-ghost use Rattle.std.specs.Prelude.{ℕ, ◌≡◌, ◌<◌, Some, IfOk, OnErr, MatchResult, MatchOption, ⊤};
+ghost use Rattle.std.specs.Prelude.{ℕ, ◌≡◌, ◌<◌, true, Some, IfOk, OnErr, MatchResult, MatchOption, ⊤};
 ghost use Rattle.hx_mail.specs.declared.views.BoxNames.{BoxNames};
 ghost use Rattle.hx_mail.specs.Boxes.{IsAddressed, IsPortOf};
 ghost use Rattle.hx_mail.specs.Ports.{after_put, after_take, first_port, joined_port, mailed_of, sent_of, splitting, split_off, CarriesName, IsInOrder, IsOnce};
@@ -115,6 +115,27 @@ impl<'a> Mailbox<'a> {
             port: port.name,
             envelope,
         };
+        match self.queue.try_push_as::<Put>(&mut port.pass, letter) {
+            Ok(()) => Ok(()),
+            Err(letter) => self.put_at_last(rt, letter.envelope, port),
+        }
+    }
+
+    /// Puts an envelope that one attempt didn't put: the box was full, or another thread was in the
+    /// way. It is rare, and the loop of attempts is large, so it has a function of its own.
+    #[cold]
+    #[inline(never)]
+    fn put_at_last<R: Wait>(&self, rt: &R, envelope: Envelope, port: &mut Port) -> Result<(), Full>
+        requires port { IsPortOf self.now port.old }
+        requires addressed { IsAddressed self.now.names envelope }
+        ensures port { IsPortOf self.now port.new }
+        ensures put { MatchResult result (λ _. port.new.view ≡ after_put (mailed_of envelope) port.old.view) (λ full. (full.0 ≡ envelope) × (port.new.view ≡ port.old.view) × HasHeld port.old.view self.now.capacity) }
+    {
+        let name = port.name;
+        let letter = Letter {
+            port: name,
+            envelope,
+        };
         match self.queue.push_as::<Put, R>(rt, &mut port.pass, letter) {
             Ok(()) => Ok(()),
             Err(letter) => Err(Full(letter.envelope)),
@@ -129,7 +150,34 @@ impl<'a> Mailbox<'a> {
         ensures taken { MatchOption result ((port.new.view ≡ port.old.view) × HasHeld port.old.view 0) (λ letter. port.new.view ≡ after_take (sent_of letter) port.old.view) }
         ensures addressed { MatchOption result ⊤ (λ letter. IsAddressed self.now.names letter.envelope) }
     {
+        match self.queue.try_pop_as::<Take>(&mut port.pass) {
+            Some(letter) => Some(letter),
+            None => self.take_at_last(rt, port),
+        }
+    }
+
+    /// Takes an envelope that one attempt didn't take: the box was empty, or another thread was in
+    /// the way. As [`Mailbox::put`], it has the loop of attempts in a function of its own.
+    #[cold]
+    #[inline(never)]
+    fn take_at_last<R: Wait>(&self, rt: &R, port: &mut Port) -> Option<Letter>
+        requires port { IsPortOf self.now port.old }
+        ensures port { IsPortOf self.now port.new }
+        ensures taken { MatchOption result ((port.new.view ≡ port.old.view) × HasHeld port.old.view 0) (λ letter. port.new.view ≡ after_take (sent_of letter) port.old.view) }
+        ensures addressed { MatchOption result ⊤ (λ letter. IsAddressed self.now.names letter.envelope) }
+    {
         self.queue.pop_as::<Take, R>(rt, &mut port.pass)
+    }
+
+    /// Whether the box is empty, by two loads. `true` comes only where it was empty at a moment of
+    /// the call; `false` says nothing.
+    #[inline]
+    pub fn is_empty(&self, port: &mut Port) -> bool
+        requires port { IsPortOf self.now port.old }
+        ensures port { port.new ≡ port.old }
+        ensures empty { result ≡ true → HasHeld port.old.view 0 }
+    {
+        self.queue.is_empty_as::<Take>(&mut port.pass)
     }
 
     /// A port with a new name, of the first port: the number of ports that were split off it

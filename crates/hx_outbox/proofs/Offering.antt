@@ -1,5 +1,5 @@
 -- Offers put together.
-use Rattle.std.proofs.Common.{◌≡◌, ℕ, zero, suc, ◌+◌, ◌*◌, ◌≤◌, Bool, true, false, eqb, List, [], ◌∷◌, ◌++◌, map, length, slice_get, Some, refl, ap, sym, subst, ◌∙◌, arith, length-append, append-nil}
+use Rattle.std.proofs.Common.{◌≡◌, ℕ, zero, suc, ◌+◌, ◌*◌, ◌≤◌, Bool, true, false, eqb, List, [], ◌∷◌, ◌++◌, map, length, slice_get, Some, refl, ap, sym, subst, ◌∙◌, arith, length-append}
 use Rattle.std.specs.Prelude.{not}
 use Rattle.std.specs.List.{AllByRecursion}
 use Rattle.hx_types.specs.declared.messages.Post.{Post}
@@ -165,11 +165,3 @@ firsts-next entry n xs c is =
 -- as many posts were offered as there were
 pub offered-long : (w w' : (Mailed → ℕ) → ℕ) (t t' : Totals) (f f' : FateState) (ms : List Mailed) (o : IsOffered w w' t t' f f' ms) → length o.offers ≡ length ms
 offered-long w w' t t' f f' ms o = sym (map-length (λ (p : Offer). p.mailed) o.offers) ∙ ap length o.are
-
--- a list with nothing left after it is the whole
-pub all-there : (xs rest all : List Copies) (n : ℕ) → xs ++ rest ≡ all → length rest ≡ n → n ≡ 0 → xs ≡ all
-all-there xs [] all n e h z = sym (append-nil xs) ∙ e
-all-there xs (c ∷ rest) all n e h z = absurd (omega (arith, h, z))
-
-pub offered-of : (w w' : (Mailed → ℕ) → ℕ) (t t' : Totals) (f f' : FateState) (entry : ℕ) (xs ys : List Copies) → xs ≡ ys → IsOffered w w' t t' f f' (named entry 0 (firsts_of xs)) → IsOffered w w' t t' f f' (named entry 0 (firsts_of ys))
-offered-of w w' t t' f f' entry xs ys e h = subst (λ l. IsOffered w w' t t' f f' (named entry 0 (firsts_of l))) e h

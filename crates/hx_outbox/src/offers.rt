@@ -162,7 +162,7 @@ pub fn offer_one<R: Wait, G>(
     put_times(floor, out, kept, seat, id, copies, choice);
 }
 
-/// Offers the posts of an entry, in order.
+/// Offers the posts of an entry, in order, and leaves their list empty, with its room.
 pub fn offer_all<R: Wait, G>(
     floor: &Floor<'_, R, G>,
     out: &mut Outbox,
@@ -171,28 +171,30 @@ pub fn offer_all<R: Wait, G>(
     fate: &mut Box<dyn Fate + Send>,
     totals: &mut Totals,
     entry: u64,
-    posts: Vec<Copies>,
+    posts: &mut VecDeque<Copies>,
 )
     requires seat { seat.old.clock ≡ floor.now.clock.now }
-    requires made { (x : Stamped) × Carries seat.old.view x × (x.stamp.0 + 1 ≡ entry) × (x.entry.outputs ≡ firsts_of posts.items) }
+    requires made { (x : Stamped) × Carries seat.old.view x × (x.stamp.0 + 1 ≡ entry) × (x.entry.outputs ≡ firsts_of posts.old.items) }
     requires out { IsOutbox floor.now.boxes.now out.old }
-    requires sound { AllByRecursion (IsSoundOn floor.now entry) (firsts_of posts.items) }
-    requires length { length posts.items < 2 ^ 32 }
-    requires room { deque_len kept.old + 2 * length posts.items ≤ deque_capacity kept.old }
-    requires few { out_weight (λ m. 1) out.old.ports.items + kept_weight (λ m. 1) kept.old.items + 2 * length posts.items < 2 ^ 62 }
-    requires small { totals.old.posts + length posts.items < 2 ^ 62 }
+    requires sound { AllByRecursion (IsSoundOn floor.now entry) (firsts_of posts.old.items) }
+    requires length { length posts.old.items < 2 ^ 32 }
+    requires room { deque_len kept.old + 2 * length posts.old.items ≤ deque_capacity kept.old }
+    requires few { out_weight (λ m. 1) out.old.ports.items + kept_weight (λ m. 1) kept.old.items + 2 * length posts.old.items < 2 ^ 62 }
+    requires small { totals.old.posts + length posts.old.items < 2 ^ 62 }
     requires total { IsTotal totals.old }
     ensures seat { seat.new ≡ seat.old }
     ensures out { IsOutbox floor.now.boxes.now out.new × (out.new.index ≡ out.old.index) }
     ensures more { MorePut out.old.ports.items out.new.ports.items }
-    ensures offered { IsOffered (λ h. out_weight h out.old.ports.items + kept_weight h kept.old.items) (λ h. out_weight h out.new.ports.items + kept_weight h kept.new.items) totals.old totals.new (state fate.old) (state fate.new) (named entry 0 (firsts_of posts.items)) }
+    ensures offered { IsOffered (λ h. out_weight h out.old.ports.items + kept_weight h kept.old.items) (λ h. out_weight h out.new.ports.items + kept_weight h kept.new.items) totals.old totals.new (state fate.old) (state fate.new) (named entry 0 (firsts_of posts.old.items)) }
     ensures good { AreGoodOn floor.now kept.old.items → AreGoodOn floor.now kept.new.items }
     ensures total { IsTotal totals.new }
+    ensures rest { posts.new.items ≡ [] }
 {
-    let mut place: u32 = 0;
-    for copies in posts {
+    for place in 0..posts.len() as u32 {
+        let Some(copies) = posts.pop_front() else {
+            return;
+        };
         let id = PostId { entry, place };
         offer_one(floor, out, kept, seat, fate, totals, id, copies);
-        place += 1;
     }
 }

@@ -14,7 +14,7 @@ use Rattle.hx_types.specs.Words.{same_actor, IsIn}
 use Rattle.hx_model.specs.Runs.{is_actor}
 use Rattle.hx_law_threads.proofs.Lemmas.{same_as_itself}
 use Rattle.hx_outbox.specs.Places.{place_of, Exists}
-use Rattle.hx_run.specs.declared.joining.Taker.{Taker}
+use Rattle.hx_run.specs.declared.joining.OwnedPort.{OwnedPort}
 use Rattle.hx_run.specs.Joined.{place_at, AreInPlaces}
 use Rattle.hx_run.proofs.Courses.{below-or-not}
 
@@ -59,17 +59,17 @@ actor-at script (suc k) lt =
     later n e some le = (Session (record { 0 = n }), (some, le), e)
 
 module _ (script : Script) where
-  abbrev pub AreRising : ℕ → List Taker → Type 0
+  abbrev pub AreRising : ℕ → List OwnedPort → Type 0
   AreRising k [] = ⊤
   AreRising k (t ∷ ts) = (k ≤ place_at script t) × AreRising (suc (place_at script t)) ts
 
-  above : (k : ℕ) (ts : List Taker) (u : Taker) → AreRising k ts → IsIn u ts → k ≤ place_at script u
+  above : (k : ℕ) (ts : List OwnedPort) (u : OwnedPort) → AreRising k ts → IsIn u ts → k ≤ place_at script u
   above k [] u r i = absurd i
   above k (t ∷ ts) u r (inl e) = omega (arith, r.0, ap (place_at script) e)
   above k (t ∷ ts) u r (inr i) = omega (arith, r.0, above (suc (place_at script t)) ts u r.1 i)
 
   -- rising places that leave none out below n are all of these
-  pub filled : (n k : ℕ) (ts : List Taker) → k ≤ n → AreRising k ts → ((t : Taker) → IsIn t ts → place_at script t < n) → ((j : ℕ) → k ≤ j → j < n → (t : Taker) × IsIn t ts × (place_at script t ≡ j))
+  pub filled : (n k : ℕ) (ts : List OwnedPort) → k ≤ n → AreRising k ts → ((t : OwnedPort) → IsIn t ts → place_at script t < n) → ((j : ℕ) → k ≤ j → j < n → (t : OwnedPort) × IsIn t ts × (place_at script t ≡ j))
       → AreInPlaces script k ts × (k + length ts ≡ n)
   filled n k [] le r lt has = (tt, ⊎_elim (λ (h : k < n). absurd (has k (omega arith) h).1) (λ (h : n ≤ k). omega (arith, h, le)) (below-or-not k n))
   filled n k (t ∷ ts) le r lt has =
@@ -85,13 +85,13 @@ module _ (script : Script) where
       ((here, rest.0), omega (arith, rest.1))
 
   -- places that don't fall, of actors that differ, rise
-  pub rises : (k : ℕ) (ts : List Taker) → ((d : Taker) → 0 < length ts → k ≤ place_at script (slice_index_or ts 0 d)) → IsNonDecreasingBy (place_at script) ts
-      → AllByRecursion (λ (t : Taker). Exists script t.actor) ts → IsDistinct same_actor (map (λ (t : Taker). t.actor) ts) → AreRising k ts
+  pub rises : (k : ℕ) (ts : List OwnedPort) → ((d : OwnedPort) → 0 < length ts → k ≤ place_at script (slice_index_or ts 0 d)) → IsNonDecreasingBy (place_at script) ts
+      → AllByRecursion (λ (t : OwnedPort). Exists script t.actor) ts → IsDistinct same_actor (map (λ (t : OwnedPort). t.actor) ts) → AreRising k ts
   rises k [] low up real apart = tt
   rises k (t ∷ []) low up real apart = (low t (omega arith), tt)
   rises k (t ∷ u ∷ ts) low up real apart =
       let le : place_at script t ≤ place_at script u = up 0 1 t (omega arith) (omega arith) in
-      let differ : same_actor t.actor u.actor ≡ false = (IsDistinct-head same_actor t.actor (u.actor ∷ map (λ (x : Taker). x.actor) ts) apart).0 in (
+      let differ : same_actor t.actor u.actor ≡ false = (IsDistinct-head same_actor t.actor (u.actor ∷ map (λ (x : OwnedPort). x.actor) ts) apart).0 in (
         low t (omega arith),
         rises (suc (place_at script t)) (u ∷ ts)
             (λ d some.
@@ -100,5 +100,5 @@ module _ (script : Script) where
             let same : t.actor ≡ u.actor = place-apart script t.actor u.actor real.0 real.1.0 (omega (arith, le, h)) in
             absurd (true≢false (sym (same_as_itself t.actor) ∙ ap (same_actor t.actor) same ∙ differ)))
             (below-or-not (place_at script t) (place_at script u)))
-            (λ i j d ij lt. up (suc i) (suc j) d (omega (arith, ij)) (omega (arith, lt))) real.1 (IsDistinct-tail same_actor t.actor (u.actor ∷ map (λ (x : Taker). x.actor) ts) apart),
+            (λ i j d ij lt. up (suc i) (suc j) d (omega (arith, ij)) (omega (arith, lt))) real.1 (IsDistinct-tail same_actor t.actor (u.actor ∷ map (λ (x : OwnedPort). x.actor) ts) apart),
       )

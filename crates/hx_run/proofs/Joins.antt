@@ -17,7 +17,7 @@ use Rattle.hx_outbox.specs.Outboxes.{outs_of, IsOutbox, IsOutPort}
 use Rattle.hx_outbox.specs.Places.{place_of}
 use Rattle.hx_outbox.specs.Zipped.{Both}
 use Rattle.hx_outbox.proofs.Lemmas.{both-at, both-long}
-use Rattle.hx_run.specs.declared.joining.Taker.{Taker}
+use Rattle.hx_run.specs.declared.joining.OwnedPort.{OwnedPort}
 use Rattle.hx_driver.specs.Inboxes.{ins_of}
 use Rattle.hx_law_drivers.specs.Joined.{outs_at}
 use Rattle.hx_run.specs.Joined.{joined_lists, place_at, AreInPlaces, AreJoinedFrom, HaveIndexes, IsJoined, IsKeptTaker, TookInOrder}
@@ -106,10 +106,10 @@ pub place-lt : (boxes : List Boxed) (o : Outbox) (olds news rest : List Ported) 
 place-lt boxes o olds news rest p at n h e f is long =
     (omega (arith, ap length e, length-append news (p ∷ []), ap length f, length-append olds rest, both-long (IsOutPort o.index) boxes o.ports.items h.ports, is, long), omega (arith, ap length e, length-append news (p ∷ []), is))
 
-pub kept-refl : (d : Taker) → IsKeptTaker d d
+pub kept-refl : (d : OwnedPort) → IsKeptTaker d d
 kept-refl d = record { actor = refl; ins = refl }
 
-pub kept-trans : (d e f : Taker) → IsKeptTaker d e → IsKeptTaker e f → IsKeptTaker d f
+pub kept-trans : (d e f : OwnedPort) → IsKeptTaker d e → IsKeptTaker e f → IsKeptTaker d f
 kept-trans d e f a b = record { actor = b.actor ∙ a.actor; ins = b.ins ∙ a.ins }
 
 pub none-left : {A : Type 0} (outs done all : List A) → length outs ≡ 0 → outs ++ done ≡ all → done ≡ all
@@ -117,22 +117,22 @@ none-left [] done all e f = f
 none-left (o ∷ outs) done all e f = absurd (omega (arith, e))
 
 module _ (script : Script) where
-  pub place-kept : (d e : Taker) → IsKeptTaker d e → place_at script e ≡ place_at script d
+  pub place-kept : (d e : OwnedPort) → IsKeptTaker d e → place_at script e ≡ place_at script d
   place-kept d e k = ap (place_of script.space) k.actor
 
-  pub number-at : (n : ℕ) (ds : List Taker) (i : ℕ) (e : Taker) → AreInPlaces script n ds → i < length ds → e ≡ slice_index_or ds i e → place_at script e ≡ n + i
+  pub number-at : (n : ℕ) (ds : List OwnedPort) (i : ℕ) (e : OwnedPort) → AreInPlaces script n ds → i < length ds → e ≡ slice_index_or ds i e → place_at script e ≡ n + i
   number-at n [] i e h lt is = absurd (omega (arith, lt))
   number-at n (d ∷ ds) zero e h lt is = omega (arith, ap (place_at script) is, h.0)
   number-at n (d ∷ ds) (suc i) e h lt is = omega (arith, number-at (suc n) ds i e h.1 (omega (arith, lt)) is)
 
-  pub places-kept : (n : ℕ) (ds es : List Taker) → Both IsKeptTaker ds es → AreInPlaces script n ds → AreInPlaces script n es
+  pub places-kept : (n : ℕ) (ds es : List OwnedPort) → Both IsKeptTaker ds es → AreInPlaces script n ds → AreInPlaces script n es
   places-kept n [] [] h k = tt
   places-kept n [] (e ∷ es) h k = absurd h
   places-kept n (d ∷ ds) [] h k = absurd h
   places-kept n (d ∷ ds) (e ∷ es) h k = (place-kept d e h.0 ∙ k.0, places-kept (suc n) ds es h.1 k.1)
 
   module _ (w : ℕ) (boxes : List Boxed) (outs : List Outbox) where
-    pub joined-at : (o : Outbox) (k : ℕ) (ds : List Taker) (e : Taker) → AreJoinedFrom script w boxes outs o (k + 1) ds → k < length ds → e ≡ slice_index_or ds k e → IsJoined script w boxes outs e
+    pub joined-at : (o : Outbox) (k : ℕ) (ds : List OwnedPort) (e : OwnedPort) → AreJoinedFrom script w boxes outs o (k + 1) ds → k < length ds → e ≡ slice_index_or ds k e → IsJoined script w boxes outs e
     joined-at o k [] e h lt is = absurd (omega (arith, lt))
     joined-at o zero (d ∷ ds) e h lt is =
         let n : zero + 1 ≡ suc zero = omega arith in
@@ -143,7 +143,7 @@ module _ (script : Script) where
         let h' : AreJoinedFrom script w boxes outs o (suc (k + 1)) (d ∷ ds) = subst (λ m. AreJoinedFrom script w boxes outs o m (d ∷ ds)) n h in
         joined-at o k ds e h'.1 (omega (arith, lt)) is
 
-    pub joined-set : (o : Outbox) (k : ℕ) (ds : List Taker) (e' : Taker) → AreJoinedFrom script w boxes outs o (k + 1) ds → k < length ds → IsJoined script w boxes (o ∷ outs) e'
+    pub joined-set : (o : Outbox) (k : ℕ) (ds : List OwnedPort) (e' : OwnedPort) → AreJoinedFrom script w boxes outs o (k + 1) ds → k < length ds → IsJoined script w boxes (o ∷ outs) e'
         → AreJoinedFrom script w boxes outs o k (slice_set ds k e')
     joined-set o k [] e' h lt j = absurd (omega (arith, lt))
     joined-set o zero (d ∷ ds) e' h lt j =
@@ -155,17 +155,17 @@ module _ (script : Script) where
         let h' : AreJoinedFrom script w boxes outs o (suc (k + 1)) (d ∷ ds) = subst (λ m. AreJoinedFrom script w boxes outs o m (d ∷ ds)) n h in
         (h'.0, joined-set o k ds e' h'.1 (omega (arith, lt)) j)
 
-    pub joined-start : (o : Outbox) (k : ℕ) (ds : List Taker) → length ds ≤ k → AllByRecursion (IsJoined script w boxes outs) ds → AreJoinedFrom script w boxes outs o k ds
+    pub joined-start : (o : Outbox) (k : ℕ) (ds : List OwnedPort) → length ds ≤ k → AllByRecursion (IsJoined script w boxes outs) ds → AreJoinedFrom script w boxes outs o k ds
     joined-start o k [] le h = tt
     joined-start o zero (d ∷ ds) le h = absurd (omega (arith, le))
     joined-start o (suc k) (d ∷ ds) le h = (h.0, joined-start o k ds (omega (arith, le)) h.1)
 
-    pub joined-end : (o : Outbox) (k : ℕ) (ds : List Taker) → k ≡ 0 → AreJoinedFrom script w boxes outs o k ds → AllByRecursion (IsJoined script w boxes (o ∷ outs)) ds
+    pub joined-end : (o : Outbox) (k : ℕ) (ds : List OwnedPort) → k ≡ 0 → AreJoinedFrom script w boxes outs o k ds → AllByRecursion (IsJoined script w boxes (o ∷ outs)) ds
     joined-end o k [] e h = tt
     joined-end o zero (d ∷ ds) e h = (h.0, joined-end o zero ds refl h.1)
     joined-end o (suc k) (d ∷ ds) e h = absurd (omega (arith, e))
 
-    pub order-each : 0 < length outs → HaveIndexes w outs → (ds es : List Taker) → Both IsKeptTaker ds es → AllByRecursion (IsJoined script w boxes outs) es → AllByRecursion (TookInOrder script outs) ds
+    pub order-each : 0 < length outs → HaveIndexes w outs → (ds es : List OwnedPort) → Both IsKeptTaker ds es → AllByRecursion (IsJoined script w boxes outs) es → AllByRecursion (TookInOrder script outs) ds
     order-each some index [] es h j = tt
     order-each some index (d ∷ ds) [] h j = absurd h
     order-each some index (d ∷ ds) (e ∷ es) h j =
@@ -179,6 +179,6 @@ module _ (script : Script) where
         )
 
 -- no driver is left
-pub joined-all : (script : Script) (w : ℕ) (boxes : List Boxed) (all outs : List Outbox) (ts : List Taker) → length outs ≡ 0 → ((done : List Outbox) × (outs ++ done ≡ all) × AllByRecursion (IsJoined script w boxes done) ts)
+pub joined-all : (script : Script) (w : ℕ) (boxes : List Boxed) (all outs : List Outbox) (ts : List OwnedPort) → length outs ≡ 0 → ((done : List Outbox) × (outs ++ done ≡ all) × AllByRecursion (IsJoined script w boxes done) ts)
     → AllByRecursion (IsJoined script w boxes all) ts
 joined-all script w boxes all outs ts none h = subst (λ l. AllByRecursion (IsJoined script w boxes l) ts) (none-left outs h.0 all none h.1) h.2

@@ -39,8 +39,8 @@ use Rattle.hx_law_drivers.proofs.Lemmas.{outs_owned}
 use Rattle.hx_cluster.specs.Everyone.{actors_of}
 use Rattle.hx_gather.specs.declared.gathering.SeatedPart.{SeatedPart}
 use Rattle.hx_gather.specs.Gathered.{parts_by, HasNumber, IsSeated}
-use Rattle.hx_run.specs.declared.joining.Taker.{Taker}
-use Rattle.hx_run.specs.Closed.{seated_of, taker_of, HasPut, IsFirstPort, IsLeft}
+use Rattle.hx_run.specs.declared.joining.OwnedPort.{OwnedPort}
+use Rattle.hx_run.specs.Closed.{seated_of, owned_port_of, HasPut, IsFirstPort, IsLeft}
 use Rattle.hx_run.specs.Joined.{joined_lists, place_at, AreInPlaces, HaveIndexes, IsJoined, IsKeptTaker, TookInOrder, TookOnce}
 use Rattle.hx_run.specs.Ran.{taken_under}
 use Rattle.hx_run.proofs.Arranged.{actor-at, actor-exists, filled, is-actor, place-apart, rises}
@@ -156,10 +156,10 @@ module _ (script : Script) (clock : TableId) (boxes : List Boxed) (w : ℕ) wher
   all-desks [] h = tt
   all-desks (c ∷ crews) h = each_append IsSome c.desks.items (desks_of crews) (crew-desks c h.0) (all-desks crews h.1)
 
-  abbrev pub IsReady : Taker → Type 0
+  abbrev pub IsReady : OwnedPort → Type 0
   IsReady t = Exists script t.actor × IsJoined script w boxes [] t
 
-  ready-one : AreBoxes script clock boxes → (d : Desk) → IsSome d → IsReady (taker_of d)
+  ready-one : AreBoxes script clock boxes → (d : Desk) → IsSome d → IsReady (owned_port_of d)
   ready-one are d h =
       let e = actor-exists script d.actor h.1.exists in
       let b = place-below script d.actor e in
@@ -173,7 +173,7 @@ module _ (script : Script) (clock : TableId) (boxes : List Boxed) (w : ℕ) wher
         },
       )
 
-  pub ready : AreBoxes script clock boxes → (ds : List Desk) → AllByRecursion IsSome ds → AllByRecursion IsReady (map taker_of ds)
+  pub ready : AreBoxes script clock boxes → (ds : List Desk) → AllByRecursion IsSome ds → AllByRecursion IsReady (map owned_port_of ds)
   ready are [] h = tt
   ready are (d ∷ ds) h = (ready-one are d h.0, ready are ds h.1)
 
@@ -190,47 +190,47 @@ module _ (script : Script) (clock : TableId) (boxes : List Boxed) (w : ℕ) wher
 
   -- ---- the order of places
 
-  places-apart : (crews : List Crew) → HaveAllActors script crews → (sorted : List Taker) → IsPermutation (map taker_of (desks_of crews)) sorted → IsDistinct same_actor (map (λ (t : Taker). t.actor) sorted)
+  places-apart : (crews : List Crew) → HaveAllActors script crews → (sorted : List OwnedPort) → IsPermutation (map owned_port_of (desks_of crews)) sorted → IsDistinct same_actor (map (λ (t : OwnedPort). t.actor) sorted)
   places-apart crews all sorted p =
-      IsDistinct-IsPermutation same_actor flips (map (λ (d : Desk). d.actor) (desks_of crews)) (map (λ (t : Taker). t.actor) sorted)
-      (subst (λ l. IsPermutation l (map (λ (t : Taker). t.actor) sorted)) (map-map (λ (t : Taker). t.actor) taker_of (desks_of crews)) (IsPermutation-map (λ (t : Taker). t.actor) (map taker_of (desks_of crews)) sorted p)) all.apart
+      IsDistinct-IsPermutation same_actor flips (map (λ (d : Desk). d.actor) (desks_of crews)) (map (λ (t : OwnedPort). t.actor) sorted)
+      (subst (λ l. IsPermutation l (map (λ (t : OwnedPort). t.actor) sorted)) (map-map (λ (t : OwnedPort). t.actor) owned_port_of (desks_of crews)) (IsPermutation-map (λ (t : OwnedPort). t.actor) (map owned_port_of (desks_of crews)) sorted p)) all.apart
 
   -- sorted, they stand at their places, and none is left out
-  pub sorted-places : AreBoxes script clock boxes → (crews : List Crew) → AllByRecursion (IsCrew script clock boxes w) crews → HaveAllActors script crews → (sorted : List Taker) → IsPermutation (map taker_of (desks_of crews)) sorted
+  pub sorted-places : AreBoxes script clock boxes → (crews : List Crew) → AllByRecursion (IsCrew script clock boxes w) crews → HaveAllActors script crews → (sorted : List OwnedPort) → IsPermutation (map owned_port_of (desks_of crews)) sorted
       → IsNonDecreasingBy (place_at script) sorted → AreInPlaces script 0 sorted × (length sorted ≡ length boxes)
   sorted-places are crews h all sorted p up =
-      let takers = map taker_of (desks_of crews) in
+      let takers = map owned_port_of (desks_of crews) in
       let real : AllByRecursion IsReady sorted = permuted IsReady takers sorted p (ready are (desks_of crews) (all-desks crews h)) in
-      let exist : AllByRecursion (λ (t : Taker). Exists script t.actor) sorted = each_map IsReady (λ (t : Taker). Exists script t.actor) sorted (λ t i k. k.0) real in
+      let exist : AllByRecursion (λ (t : OwnedPort). Exists script t.actor) sorted = each_map IsReady (λ (t : OwnedPort). Exists script t.actor) sorted (λ t i k. k.0) real in
       let n = 1 + script.space.servers + length script.sessions in
       let r =
       filled script n 0 sorted (omega arith) (rises script 0 sorted (λ d some. omega arith) up exist (places-apart crews all sorted p))
-      (λ t i. place-below script t.actor (each_in (λ (t : Taker). Exists script t.actor) sorted t exist i))
+      (λ t i. place-below script t.actor (each_in (λ (t : OwnedPort). Exists script t.actor) sorted t exist i))
       (λ j low lt.
       let a = actor-at script j lt in
       let d = all.all a.0 (is-actor script a.0 a.1) in
-      (taker_of d.0, in_permuted takers sorted (taker_of d.0) p (in_map taker_of (desks_of crews) d.0 d.1), ap (place_of script.space) d.2 ∙ a.2)) in
+      (owned_port_of d.0, in_permuted takers sorted (owned_port_of d.0) p (in_map owned_port_of (desks_of crews) d.0 d.1), ap (place_of script.space) d.2 ∙ a.2)) in
       let b = are.count in
       (r.0, omega (arith, r.1, b))
 
-  pub sorted-ready : AreBoxes script clock boxes → (crews : List Crew) → AllByRecursion (IsCrew script clock boxes w) crews → (sorted : List Taker) → IsPermutation (map taker_of (desks_of crews)) sorted → AllByRecursion (IsJoined script w boxes []) sorted
+  pub sorted-ready : AreBoxes script clock boxes → (crews : List Crew) → AllByRecursion (IsCrew script clock boxes w) crews → (sorted : List OwnedPort) → IsPermutation (map owned_port_of (desks_of crews)) sorted → AllByRecursion (IsJoined script w boxes []) sorted
   sorted-ready are crews h sorted p =
-      let real : AllByRecursion IsReady sorted = permuted IsReady (map taker_of (desks_of crews)) sorted p (ready are (desks_of crews) (all-desks crews h)) in
+      let real : AllByRecursion IsReady sorted = permuted IsReady (map owned_port_of (desks_of crews)) sorted p (ready are (desks_of crews) (all-desks crews h)) in
       each_map IsReady (IsJoined script w boxes []) sorted (λ t i k. k.1) real
 
   -- ---- what the joined ports tell of the actors
-  pub are-in-order : (crews : List Crew) (sorted : List Taker) → IsPermutation (map taker_of (desks_of crews)) sorted → AllByRecursion (TookInOrder script (map (λ (c : Crew). c.out) crews)) sorted → AreInOrder script crews
+  pub are-in-order : (crews : List Crew) (sorted : List OwnedPort) → IsPermutation (map owned_port_of (desks_of crews)) sorted → AllByRecursion (TookInOrder script (map (λ (c : Crew). c.out) crews)) sorted → AreInOrder script crews
   are-in-order crews sorted p h =
-      let all : AllByRecursion (TookInOrder script (map (λ (c : Crew). c.out) crews)) (map taker_of (desks_of crews)) = permuted (TookInOrder script (map (λ (c : Crew). c.out) crews)) sorted (map taker_of (desks_of crews)) (IsPermutation-sym _ _ p) h in
-      each_map (λ (d : Desk). TookInOrder script (map (λ (c : Crew). c.out) crews) (taker_of d)) (λ (d : Desk). AllByRecursion (IsInOrderOf script d) crews) (desks_of crews)
-      (λ d i k. map-each (λ (c : Crew). c.out) _ crews k) (map-each taker_of (TookInOrder script (map (λ (c : Crew). c.out) crews)) (desks_of crews) all)
+      let all : AllByRecursion (TookInOrder script (map (λ (c : Crew). c.out) crews)) (map owned_port_of (desks_of crews)) = permuted (TookInOrder script (map (λ (c : Crew). c.out) crews)) sorted (map owned_port_of (desks_of crews)) (IsPermutation-sym _ _ p) h in
+      each_map (λ (d : Desk). TookInOrder script (map (λ (c : Crew). c.out) crews) (owned_port_of d)) (λ (d : Desk). AllByRecursion (IsInOrderOf script d) crews) (desks_of crews)
+      (λ d i k. map-each (λ (c : Crew). c.out) _ crews k) (map-each owned_port_of (TookInOrder script (map (λ (c : Crew). c.out) crews)) (desks_of crews) all)
 
-  pub are-once : (crews : List Crew) (sorted : List Taker) → IsPermutation (map taker_of (desks_of crews)) sorted → TookOnce (map (λ (c : Crew). c.out) crews) sorted → AreOnce crews
+  pub are-once : (crews : List Crew) (sorted : List OwnedPort) → IsPermutation (map owned_port_of (desks_of crews)) sorted → TookOnce (map (λ (c : Crew). c.out) crews) sorted → AreOnce crews
   are-once crews sorted p t h =
-      let f = λ (t : Taker). total h (map (λ (s : Sent). s.mailed) (ins_of t.inbox)) in
-      let a : taken_weight h crews ≡ total f (map taker_of (desks_of crews)) = sym (total-map f taker_of (desks_of crews)) in
+      let f = λ (t : OwnedPort). total h (map (λ (s : Sent). s.mailed) (ins_of t.inbox)) in
+      let a : taken_weight h crews ≡ total f (map owned_port_of (desks_of crews)) = sym (total-map f owned_port_of (desks_of crews)) in
       let b : put_total h crews ≡ total (λ (o : Outbox). out_weight h o.ports.items) (map (λ (c : Crew). c.out) crews) = sym (total-map (λ (o : Outbox). out_weight h o.ports.items) (λ (c : Crew). c.out) crews) in
-      omega (arith, t h, a, b, total-perm f (map taker_of (desks_of crews)) sorted p)
+      omega (arith, t h, a, b, total-perm f (map owned_port_of (desks_of crews)) sorted p)
 
   -- ---- the first ports
   none-taken : (n : ℕ) (outs : List Outbox) → taken_under 0 (joined_lists n outs) ≡ []
@@ -277,7 +277,7 @@ module _ (script : Script) (clock : TableId) (boxes : List Boxed) (w : ℕ) wher
             (λ m i. let r = outs_owned o.index n boxes o.ports.items m from.3.ports (subst (IsIn m) same i) in r.2 ∙ owned r.0 r.1);
       }
 
-  first-one : AreBoxes script clock boxes → (crews : List Crew) (outs : List Outbox) → ((o : Outbox) → IsIn o outs → IsOutOf crews o) → 1 ≤ w → HaveIndexes w outs → (t : Taker) (d : Desk) → IsIn d (desks_of crews) → t.actor ≡ d.actor
+  first-one : AreBoxes script clock boxes → (crews : List Crew) (outs : List Outbox) → ((o : Outbox) → IsIn o outs → IsOutOf crews o) → 1 ≤ w → HaveIndexes w outs → (t : OwnedPort) (d : Desk) → IsIn d (desks_of crews) → t.actor ≡ d.actor
       → ins_of t.inbox ≡ ins_of d.inbox → Exists script t.actor → IsJoined script w boxes outs t → IsFirstPort clock crews t.actor t.inbox
   first-one are crews outs from some index t d i actor ins exists j =
       let b = some-at boxes (place_at script t) j.place in
@@ -305,23 +305,23 @@ module _ (script : Script) (clock : TableId) (boxes : List Boxed) (w : ℕ) wher
         taken = ap (λ (x : PortView). taken_under 0 x.lists) v ∙ took ∙ ins;
       }
 
-  abbrev IsDone : List Crew → Taker → Type 0
+  abbrev IsDone : List Crew → OwnedPort → Type 0
   IsDone crews t = Exists script t.actor × IsFirstPort clock crews t.actor t.inbox
 
-  done-each : AreBoxes script clock boxes → (crews : List Crew) (outs : List Outbox) → ((o : Outbox) → IsIn o outs → IsOutOf crews o) → 1 ≤ w → HaveIndexes w outs → AllByRecursion IsSome (desks_of crews) → (sorted joined : List Taker) → ((t : Taker) → IsIn t sorted → IsIn t (map taker_of (desks_of crews)))
+  done-each : AreBoxes script clock boxes → (crews : List Crew) (outs : List Outbox) → ((o : Outbox) → IsIn o outs → IsOutOf crews o) → 1 ≤ w → HaveIndexes w outs → AllByRecursion IsSome (desks_of crews) → (sorted joined : List OwnedPort) → ((t : OwnedPort) → IsIn t sorted → IsIn t (map owned_port_of (desks_of crews)))
       → Both IsKeptTaker sorted joined → AllByRecursion (IsJoined script w boxes outs) joined → AllByRecursion (IsDone crews) joined
   done-each are crews outs from some index all [] [] back k j = tt
   done-each are crews outs from some index all [] (u ∷ joined) back k j = absurd k
   done-each are crews outs from some index all (t ∷ sorted) [] back k j = absurd k
   done-each are crews outs from some index all (t ∷ sorted) (u ∷ joined) back k j =
-      let d = of_map taker_of (desks_of crews) t (back t (inl refl)) in
-      let actor : u.actor ≡ d.0.actor = k.0.actor ∙ ap (λ (x : Taker). x.actor) d.2 in
-      let ins : ins_of u.inbox ≡ ins_of d.0.inbox = k.0.ins ∙ ap (λ (x : Taker). ins_of x.inbox) d.2 in
+      let d = of_map owned_port_of (desks_of crews) t (back t (inl refl)) in
+      let actor : u.actor ≡ d.0.actor = k.0.actor ∙ ap (λ (x : OwnedPort). x.actor) d.2 in
+      let ins : ins_of u.inbox ≡ ins_of d.0.inbox = k.0.ins ∙ ap (λ (x : OwnedPort). ins_of x.inbox) d.2 in
       let exists : Exists script u.actor = subst (Exists script) (sym actor) (actor-exists script d.0.actor (each_in IsSome (desks_of crews) d.0 all d.1).1.exists) in
       ((exists, first-one are crews outs from some index u d.0 d.1 actor ins exists j.0), done-each are crews outs from some index all sorted joined (λ x i. back x (inr i)) k.1 j.1)
 
-  in-order : (crews : List Crew) (n : ℕ) (xs : List Actor) (ts : List Taker) → PlacesFrom script n xs → AllByRecursion (Exists script) xs → AreInPlaces script n ts → AllByRecursion (IsDone crews) ts → length xs ≡ length ts
-      → Both (IsFirstPort clock crews) xs (map (λ (t : Taker). t.inbox) ts)
+  in-order : (crews : List Crew) (n : ℕ) (xs : List Actor) (ts : List OwnedPort) → PlacesFrom script n xs → AllByRecursion (Exists script) xs → AreInPlaces script n ts → AllByRecursion (IsDone crews) ts → length xs ≡ length ts
+      → Both (IsFirstPort clock crews) xs (map (λ (t : OwnedPort). t.inbox) ts)
   in-order crews n [] [] pa ea pt dt e = tt
   in-order crews n [] (t ∷ ts) pa ea pt dt e = absurd (omega (arith, e))
   in-order crews n (a ∷ xs) [] pa ea pt dt e = absurd (omega (arith, e))
@@ -329,7 +329,7 @@ module _ (script : Script) (clock : TableId) (boxes : List Boxed) (w : ℕ) wher
       let same : t.actor ≡ a = place-apart script t.actor a dt.0.0 ea.0 (pt.0 ∙ sym pa.0) in
       (subst (λ x. IsFirstPort clock crews x t.inbox) same dt.0.1, in-order crews (suc n) xs ts pa.1 ea.1 pt.1 dt.1 (omega (arith, e)))
 
-  places-stay : (n : ℕ) (ds es : List Taker) → Both IsKeptTaker ds es → AreInPlaces script n ds → AreInPlaces script n es
+  places-stay : (n : ℕ) (ds es : List OwnedPort) → Both IsKeptTaker ds es → AreInPlaces script n ds → AreInPlaces script n es
   places-stay n [] [] h k = tt
   places-stay n [] (e ∷ es) h k = absurd h
   places-stay n (d ∷ ds) [] h k = absurd h
@@ -345,14 +345,14 @@ module _ (script : Script) (clock : TableId) (boxes : List Boxed) (w : ℕ) wher
 
   pub is-left : AreBoxes script clock boxes → (crews : List Crew) → AllByRecursion (IsCrew script clock boxes w) crews → HaveAllActors script crews → 1 ≤ w → AreNumbered w crews
       → (actors : List SeatedPart) → actors ≡ map seated_of (desks_of crews) → (totals : List Totals) → totals ≡ map (λ (c : Crew). c.totals) crews
-      → (sorted joined : List Taker) → IsPermutation (map taker_of (desks_of crews)) sorted → AreInPlaces script 0 sorted → length sorted ≡ length boxes → Both IsKeptTaker sorted joined
+      → (sorted joined : List OwnedPort) → IsPermutation (map owned_port_of (desks_of crews)) sorted → AreInPlaces script 0 sorted → length sorted ≡ length boxes → Both IsKeptTaker sorted joined
       → AllByRecursion (IsJoined script w boxes (map (λ (c : Crew). c.out) crews)) joined
-      → (ports : List Ported) → ports ≡ map (λ (t : Taker). t.inbox) joined → IsLeft script clock crews actors totals ports
+      → (ports : List Ported) → ports ≡ map (λ (t : OwnedPort). t.inbox) joined → IsLeft script clock crews actors totals ports
   is-left are crews h all some numbered actors ea totals et sorted joined p placed long kept joins ports ep =
       let ds = all-desks crews h in
       let b = are.count in
       let many : length (actors_of script) ≡ length joined = omega (arith, how-many script, b, long, both-long IsKeptTaker sorted joined kept) in
-      let done = done-each are crews (map (λ (c : Crew). c.out) crews) (outs-of crews h) some (have-indexes w crews numbered).1 ds sorted joined (λ t i. in_permuted sorted (map taker_of (desks_of crews)) t (IsPermutation-sym _ _ p) i) kept joins in
+      let done = done-each are crews (map (λ (c : Crew). c.out) crews) (outs-of crews h) some (have-indexes w crews numbered).1 ds sorted joined (λ t i. in_permuted sorted (map owned_port_of (desks_of crews)) t (IsPermutation-sym _ _ p) i) kept joins in
       record {
         parts = ap parts_by ea ∙ parts-are (desks_of crews);
         seats = subst (AllByRecursion (IsSeated clock)) (sym ea) (seats-are (desks_of crews) ds);

@@ -17,7 +17,7 @@ use Rattle.hx_mail.specs.Ports.{all_put, all_taken, lists_of, port, sent, IsOnce
 use Rattle.hx_outbox.specs.declared.outboxes.Outbox.{Outbox}
 use Rattle.hx_outbox.specs.Outboxes.{out_weight}
 use Rattle.hx_outbox.specs.Zipped.{Both}
-use Rattle.hx_run.specs.declared.joining.Taker.{Taker}
+use Rattle.hx_run.specs.declared.joining.OwnedPort.{OwnedPort}
 use Rattle.hx_driver.specs.Inboxes.{ins_of}
 use Rattle.hx_law_drivers.specs.Joined.{outs_at}
 use Rattle.hx_run.specs.Joined.{joined_lists, place_at, AreInPlaces, HaveIndexes, IsJoined, IsKeptTaker, TookOnce}
@@ -84,13 +84,13 @@ take-less h (suc n) (p ∷ ports) = omega (arith, take-less h n ports)
 
 module _ (script : Script) where
   -- for all actors of the places n, n + 1 and so on
-  placed-sum : (h : Mailed → ℕ) (n : ℕ) (ds : List Taker) (ports : List Ported) → AreInPlaces script n ds → total (λ (e : Taker). total h (outs_at (place_at script e) ports)) ds + out_weight h (take n ports) ≤ out_weight h ports
+  placed-sum : (h : Mailed → ℕ) (n : ℕ) (ds : List OwnedPort) (ports : List Ported) → AreInPlaces script n ds → total (λ (e : OwnedPort). total h (outs_at (place_at script e) ports)) ds + out_weight h (take n ports) ≤ out_weight h ports
   placed-sum h n [] ports k = omega (arith, take-less h n ports)
   placed-sum h n (d ∷ ds) ports k = omega (arith, placed-sum h (suc n) ds ports k.1, take-more h n ports, ap (λ m. total h (outs_at m ports)) k.0)
 
   -- the two sums in the other order
-  exchange : (h : Mailed → ℕ) (ds : List Taker) (outs : List Outbox)
-      → total (λ (e : Taker). total (λ (o : Outbox). total h (outs_at (place_at script e) o.ports.items)) outs) ds ≡ total (λ (o : Outbox). total (λ (e : Taker). total h (outs_at (place_at script e) o.ports.items)) ds) outs
+  exchange : (h : Mailed → ℕ) (ds : List OwnedPort) (outs : List Outbox)
+      → total (λ (e : OwnedPort). total (λ (o : Outbox). total h (outs_at (place_at script e) o.ports.items)) outs) ds ≡ total (λ (o : Outbox). total (λ (e : OwnedPort). total h (outs_at (place_at script e) o.ports.items)) ds) outs
   exchange h [] outs = none outs
     where
       none : (os : List Outbox) → 0 ≡ total (λ (o : Outbox). 0) os
@@ -98,18 +98,18 @@ module _ (script : Script) where
       none (o ∷ os) = omega (arith, none os)
   exchange h (d ∷ ds) outs = omega (arith, exchange h ds outs, split outs)
     where
-      split : (os : List Outbox) → total (λ (o : Outbox). total h (outs_at (place_at script d) o.ports.items) + total (λ (e : Taker). total h (outs_at (place_at script e) o.ports.items)) ds) os
-          ≡ total (λ (o : Outbox). total h (outs_at (place_at script d) o.ports.items)) os + total (λ (o : Outbox). total (λ (e : Taker). total h (outs_at (place_at script e) o.ports.items)) ds) os
+      split : (os : List Outbox) → total (λ (o : Outbox). total h (outs_at (place_at script d) o.ports.items) + total (λ (e : OwnedPort). total h (outs_at (place_at script e) o.ports.items)) ds) os
+          ≡ total (λ (o : Outbox). total h (outs_at (place_at script d) o.ports.items)) os + total (λ (o : Outbox). total (λ (e : OwnedPort). total h (outs_at (place_at script e) o.ports.items)) ds) os
       split [] = refl
       split (o ∷ os) = omega (arith, split os)
 
-  all-sums : (h : Mailed → ℕ) (ds : List Taker) (outs : List Outbox) → AreInPlaces script 0 ds
-      → total (λ (o : Outbox). total (λ (e : Taker). total h (outs_at (place_at script e) o.ports.items)) ds) outs ≤ total (λ (o : Outbox). out_weight h o.ports.items) outs
+  all-sums : (h : Mailed → ℕ) (ds : List OwnedPort) (outs : List Outbox) → AreInPlaces script 0 ds
+      → total (λ (o : Outbox). total (λ (e : OwnedPort). total h (outs_at (place_at script e) o.ports.items)) ds) outs ≤ total (λ (o : Outbox). out_weight h o.ports.items) outs
   all-sums h ds [] k = omega arith
   all-sums h ds (o ∷ outs) k = omega (arith, placed-sum h 0 ds o.ports.items k, all-sums h ds outs k)
 
-  once-desks : (w : ℕ) (boxes : List Boxed) (outs : List Outbox) → 0 < length outs → HaveIndexes w outs → (h : Mailed → ℕ) (ds es : List Taker) → Both IsKeptTaker ds es → AllByRecursion (IsJoined script w boxes outs) es
-      → total (λ (e : Taker). total h (map (λ s. s.mailed) (ins_of e.inbox))) ds ≤ total (λ (e : Taker). total (λ (o : Outbox). total h (outs_at (place_at script e) o.ports.items)) outs) ds
+  once-desks : (w : ℕ) (boxes : List Boxed) (outs : List Outbox) → 0 < length outs → HaveIndexes w outs → (h : Mailed → ℕ) (ds es : List OwnedPort) → Both IsKeptTaker ds es → AllByRecursion (IsJoined script w boxes outs) es
+      → total (λ (e : OwnedPort). total h (map (λ s. s.mailed) (ins_of e.inbox))) ds ≤ total (λ (e : OwnedPort). total (λ (o : Outbox). total h (outs_at (place_at script e) o.ports.items)) outs) ds
   once-desks w boxes outs some index h [] es k j = omega arith
   once-desks w boxes outs some index h (d ∷ ds) [] k j = absurd k
   once-desks w boxes outs some index h (d ∷ ds) (e ∷ es) k j =
@@ -125,5 +125,5 @@ module _ (script : Script) where
         once-desks w boxes outs some index h ds es k.1 j.1,
       )
 
-  pub took-once : (w : ℕ) (boxes : List Boxed) (outs : List Outbox) → 0 < length outs → HaveIndexes w outs → (ds es : List Taker) → AreInPlaces script 0 ds → Both IsKeptTaker ds es → AllByRecursion (IsJoined script w boxes outs) es → TookOnce outs ds
+  pub took-once : (w : ℕ) (boxes : List Boxed) (outs : List Outbox) → 0 < length outs → HaveIndexes w outs → (ds es : List OwnedPort) → AreInPlaces script 0 ds → Both IsKeptTaker ds es → AllByRecursion (IsJoined script w boxes outs) es → TookOnce outs ds
   took-once w boxes outs some index ds es placed k j h = omega (arith, once-desks w boxes outs some index h ds es k j, exchange h ds outs, all-sums h ds outs placed)

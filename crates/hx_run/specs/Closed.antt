@@ -26,7 +26,7 @@ use Rattle.hx_cluster.specs.Clusters.{AreNewCrews, IsNewCrew}
 use Rattle.hx_cluster.specs.Everyone.{actors_of}
 use Rattle.hx_gather.specs.declared.gathering.SeatedPart.{SeatedPart}
 use Rattle.hx_gather.specs.Gathered.{parts_by, HasNumber, IsSeated}
-use Rattle.hx_run.specs.declared.joining.Taker.{Taker}
+use Rattle.hx_run.specs.declared.joining.OwnedPort.{OwnedPort}
 use Rattle.hx_run.specs.Ran.{taken_under}
 use Rattle.hx_run.specs.Rounds.{AreOver}
 
@@ -59,8 +59,8 @@ pub record IsFirstPort (clock : TableId) (crews : List Crew) (a : Actor) (p : Po
 abbrev pub seated_of : Desk → SeatedPart
 seated_of d = record { actor = d.actor; part = d.part.items; seat = d.seat }
 
-abbrev pub taker_of : Desk → Taker
-taker_of d = record { actor = d.actor; inbox = d.inbox }
+abbrev pub owned_port_of : Desk → OwnedPort
+owned_port_of d = record { actor = d.actor; inbox = d.inbox }
 
 -- the parts of all actors with their seats, the drivers' totals, and the first ports, in the order of actors
 pub record IsLeft (script : Script) (clock : TableId) (crews : List Crew) (actors : List SeatedPart) (totals : List Totals) (ports : List Ported) : Type 0 where

@@ -1,11 +1,10 @@
 ghost use Rattle.std.specs.Prelude.{ℕ, List, ◌≡◌, ◌≤◌, ◌++◌, ◌∷◌, [], map, IfOk, OnOk};
 ghost use Rattle.hx_law_drivers.specs.Crews.{desks_of, AreNumbered, HaveAllActors};
 ghost use Rattle.hx_law_drivers.specs.Joined.{AreInOrder, AreOnce};
-ghost use Rattle.hx_run.specs.Closed.{seated_of, taker_of, IsLeft};
+ghost use Rattle.hx_run.specs.Closed.{seated_of, owned_port_of, IsLeft};
 ghost use Rattle.hx_run.specs.Floors.{AreCrewsOn};
 
-use crate::joining::{Taker, join_all, sort_by_place};
-use hx_clock::Part;
+use crate::joining::{OwnedPort, join_all, sort_by_place};
 use hx_driver::{Crew, Desk, Driver};
 use hx_fate::Fate;
 use hx_gather::SeatedPart;
@@ -18,7 +17,7 @@ use std::sync::Wait;
 /// What is left of drivers: the parts of their actors, their totals and fates in order, and the
 /// first ports of all boxes in the order of actors.
 #[derive(Drop)]
-pub struct Left {
+pub struct Closed {
     pub actors: Vec<SeatedPart>,
     pub totals: Vec<Totals>,
     pub fates: Vec<Box<dyn Fate + Send>>,
@@ -26,24 +25,24 @@ pub struct Left {
 }
 
 /// What is left of an actor: its part with its seat, and its first port.
-fn parted(desk: Desk) -> (SeatedPart, Taker)
-    ensures { (result.0 ≡ seated_of desk) × (result.1 ≡ taker_of desk) }
+fn part_and_port(desk: Desk) -> (SeatedPart, OwnedPort)
+    ensures { (result.0 ≡ seated_of desk) × (result.1 ≡ owned_port_of desk) }
 {
     let (actor, part, seat, inbox) = desk.leave();
-    let part = Part::from_vec(part);
-    (SeatedPart { actor, part, seat }, Taker { actor, inbox })
+    let part = part.into_part();
+    (SeatedPart { actor, part, seat }, OwnedPort { actor, inbox })
 }
 
 /// What is left of an actor.
 fn take_desk(
     actors: &mut Vec<SeatedPart>,
-    takers: &mut Vec<Taker>,
+    takers: &mut Vec<OwnedPort>,
     desk: Desk,
 ) -> Result<(), Memory>
     ensures actors { OnOk result (actors.new.items ≡ actors.old.items ++ seated_of desk ∷ []) }
-    ensures takers { OnOk result (takers.new.items ≡ takers.old.items ++ taker_of desk ∷ []) }
+    ensures takers { OnOk result (takers.new.items ≡ takers.old.items ++ owned_port_of desk ∷ []) }
 {
-    let (seated, taker) = parted(desk);
+    let (seated, taker) = part_and_port(desk);
     actors.push(seated)?;
     takers.push(taker)?;
     Ok(())
@@ -52,11 +51,11 @@ fn take_desk(
 /// What is left of a driver's actors.
 fn take_desks(
     actors: &mut Vec<SeatedPart>,
-    takers: &mut Vec<Taker>,
+    takers: &mut Vec<OwnedPort>,
     desks: Vec<Desk>,
 ) -> Result<(), Memory>
     ensures actors { OnOk result (actors.new.items ≡ actors.old.items ++ map seated_of desks.items) }
-    ensures takers { OnOk result (takers.new.items ≡ takers.old.items ++ map taker_of desks.items) }
+    ensures takers { OnOk result (takers.new.items ≡ takers.old.items ++ map owned_port_of desks.items) }
 {
     for desk in desks {
         take_desk(actors, takers, desk)?;
@@ -67,13 +66,13 @@ fn take_desks(
 /// What is left of a driver, but for its fate.
 fn take_crew(
     actors: &mut Vec<SeatedPart>,
-    takers: &mut Vec<Taker>,
+    takers: &mut Vec<OwnedPort>,
     outs: &mut Vec<Outbox>,
     totals: &mut Vec<Totals>,
     crew: Crew,
 ) -> Result<(), Memory>
     ensures actors { OnOk result (actors.new.items ≡ actors.old.items ++ map seated_of crew.desks.items) }
-    ensures takers { OnOk result (takers.new.items ≡ takers.old.items ++ map taker_of crew.desks.items) }
+    ensures takers { OnOk result (takers.new.items ≡ takers.old.items ++ map owned_port_of crew.desks.items) }
     ensures outs { OnOk result (outs.new.items ≡ outs.old.items ++ crew.out ∷ []) }
     ensures totals { OnOk result (totals.new.items ≡ totals.old.items ++ crew.totals ∷ []) }
 {
@@ -89,7 +88,7 @@ fn take_crew(
 #[derive(Drop)]
 struct Apart {
     actors: Vec<SeatedPart>,
-    takers: Vec<Taker>,
+    takers: Vec<OwnedPort>,
     outs: Vec<Outbox>,
     totals: Vec<Totals>,
     fates: Vec<Box<dyn Fate + Send>>,
@@ -98,7 +97,7 @@ struct Apart {
 /// Takes drivers apart.
 fn take_apart(alloc: Global, drivers: Vec<Driver>) -> Result<Apart, Memory>
     ensures actors { IfOk result (λ apart. apart.actors.items ≡ map seated_of (desks_of (map (λ d. d.crew) drivers.items))) }
-    ensures takers { IfOk result (λ apart. apart.takers.items ≡ map taker_of (desks_of (map (λ d. d.crew) drivers.items))) }
+    ensures takers { IfOk result (λ apart. apart.takers.items ≡ map owned_port_of (desks_of (map (λ d. d.crew) drivers.items))) }
     ensures outs { IfOk result (λ apart. apart.outs.items ≡ map (λ c. c.out) (map (λ d. d.crew) drivers.items)) }
     ensures totals { IfOk result (λ apart. apart.totals.items ≡ map (λ c. c.totals) (map (λ d. d.crew) drivers.items)) }
     ensures fates { IfOk result (λ apart. apart.fates.items ≡ map (λ d. d.fate) drivers.items) }
@@ -123,19 +122,19 @@ fn take_apart(alloc: Global, drivers: Vec<Driver>) -> Result<Apart, Memory>
 }
 
 /// The ports of takers, in order.
-fn ports_of(alloc: Global, takers: Vec<Taker>) -> Result<Vec<Port>, Memory>
+fn ports_of(alloc: Global, takers: Vec<OwnedPort>) -> Result<Vec<Port>, Memory>
     ensures { IfOk result (λ ports. ports.items ≡ map (λ t. t.inbox) takers.items) }
 {
     let mut ports = Vec::new(alloc);
     for taker in takers {
-        let Taker { actor: _, inbox } = taker;
+        let OwnedPort { actor: _, inbox } = taker;
         ports.push(inbox)?;
     }
     Ok(ports)
 }
 
 /// Takes drivers apart and joins all ports of each box into its first one.
-pub fn close<R: Wait, G>(floor: &Floor<'_, R, G>, drivers: Vec<Driver>) -> Result<Left, Memory>
+pub fn close<R: Wait, G>(floor: &Floor<'_, R, G>, drivers: Vec<Driver>) -> Result<Closed, Memory>
     requires crews { (w : ℕ) × (1 ≤ w) × AreNumbered w (map (λ d. d.crew) drivers.items) × AreCrewsOn floor.now w (map (λ d. d.crew) drivers.items) }
     requires actors { HaveAllActors floor.now.script.now (map (λ d. d.crew) drivers.items) }
     ensures left { IfOk result (λ left. IsLeft floor.now.script.now floor.now.clock.now (map (λ d. d.crew) drivers.items) left.actors.items left.totals.items left.ports.items) }
@@ -154,7 +153,7 @@ pub fn close<R: Wait, G>(floor: &Floor<'_, R, G>, drivers: Vec<Driver>) -> Resul
     sort_by_place(floor.script, &mut takers)?;
     join_all(floor.rt, floor.script, floor.boxes, &mut takers, outs);
     let ports = ports_of(floor.alloc, takers)?;
-    Ok(Left {
+    Ok(Closed {
         actors,
         totals,
         fates,

@@ -15,22 +15,28 @@ use std::sync::Wait;
 
 /// An actor and the first port of its box, which took for it.
 #[derive(Drop)]
-pub struct Taker {
+pub struct OwnedPort {
     pub actor: Actor,
     pub inbox: Port,
 }
 
 /// Brings actors into the order of their boxes.
-pub fn sort_by_place(script: &Script, takers: &mut Vec<Taker>) -> Result<(), Memory>
+pub fn sort_by_place(script: &Script, takers: &mut Vec<OwnedPort>) -> Result<(), Memory>
     ensures permutation { IsPermutation takers.old.items takers.new.items }
     ensures sorted { OnOk result (IsNonDecreasingBy (place_at script.now) takers.new.items) }
 {
-    takers.sort_by_key(|taker: &Taker| place_of(&script.space, taker.actor))?;
+    takers.sort_by_key(|taker: &OwnedPort| place_of(&script.space, taker.actor))?;
     Ok(())
 }
 
 /// Joins a driver's port into the first port of its box.
-fn join_one<R: Wait>(rt: &R, script: &Script, boxes: &[Mailbox<'_>], taker: &mut Taker, port: Port)
+fn join_one<R: Wait>(
+    rt: &R,
+    script: &Script,
+    boxes: &[Mailbox<'_>],
+    taker: &mut OwnedPort,
+    port: Port,
+)
     requires taker { (w : ℕ) × (outs : List OutboxSeen) × IsJoined script.now w boxes.now outs taker.old }
     requires port { (j : ℕ) × ((box : Boxed) → box ≡ slice_index_or boxes.now (place_at script.now taker.old) box → IsOutPort j box port) }
     ensures kept { IsKeptTaker taker.old taker.new }
@@ -45,7 +51,7 @@ fn join_last<R: Wait>(
     rt: &R,
     script: &Script,
     boxes: &[Mailbox<'_>],
-    takers: &mut Vec<Taker>,
+    takers: &mut Vec<OwnedPort>,
     out: &mut Outbox,
 )
     requires rest { (o : OutboxSeen) × IsRestOf boxes.now out.old o }
@@ -71,7 +77,7 @@ fn join_out<R: Wait>(
     rt: &R,
     script: &Script,
     boxes: &[Mailbox<'_>],
-    takers: &mut Vec<Taker>,
+    takers: &mut Vec<OwnedPort>,
     out: Outbox,
 )
     requires out { IsOutbox boxes.now out }
@@ -91,7 +97,7 @@ fn join_next<R: Wait>(
     rt: &R,
     script: &Script,
     boxes: &[Mailbox<'_>],
-    takers: &mut Vec<Taker>,
+    takers: &mut Vec<OwnedPort>,
     outs: &mut Vec<Outbox>,
 )
     requires outs { AllByRecursion (IsOutbox boxes.now) outs.old.items }
@@ -115,7 +121,7 @@ pub fn join_all<R: Wait>(
     rt: &R,
     script: &Script,
     boxes: &[Mailbox<'_>],
-    takers: &mut Vec<Taker>,
+    takers: &mut Vec<OwnedPort>,
     outs: Vec<Outbox>,
 )
     requires outs { AllByRecursion (IsOutbox boxes.now) outs.items × HaveIndexes (length outs.items) outs.items × (0 < length outs.items) }

@@ -7,7 +7,7 @@ ghost use Rattle.hx_cluster.specs.Everyone.{actors_of};
 ghost use Rattle.hx_run.specs.Closed.{fault_of, worn_in, AreClosed, HasPosted, IsLeft};
 ghost use Rattle.hx_run.specs.Ran.{lowest_of, HasRisen, HaveMetWorn, IsRan};
 
-use crate::closing::{Left, close};
+use crate::closing::{Closed, close};
 use crate::rounds::run_rounds;
 use hx_clock::{Clock, Seat};
 use hx_cluster::{deal, enrol_all, open_boxes};
@@ -65,7 +65,7 @@ fn met_worn(alloc: Global, drivers: &[Driver]) -> Result<Vec<Option<Actor>>, Mem
 /// drivers met worn.
 #[derive(Drop)]
 struct Driven {
-    left: Left,
+    left: Closed,
     fault: Option<Fault>,
     met_worn: Vec<Option<Actor>>,
 }
@@ -160,7 +160,7 @@ pub fn run<R: Threads + Wait + Sync, G: Gate + Sync>(
         met_worn,
     } = driven;
     let worn = worn_by(fault)?;
-    let Left {
+    let Closed {
         actors,
         totals,
         fates,

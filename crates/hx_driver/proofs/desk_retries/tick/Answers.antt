@@ -36,8 +36,8 @@ returns-in-Ok-clause-turn g c =
     let k = c.finish.ensures.turn in
     (k.0, turn-after c.args.floor.now.boxes.now c.args.desk.now c.prepare_step.new.desk c.finish.new.desk c.args.out.now c.finish.new.out c.args.totals.now c.finish.new.totals _ _ _ c.prepare_step.ensures.same c.requires.out c.requires.room.total k.1)
 
-pub returns-in-Err-clause-desk : goal.returns-in-Err-clause-desk
-returns-in-Err-clause-desk g c w h = c.prepare_step.ensures.desk w [] h
+pub returns-clause-desk : goal.returns-clause-desk
+returns-clause-desk g c w h = c.prepare_step.ensures.desk w [] h
 
-pub returns-in-Err-clause-turn : goal.returns-in-Err-clause-turn
-returns-in-Err-clause-turn g c = ([], turn-same c.args.floor.now.boxes.now c.args.desk.now c.prepare_step.new.desk c.args.out.now c.args.totals.now _ c.prepare_step.ensures.same c.requires.out c.requires.room.total)
+pub returns-clause-turn : goal.returns-clause-turn
+returns-clause-turn g c = ([], turn-same c.args.floor.now.boxes.now c.args.desk.now c.prepare_step.new.desk c.args.out.now c.args.totals.now _ c.prepare_step.ensures.same c.requires.out c.requires.room.total)

@@ -1,13 +1,16 @@
-use Rattle.std.proofs.Common.{◌≡◌, ◌+◌, ◌*◌, ◌≤◌, ◌++◌, length}
+use Rattle.std.proofs.Common.{◌≡◌, ◌+◌, ◌*◌, ◌≤◌, ◌++◌, length, List}
 use Rattle.std.specs.VecDeque.{deque_len, deque_capacity}
+use Rattle.hx_outbox.specs.declared.copies.Copies.{Copies}
 use Rattle.hx_outbox.specs.Floors.{AreGoodOn}
 use Rattle.hx_outbox.specs.Outboxes.{kept_weight, out_weight, IsOutbox, MorePut}
 use Rattle.hx_outbox.specs.Offers.{firsts_of, named, IsOffered, IsTotal}
 use Rattle.hx_outbox.proofs.offers.offer_all.Given as goal
 
-abbrev pub invariant-loop-copies : goal.invariant-loop-copies
-invariant-loop-copies g l =
-    (l.seat ≡ l.initial.seat)
+-- these were offered, and the rest is left
+abbrev pub invariant-loop-place : goal.invariant-loop-place
+invariant-loop-place g l =
+    (done : List Copies)
+    × (l.seat ≡ l.initial.seat)
     × IsOutbox l.floor.boxes.now l.out
     × (l.out.index ≡ l.initial.out.index)
     × MorePut l.initial.out.ports.items l.out.ports.items
@@ -17,9 +20,9 @@ invariant-loop-copies g l =
     × (out_weight (λ m. 1) l.out.ports.items + kept_weight (λ m. 1) l.kept.items ≤ out_weight (λ m. 1) l.initial.out.ports.items + kept_weight (λ m. 1) l.initial.kept.items + 2 * l.place)
     × (l.totals.posts ≡ l.initial.totals.posts + l.place)
     × IsTotal l.totals
-    × (l.place ≡ length l.yielded)
-    × (l.yielded ++ l.copies-iterator.rest.items ≡ l.fn.posts.items)
+    × (l.place ≡ length done)
+    × (done ++ l.posts.items ≡ l.initial.posts.items)
     × IsOffered (λ h. out_weight h l.initial.out.ports.items + kept_weight h l.initial.kept.items) (λ h. out_weight h l.out.ports.items + kept_weight h l.kept.items) l.initial.totals l.totals
     ((g.dyn-1.0.entry l.initial.fate.vtable).1.state l.initial.fate.value)
     ((g.dyn-1.0.entry l.fate.vtable).1.state l.fate.value)
-    (named l.entry 0 (firsts_of l.yielded))
+    (named l.entry 0 (firsts_of done))
