@@ -37,7 +37,7 @@ fn assign<'a>(line: &mut Vec<&'a Update>, update: &'a Update) -> Result<(), Memo
 }
 
 /// The line of a key.
-pub fn line_of<'a>(alloc: Global, events: &[Event<'a>]) -> Result<Vec<&'a Update>, Memory>
+pub fn updates_of_key<'a>(alloc: Global, events: &[Event<'a>]) -> Result<Vec<&'a Update>, Memory>
     ensures exact { IfOk result (λ line. reverse (updates_at line.items) ≡ line_by (map event_view events.now)) }
     ensures sorted { IfOk result (λ line. IsNonDecreasingBy version_at line.items) }
 {

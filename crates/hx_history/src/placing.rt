@@ -7,7 +7,7 @@ ghost use Rattle.hx_history.specs.Events.{event_view, history_by, is_in_place, i
 
 use crate::events::{Event, Read};
 use crate::items::ItemRef;
-use crate::lines::{line_of, reads_of, writes_of};
+use crate::lines::{reads_of, updates_of_key, writes_of};
 use hx_types::{Memory, Object, Script, Update};
 use std::alloc::Global;
 
@@ -121,7 +121,7 @@ pub fn history_from<'a>(
 ) -> Result<Vec<ItemRef<'a>>, Memory>
     ensures { IfOk result (λ items. map item_view items.items ≡ history_by script.now (map event_view events.now)) }
 {
-    let line = line_of(alloc, events)?;
+    let line = updates_of_key(alloc, events)?;
     let writes = writes_of(alloc, &line)?;
     let reads = reads_of(alloc, events)?;
     arrange(alloc, script, &writes, &reads)

@@ -1,4 +1,4 @@
-ghost use Rattle.std.specs.Prelude.{◌≡◌, [], false, map, reverse, IfOk};
+ghost use Rattle.std.specs.Prelude.{◌≡◌, ◌↔◌, [], false, map, reverse, IfOk};
 ghost use Rattle.std.specs.List.{flat_map};
 ghost use Rattle.std.specs.Option.{option_map};
 ghost use Rattle.hx_model.specs.Types.{Caller};
@@ -61,7 +61,7 @@ pub struct RecordsAndItems<'a> {
 
 /// Whether one of the notes says that a configuration was issued.
 fn has_issued(notes: &[Note]) -> bool
-    ensures { result ≡ false → flat_map issued_by notes.now ≡ [] }
+    ensures { (result ≡ false) ↔ (flat_map issued_by notes.now ≡ []) }
 {
     for note in notes {
         if let Note::Issued { .. } = note {
@@ -76,7 +76,7 @@ fn gather<'a>(alloc: Global, script: &'a Script, trace: &'a Trace) -> Result<Gat
     ensures spans { IfOk result (λ gathered. (c : Caller) → span_in (map (λ row. row.items) gathered.table.items) c ≡ option_map (λ op. notes_of c (reverse trace.now)) (call_of script.now c)) }
     ensures as_script { IfOk result (λ gathered. shape (map (λ row. row.items) gathered.table.items) ≡ shape script.now.sessions) }
     ensures events { IfOk result (λ gathered. map event_view gathered.events.items ≡ events_of script.now trace.now) }
-    ensures issued { IfOk result (λ gathered. gathered.has_issued ≡ false → issued_in trace.now ≡ []) }
+    ensures issued { IfOk result (λ gathered. (gathered.has_issued ≡ false) ↔ (issued_in trace.now ≡ [])) }
 {
     let mut table = empty_table(alloc, script)?;
     let mut events = Vec::new(alloc);
@@ -120,7 +120,7 @@ pub fn records_and_items<'a>(
 ) -> Result<RecordsAndItems<'a>, Memory>
     ensures records { IfOk result (λ both. both.records ≡ records_of script.now (reverse trace.now)) }
     ensures histories { IfOk result (λ both. AreHistories script.now (reverse trace.now) (map history_view both.histories.items)) }
-    ensures issued { IfOk result (λ both. both.has_issued ≡ false → issued_in trace.now ≡ []) }
+    ensures issued { IfOk result (λ both. (both.has_issued ≡ false) ↔ (issued_in trace.now ≡ [])) }
 {
     let gathered = gather(alloc, script, trace)?;
     let records = records_from(alloc, &gathered.table)?;

@@ -1,5 +1,4 @@
-use Rattle.std.proofs.Common.{◌≡◌, ◌+◌, ◌++◌, ◌<◌, Global, List, Vec, map, length, get_or, take, sym, ap, ◌∙◌, arith, append-nil, refl}
-use Rattle.std.specs.List.{flat_map}
+use Rattle.std.proofs.Common.{◌≡◌, ◌↔◌, ◌+◌, ◌++◌, ◌<◌, [], false, Global, List, Vec, map, length, get_or, take, sym, subst, ap, ◌∙◌, arith, append-nil, refl}
 use Rattle.std.specs.Option.{option_map}
 use Rattle.hx_model.specs.Types.{Entry, Note}
 use Rattle.hx_types.specs.Fitting.{call_of}
@@ -8,8 +7,8 @@ use Rattle.hx_history.specs.declared.call_notes.CallNotes.{CallNotes}
 use Rattle.hx_history.specs.declared.events.Event.{Event}
 use Rattle.hx_history.specs.Calls.{after_entry, shape, span_in}
 use Rattle.hx_history.specs.Events.{KeyEvent, event_view, events_in, events_of}
-use Rattle.hx_history.specs.Issued.{issued_by}
-use Rattle.hx_history.proofs.Issuing.{issued_more, neither}
+use Rattle.hx_history.specs.Issued.{issued_in}
+use Rattle.hx_history.proofs.Issuing.{issued_as_before, issued_more}
 use Rattle.hx_history.proofs.Rows.{spans_at_start, shape_at_start, spans_more}
 use Rattle.hx_history.proofs.Unnoted.{unsaid}
 use Rattle.hx_trace.proofs.Lemmas.{noted_at, unnoted_at}
@@ -23,7 +22,7 @@ loop-place-init c =
       spans = λ caller. ap (λ (rows : List (List CallNotes)). span_in rows caller) c.in_ok-table.ensures ∙ spans_at_start c.args.script.now caller;
       as_script = ap (λ (rows : List (List CallNotes)). shape rows) c.in_ok-table.ensures ∙ shape_at_start c.args.script.now.sessions;
       events = ap (map event_view) c.new-events.ensures.items;
-      issued = λ none. refl;
+      issued = (λ none. refl, λ none. refl);
     }
 
 pub loop-place-preserved : goal.loop-place-preserved
@@ -44,9 +43,8 @@ loop-place-preserved c =
                 ∙ w.in_ok-push_events.ensures
                 ∙ ap (λ (es : List KeyEvent). es ++ events_in c.args.script.now x.actor x.notes) c.loop-place.invariant.events
                 ∙ events_more c.args.script.now c.args.trace.now c.loop-place.place x within read;
-            issued = λ none.
-                let both = neither _ _ (sym w.issued-is ∙ none) in
-                issued_more c.args.trace.now c.loop-place.place x within read (c.loop-place.invariant.issued both.0) (w.has_issued-issued.ensures both.1);
+            issued = subst (λ b. (b ≡ false) ↔ (issued_in (take (c.loop-place.place + 1) c.args.trace.now) ≡ [])) (sym w.issued-is)
+                (issued_more c.args.trace.now c.loop-place.place x within read _ _ c.loop-place.invariant.issued w.has_issued-issued.ensures);
           }
       | in_default w ↦
           let here = unnoted_at c.args.trace.now c.loop-place.place within (ap (option_map entry_seen) (sym w.in_default.is) ∙ c.noted.ensures) in
@@ -63,7 +61,7 @@ loop-place-preserved c =
                 ∙ sym (append-nil (events_of c.args.script.now (take c.loop-place.place c.args.trace.now)))
                 ∙ ap (λ (ns : List Note). events_of c.args.script.now (take c.loop-place.place c.args.trace.now) ++ events_in c.args.script.now x.actor ns) (sym here.2)
                 ∙ events_more c.args.script.now c.args.trace.now c.loop-place.place x within read;
-            issued = λ none.
-                issued_more c.args.trace.now c.loop-place.place x within read (c.loop-place.invariant.issued (sym w.issued-is ∙ none)) (ap (flat_map issued_by) here.2);
+            issued = subst (λ b. (b ≡ false) ↔ (issued_in (take (c.loop-place.place + 1) c.args.trace.now) ≡ [])) (sym w.issued-is)
+                (issued_as_before c.args.trace.now c.loop-place.place x within read here.2 _ c.loop-place.invariant.issued);
           }
     ]

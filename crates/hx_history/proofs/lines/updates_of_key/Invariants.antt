@@ -2,7 +2,7 @@ use Rattle.std.proofs.Common.{◌≡◌, map, reverse, drop}
 use Rattle.std.specs.List.{fold}
 use Rattle.std.specs.List.Sorted.{IsNonDecreasingBy}
 use Rattle.hx_history.specs.Events.{event_view, line_by, lined, updates_at, version_at}
-use Rattle.hx_history.proofs.lines.line_of.Given as goal
+use Rattle.hx_history.proofs.lines.updates_of_key.Given as goal
 
 abbrev pub invariant-loop-event : goal.invariant-loop-event
 invariant-loop-event l =
