@@ -27,10 +27,3 @@ item_at_told b l key answer k a has apart = by (end_told l) refl a
     by : (o : Option CallEnd) → end_told l ≡ o → option_map (λ (e : CallEnd). e.answer) o ≡ Some answer → IsItemOfCall b key l.caller answer
     by None q z = absurd (cc)
     by (Some e) q z = let same : e.answer ≡ answer = cc in subst (λ (a : Answer). IsItemOfCall b key l.caller a) same (has key e k q (ap is_refused same ∙ apart))
-
--- any other call asks for nothing
-pub no_key_told : (b : Block) (l : CallLine) → key_of l.op ≡ None → HasItem b l
-no_key_told b l n key e k = absurd (cc)
-
-pub no_end_told : (b : Block) (l : CallLine) → option_map (λ (e : CallEnd). e.answer) (end_told l) ≡ None → HasItem b l
-no_end_told b l n key e k q = absurd (let z : None ≡ Some e.answer = sym n ∙ ap (option_map (λ (e : CallEnd). e.answer)) q in cc)

@@ -36,18 +36,8 @@ has_here P x xs rest e p = record { item = x; stands = in_here x xs rest e; is =
 pub has_later : {A : Type 0} (P : A → Type 0) (x : A) (xs rest : List A) → xs ≡ x ∷ rest → HasIn P rest → HasIn P xs
 has_later P x xs rest e h = record { item = h.item; stands = in_later h.item x xs rest e h.stands; is = h.is }
 
-pub has_rest : {A : Type 0} (P : A → Type 0) (x : A) (xs rest : List A) → xs ≡ x ∷ rest → (P x → ⊥) → HasIn P xs → HasIn P rest
-has_rest {A} P x xs rest e other h = by (in_split h.item x xs rest e h.stands)
-  where
-    by : (h.item ≡ x) ⊎ IsIn h.item rest → HasIn P rest
-    by (inl q) = absurd (other (subst P q h.is))
-    by (inr i) = record { item = h.item; stands = i; is = h.is }
-
 abbrev pub AllIn : {A : Type 0} → (A → Type 0) → List A → Type 0
 AllIn {A} P xs = (x : A) → IsIn x xs → P x
-
-pub all_none : {A : Type 0} (P : A → Type 0) (xs : List A) → length xs ≡ 0 → AllIn P xs
-all_none P xs e x i = absurd (in_none x xs e i)
 
 pub all_more : {A : Type 0} (P : A → Type 0) (x : A) (xs rest : List A) → xs ≡ x ∷ rest → P x → AllIn P rest → AllIn P xs
 all_more P x xs rest e p all y i = by (in_split y x xs rest e i)
@@ -55,14 +45,3 @@ all_more P x xs rest e p all y i = by (in_split y x xs rest e i)
     by : (y ≡ x) ⊎ IsIn y rest → P y
     by (inl q) = subst P (sym q) p
     by (inr j) = all y j
-
-pub all_rest : {A : Type 0} (P : A → Type 0) (x : A) (xs rest : List A) → xs ≡ x ∷ rest → AllIn P xs → AllIn P rest
-all_rest P x xs rest e all y i = all y (in_later y x xs rest e i)
-
-pub all_here : {A : Type 0} (P : A → Type 0) (x : A) (xs rest : List A) → xs ≡ x ∷ rest → AllIn P xs → P x
-all_here P x xs rest e all = all x (in_here x xs rest e)
-
--- where nothing can be taken off a list it is empty
-pub is_empty : {A B : Type 0} (o : Option B) (xs : List A) → (IsSome o → 0 < length xs) × (0 < length xs → IsSome o) → o ≡ None → length xs ≡ 0
-is_empty o [] v e = refl
-is_empty {A} {B} o (x ∷ xs) v e = absurd (let s : IsSome o = v.1 (omega arith) in let n : IsSome {T = B} None = subst (λ (p : Option B). IsSome p) e s in cc)

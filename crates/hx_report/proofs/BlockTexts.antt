@@ -26,14 +26,6 @@ report_is script trace totals with_trace first block last is_first adds is_last 
       ∙ sym (report_is_block script trace adds.listed totals with_trace);
 }
 
--- no space
-pub blocks_none : (with_trace : Bool) (out : List ℕ) → AddsBlocks [] [] [] with_trace out out
-blocks_none with_trace out = record {
-  spaces = [];
-  reported = record { scripts_are = refl; traces_are = refl; totals_are = refl; histories = All-nil _ };
-  text = sym (append-nil out);
-}
-
 front_more : {A : Type 0} (front xs : List A) (i : ℕ) (x : A) → front ≡ take i xs → i < length xs → x ≡ get_or xs i x → front ++ x ∷ [] ≡ take (i + 1) xs
 front_more front xs i x so_far lt is = ap (λ ys. ys ++ x ∷ []) so_far ∙ sym (take_more xs i x lt ∙ ap (λ y. take i xs ++ y ∷ []) (sym is))
 

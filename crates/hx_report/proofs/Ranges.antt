@@ -40,10 +40,6 @@ line_behind space old new p e start end = record {
       ∙ ap (λ l. slice_range l (length old) (length l)) e ∙ range_behind old (row_line space p.row.now);
 }
 
--- so do lines
-pub lines_stay : (space : Space) (old new more : List ℕ) (ps : List PrintedRow) → new ≡ old ++ more → All (IsLine space old) ps → All (IsLine space new) ps
-lines_stay space old new more ps e all = λ k d lt. line_stays space old new more (get_or ps k d) e (all k d lt)
-
 -- what holds of each holds of the one at a place of a slice of them
 pub all_at : {X : Type 0} (P : X → Type 0) (xs slice : List X) (i : ℕ) (x : X) → slice ≡ xs → i < length slice → x ≡ get_or slice i x → All P xs → P x
 all_at P xs slice i x same within is all =

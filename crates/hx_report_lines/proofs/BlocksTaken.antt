@@ -140,10 +140,6 @@ epoch_goes v bs space calls histories valid done x d stands is up =
 
 -- ---- histories
 
-key_cut : (key : List ℕ) → key_text key ≡ with_newline (key_line key)
-unfolding key_text
-key_cut key = refl
-
 item_cut : (space : Space) (x : ItemLine) → item_text space x ≡ with_newline (item_line space x)
 unfolding item_text
 item_cut space x = refl

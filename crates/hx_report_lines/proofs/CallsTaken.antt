@@ -31,7 +31,7 @@ use Rattle.hx_report_lines.specs.Values.{Is64, IsCaller, IsCallOf, MaybeAnswerOf
 use Rattle.hx_report_lines.proofs.CallsRead.{IsRow}
 use Rattle.hx_report_lines.proofs.EpochsTaken.{no_minus}
 use Rattle.hx_report_lines.proofs.Scans.{Runs, op_runs, quoted_passes}
-use Rattle.hx_report_lines.proofs.Takes.{Takes, assoc3, assoc4, assoc6, caller_takes, check_takes, found_takes, kept, number_takes, piece_all, piece_takes, takes_give, takes_then, word_takes}
+use Rattle.hx_report_lines.proofs.Takes.{Takes, assoc3, assoc4, assoc6, caller_takes, check_takes, found_takes, kept, number_takes, piece_takes, takes_give, takes_then, word_takes}
 use Rattle.hx_report_lines.proofs.ValuesTaken.{object_taken, op_taken, text_taken}
 
 -- ---- answers

@@ -239,10 +239,6 @@ head_step v bs head text rest s e is valid whole shape =
 name_line : (w name : List ℕ) → Runs w → IsName name → IsOneLine (w ++ name)
 name_line w name run is = one_line_of (w ++ name) (joined w name run (name_runs name is)).clean
 
-space_front_is : (name : List ℕ) → IsName name → IsHeadLine (space_line name) (codes "key k 1\nservers 1\ntolerate 0\n")
-unfolding space_line
-space_front_is name is = record { line = codes "space " ++ name; cut_off = refl; one = name_line (codes "space ") name (words_run (codes "space ") refl) is; known = refl }
-
 key_front_is : (name : List ℕ) (parts : ℕ) → IsName name → ArePart parts → IsHeadLine (key_line name parts) (codes "servers 1\ntolerate 0\n")
 unfolding key_line
 key_front_is name parts is few =

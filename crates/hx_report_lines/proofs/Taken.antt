@@ -46,9 +46,6 @@ tells_any p = record { at = λ bs x e. tt }
 pub tells_check : (b : Bool) → Tells (check b) (λ u. b ≡ true)
 tells_check b = record { at = λ bs x e. (where_so b (Some (tt, bs)) x e).0 }
 
-pub tells_found : {A : Type 0} (o : Option A) → Tells (found o) (λ a. o ≡ Some a)
-tells_found {A} o = record { at = λ bs x e. let b = bound o (λ y. Some (y, bs)) x e in subst (λ (y : A × List ℕ). o ≡ Some y.0) (some_is (b.0, bs) x b.2) b.1 }
-
 pub tells_number : Tells number Is64
 tells_number = record {
   at = λ bs x e.

@@ -83,15 +83,6 @@ piece_takes w rest h =
     let run : prefix_len (λ b. not (eqb b 32)) (w ++ 32 ∷ rest) ≡ length w = whole_run (λ b. not (eqb b 32)) w (32 ∷ rest) h refl in
     record { at = rw (run, take_at w (32 ∷ rest) (length w) refl, drop_at w (32 ∷ rest) (length w) refl) refl }
 
--- a piece that is all there is
-pub piece_all : (w : List ℕ) → list_all (λ b. not (eqb b 32)) w ≡ true → Takes piece w w []
-piece_all w h =
-    let run : prefix_len (λ b. not (eqb b 32)) (w ++ []) ≡ length w = whole_run (λ b. not (eqb b 32)) w [] h refl in
-    let same : prefix_len (λ b. not (eqb b 32)) w ≡ length w = ap (prefix_len (λ b. not (eqb b 32))) (sym (append-nil w)) ∙ run in
-    let all : take (length w) w ≡ w = ap (take (length w)) (sym (append-nil w)) ∙ take_at w [] (length w) refl in
-    let none : drop (length w) w ≡ [] = ap (drop (length w)) (sym (append-nil w)) ∙ drop_at w [] (length w) refl in
-    record { at = rw (same, all, none) refl }
-
 and_true : (a b : Bool) → a ≡ true → b ≡ true → (a && b) ≡ true
 and_true a b p q = ap (λ t. t && b) p ∙ q
 

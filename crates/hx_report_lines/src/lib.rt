@@ -14,7 +14,7 @@
 //! `specs/Unread.antt`).
 //!
 //! No contract says that there is memory, so functions that always answered `Memory` would be
-//! proved. The tests show each succeed.
+//! proved. Tests in another crate show each succeed.
 #![tactic(auto)]
 
 // Where the definitions of `specs/` speak of a type of these modules it is `pub`. None of them is
@@ -44,6 +44,3 @@ pub use histories::{Histories, HistoryLines, ItemLine, ItemLines, ItemWord};
 pub use printing::print_report;
 pub use reading::read_report;
 pub use reports::Report;
-
-#[cfg(test)]
-mod tests;

@@ -32,14 +32,6 @@ longer script mid new made advances is = by (next_entry script mid) advances.tra
     by None e t = absurd (cc)
     by (Some x) e t = ap length e ∙ (let q : length (x ∷ mid) ≡ length mid + 1 = omega arith in q)
 
--- where none was made there is none
-pub quiet-now : (script : Script) (mid new : List Entry) (made : Bool) → Advances script mid new made → made ≡ false → IsQuiet script new × (new ≡ mid)
-quiet-now script mid new made advances is = by (next_entry script mid) refl advances.trace (sym is ∙ advances.told)
-  where
-    by : (o : Option Entry) → next_entry script mid ≡ o → new ≡ with_entry mid o → false ≡ is_some o → IsQuiet script new × (new ≡ mid)
-    by None f e t = (ap (next_entry script) e ∙ f, e)
-    by (Some x) f e t = absurd (cc)
-
 -- what a loop of such entries keeps
 pub kept : (old mid new : WorldState) (n : ℕ) (made : Bool) → mid.script ≡ old.script → IsDrained old.script (reverse old.trace) (reverse mid.trace)
     → length mid.trace ≡ length old.trace + n → Advances mid.script (reverse mid.trace) (reverse new.trace) made → made ≡ true

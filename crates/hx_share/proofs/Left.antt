@@ -138,10 +138,3 @@ one_more plan old now place same before here u low high = elim (cases_lt place u
       subst (λ (v : SessionId). HasNone plan old v) (sym is) (subst (λ (s : ServiceState). HasNone plan s (record { 0 = place + 1 })) same here)
   | inr less ↦ before u low less
 ]
-
--- of the sessions of a plan none has a call that can be made
-pub all_none : (plan : Script) (s : ServiceState) (sessions : ℕ) → sessions ≡ length plan.sessions → ((u : SessionId) → 1 ≤ u.0 → u.0 ≤ sessions → HasNone plan s u)
-    → (u : SessionId) → is_actor plan (Session u) ≡ true → HasNone plan s u
-all_none plan s sessions is none u here =
-    let number = numbered_from_1 plan u here in
-    none u (omega (arith, number.0)) (omega (arith, number.1, is))

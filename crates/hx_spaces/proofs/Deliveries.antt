@@ -103,11 +103,6 @@ pub err-rests : {T E : Type 0} (ws : List WorldState) (k : ℕ) (w w' : WorldSta
 err-rests ws k w w' (Ok made) h s t = tt
 err-rests ws k w w' (Err e) h s t = rested_at ws k w w' h (ap (λ (c : Script). record { script = c; trace = w'.trace }) s ∙ ap (λ (l : List Entry). record { script = w.script; trace = l }) t)
 
-pub fails-first : (runs : List WorldState) (k : ℕ) (r : Result (Option ℕ) DrainError) → k < length runs → first_delivery_from 0 runs ≡ first_delivery_from k (drop k runs)
-    → IfErr r (FailsIn runs (turn_at k (delivery_at runs k))) → IfErr r (FailsIn runs (first_delivery_from 0 runs))
-fails-first runs k (Ok x) h walk f = tt
-fails-first runs k (Err e) h walk f = fails_first runs k e h walk f
-
 mapped : {A B : Type 0} (f : A → B) (xs : List A) (k : ℕ) → k < length xs → k < length (map f xs)
 mapped f xs k h = subst (λ n. k < n) (sym (length-map f xs)) h
 
@@ -134,14 +129,6 @@ pub ok-rests : (ws : List WorldState) (k : ℕ) (w w' : WorldState) (r : Result 
 ok-rests ws k w w' (Ok true) h s d = λ e. absurd (false≢true (sym e))
 ok-rests ws k w w' (Ok false) h s d = λ e. rested_at ws k w w' h (same-world w w' s d.1)
 ok-rests ws k w w' (Err e) h s d = tt
-
--- ---- looks
-
--- whether a world has a delivery, by the name of its post
-pub found_at : (ws : List WorldState) (k : ℕ) (w : WorldState) (o : Option PostId) → slice_get ws k ≡ Some w
-    → MatchOption o (delivery_in w.script (reverse w.trace) ≡ None) (IsPostedFirst w.script (reverse w.trace)) → is_some o ≡ is_some (delivery_at (map newest ws) k)
-found_at ws k w None h none = sym (ap (λ (n : Option Next). is_some n) (at-place ws k w h ∙ none))
-found_at ws k w (Some id) h first = sym (ap (λ (n : Option Next). is_some n) (at-place ws k w h ∙ first.first))
 
 none-there : {A : Type 0} (o : Option A) → false ≡ is_some o → o ≡ None
 none-there None e = refl

@@ -159,20 +159,9 @@ module _ (bundle : Bundle) (worlds : List WorldState) (order begun : List ℕ) (
       subst (λ (l : List ℕ). IsKept (course_of bundle new pushed) l) (sym q)
       (subst (λ (o : Option ℕ). IsKept (course_of bundle new pushed) (counted begun o)) f.1 (kept_after bundle worlds new order held pushed begun k (begin_by place) i f.0 made grows e p))
 
-pub begun_takes : (bundle : Bundle) (worlds new : List WorldState) (order held pushed : List ℕ) (place k : ℕ) → Some (begin_turn place k) ≡ first_begin bundle (map newest worlds)
-    → map newest new ≡ runs_with (begin_turn place k) (map newest worlds) → held ≡ order → pushed ≡ held ++ k ∷ []
-    → Takes (first_begin bundle (map newest worlds)) (course_of bundle worlds order) (course_of bundle new pushed) true
-begun_takes bundle worlds new order held pushed place k first made h p = record {
-  course = shown bundle worlds new order held pushed k (begin_by place) made h p ∙ ap (λ (o : Option Turn). with_turn (course_of bundle worlds order) o) first;
-  told = ap (λ (o : Option Turn). is_some o) first;
-}
-
 -- what is found has its turn
 pub found_next : (bundle : Bundle) (worlds : List WorldState) (place k : ℕ) → Some (begin_turn place k) ≡ first_begin bundle (map newest worlds) → next_space bundle (map newest worlds) place ≡ Some k
 found_next bundle worlds place k h = first-next bundle (map newest worlds) place k 0 bundle.turns (sym h)
-
-pub none_takes : (c : Course) → None ≡ first_begin c.bundle c.runs → Takes (first_begin c.bundle c.runs) c c false
-none_takes c h = record { course = ap (λ (o : Option Turn). with_turn c o) h; told = ap (λ (o : Option Turn). is_some o) h }
 
 -- ---- the session of which a step would begin a call
 

@@ -21,9 +21,6 @@ use Rattle.hx_spaces.proofs.Starts.{Rests, Starts, begins_by, session_entry, sta
 
 -- ---- counts
 
-same-is : (k : ℕ) → (k == k) ≡ true
-same-is k = eq-eqb k k refl
-
 sum-set : (u : SessionId) (runs : List WorldState) (k : ℕ) (r r' : WorldState) → slice_get runs k ≡ Some r
     → (session_of r'.script u r'.trace).begun ≡ (session_of r.script u r.trace).begun → begun_in u (slice_set runs k r') ≡ begun_in u runs
 sum-set u [] k r r' h e = refl

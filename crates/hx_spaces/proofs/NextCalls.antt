@@ -19,34 +19,6 @@ use Rattle.hx_spaces.proofs.Places.{drop-here, drop-none, get-map, set-map, some
 
 -- ---- whether a session is busy
 
-busy-drop : (u : SessionId) (worlds : List WorldState) (i : ℕ) (w : WorldState) → slice_get worlds i ≡ Some w
-    → is_busy_in u (map newest (drop i worlds)) ≡ ((session_of w.script u (reverse w.trace)).under_way || is_busy_in u (map newest (drop (i + 1) worlds)))
-busy-drop u worlds i w h = ap (λ (l : List WorldState). is_busy_in u (map newest l)) (drop-here worlds i w h)
-
-pub busy_on : (u : SessionId) (worlds : List WorldState) (i : ℕ) (w : WorldState) → slice_get worlds i ≡ Some w → (session_of w.script u (reverse w.trace)).under_way ≡ false
-    → is_busy_in u (map newest (drop i worlds)) ≡ is_busy_in u (map newest (drop (i + 1) worlds))
-busy_on u worlds i w h free = busy-drop u worlds i w h ∙ ap (λ b. b || is_busy_in u (map newest (drop (i + 1) worlds))) free
-
-pub busy_here : (u : SessionId) (worlds : List WorldState) (i : ℕ) (w : WorldState) → slice_get worlds i ≡ Some w → (session_of w.script u (reverse w.trace)).under_way ≡ true
-    → is_busy_in u (map newest (drop i worlds)) ≡ true
-busy_here u worlds i w h busy = busy-drop u worlds i w h ∙ ap (λ b. b || is_busy_in u (map newest (drop (i + 1) worlds))) busy
-
-pub busy_end : (u : SessionId) (worlds : List WorldState) (i : ℕ) → length worlds ≤ i → is_busy_in u (map newest (drop i worlds)) ≡ false
-busy_end u worlds i h = ap (λ (l : List WorldState). is_busy_in u (map newest l)) (drop-none worlds i h)
-
--- ---- the next space
-
--- the first turn that isn't counted is the session's next
-pub next_left : (bundle : Bundle) (worlds : List WorldState) (begun : List ℕ) (place : ℕ) (busy : Bool) → AreCounted bundle (map newest worlds) begun → place < length begun
-    → busy ≡ is_busy_in (session_at place) (map newest worlds) → (if busy then None else turn_left bundle begun place) ≡ next_space bundle (map newest worlds) place
-next_left bundle worlds begun place busy a h e =
-    let n = something begun place h in
-    let left : turn_left bundle begun place ≡ slice_get (turns_at bundle.turns place) (begun_in (session_at place) (map newest worlds)) =
-    ap (λ (o : Option ℕ). when_some o None (λ m. slice_get (turns_at bundle.turns place) m)) n.1
-    ∙ ap (λ m. slice_get (turns_at bundle.turns place) m) (a.each place n.0 n.1) in
-    ap (λ b. if b then None else turn_left bundle begun place) e
-    ∙ ap (λ (o : Option ℕ). if is_busy_in (session_at place) (map newest worlds) then None else o) left
-
 -- ---- the first session with a next space
 
 begin-drop : (bundle : Bundle) (runs : List WorldState) (place : ℕ) → place < length bundle.turns
@@ -67,9 +39,6 @@ pub begin_here : (bundle : Bundle) (runs : List WorldState) (place k : ℕ) → 
 begin_here bundle runs place k h walk some =
     walk ∙ begin-drop bundle runs place h
     ∙ ap (λ (o : Option ℕ). when_some o (first_begin_from bundle runs (place + 1) (drop (place + 1) bundle.turns)) (λ k. Some (begin_turn place k))) some
-
-pub begin_end : (bundle : Bundle) (runs : List WorldState) (place : ℕ) → length bundle.turns ≤ place → first_begin_from bundle runs place (drop place bundle.turns) ≡ None
-begin_end bundle runs place h = ap (λ (l : List (List ℕ)). first_begin_from bundle runs place l) (drop-none bundle.turns place h)
 
 abbrev session_of_actor : Actor → SessionId
 session_of_actor Coordinator = record { 0 = 0 }

@@ -86,12 +86,6 @@ rest_delivered old new space (next, first, made) k less =
 pub rest_quiet : (old new : List WorldState) (first : ℕ) → DeliversIn old new None → RestBefore first new
 rest_quiet old new first (none, same) k less = ap (λ l. delivery_at l k) same ∙ none-at-all 0 old none k
 
--- where a call failed
-pub rest_failed : (bundle : Bundle) (worlds new : List WorldState) (order held begun : List ℕ) (first : ℕ) → IsKeptFrom (course_of bundle worlds order) begun first → new ≡ worlds → held ≡ order
-    → IsKeptFrom (course_of bundle new held) begun first
-rest_failed bundle worlds new order held begun first i w h =
-    subst (λ (l : List WorldState). IsKeptFrom (course_of bundle l held) begun first) (sym w) (subst (λ (l : List ℕ). IsKeptFrom (course_of bundle worlds l) begun first) (sym h) i)
-
 -- at the start
 pub rest_at_start : (runs : List WorldState) (first : ℕ) → first ≡ 0 → RestBefore first runs
 rest_at_start runs first e k less = absurd (omega (arith, less, e))

@@ -129,10 +129,6 @@ seated bundle worlds order i = record {
   sessions = all-from (HasSessions (length bundle.turns)) worlds (λ k w at. sessions-at (course_of bundle worlds order) i k (newest w) (get-map newest worlds k w at));
 }
 
--- a world stands for each space
-pub worlds_count : (bundle : Bundle) (worlds : List WorldState) (order : List ℕ) → IsCourse (course_of bundle worlds order) → length worlds ≡ length bundle.spaces
-worlds_count bundle worlds order i = sym (length-map newest worlds) ∙ runs-count (course_of bundle worlds order) i
-
 -- a run is that of a world
 pub world-of : (worlds : List WorldState) (k : ℕ) (r : WorldState) → slice_get (map newest worlds) k ≡ Some r → (w : WorldState) × (slice_get worlds k ≡ Some w) × (r ≡ newest w)
 world-of worlds k r h = get-mapped newest worlds k r h
@@ -148,9 +144,3 @@ can_begin bundle worlds order place k i h =
       actor = subst (λ (r : WorldState). is_actor r.script (Session (session_at place)) ≡ true) w.2 b.2;
       idle = subst (λ (r : WorldState). is_idle (session_of r.script (session_at place) r.trace) ≡ true) w.2 b.3;
     }
-
--- all sessions are actors of all worlds
-pub seats : (bundle : Bundle) (worlds : List WorldState) (place : ℕ) → IsSeated bundle worlds → place < length bundle.turns → All (λ (w : WorldState). is_actor w.script (Session (session_at place)) ≡ true) worlds
-seats bundle worlds place s h = all-from (λ (w : WorldState). is_actor w.script (Session (session_at place)) ≡ true) worlds
-    (λ k w at. (let same = all-at (HasSessions (length bundle.turns)) worlds k w s.sessions at in
-    and_from (ltb 0 (place + 1)) (leb (place + 1) (length w.script.sessions)) (lt-ltb 0 (place + 1) (omega arith)) (le-leb (place + 1) (length w.script.sessions) (omega (arith, h, same)))))

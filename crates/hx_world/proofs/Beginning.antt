@@ -24,9 +24,6 @@ calls_at script place calls e =
     let here : numbered script.sessions (place + 1) ≡ Some calls = rw add-one e in
     ap (λ (o : Option (List Op)). when_some o [] (λ (own : List Op). own)) here
 
-pub calls_fit : (script : Script) → IsScript script → (place : ℕ) (calls : List Op) → slice_get script.sessions place ≡ Some calls → All (Fits script.space) calls
-calls_fit script valid place calls e = all-in (λ (cs : List Op). All (Fits script.space) cs) script.sessions calls valid.calls (in-slice_get script.sessions place calls e)
-
 -- the next session has started
 pub session_starts : (script : Script) (all : List (List Op)) (place : ℕ) (calls own : List Op) (s : CountedSession) → all ≡ script.sessions → place < length all → calls ≡ get_or all place calls → own ≡ calls
     → s.session.space ≡ script.space → s.session.state ≡ session_at_start script.space (session_at place) own → s.entries ≡ 0 → IsNewSession script place s

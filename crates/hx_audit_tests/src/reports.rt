@@ -1,4 +1,4 @@
-use crate::{AuditError, print_report, read_report};
+use hx_report_lines::{AuditError, print_report, read_report};
 use std::alloc::{AllocError, Global};
 
 /// A report with lines of each kind, but for those of the trace in version 1.
