@@ -1,49 +1,61 @@
--- Words of `run`, of `soak` and of `share` are none of each other; and what is told of any words where there was no memory before the call.
+-- Words ask for one run, one soak or one share alone; and what is told of any words where there was no memory before the call.
 use Rattle.std.proofs.Common.{◌≡◌, inl, inr, ℕ, List, [], ◌∷◌, ◌<◌, length, Option, Some, None, refl, ap, subst, arith}
 use Rattle.std.specs.declared.string.String.{String}
 use Rattle.std.specs.declared.alloc.Global.{Global}
-use Rattle.std.specs.Prelude.{IfSome, map, string_bytes}
+use Rattle.std.specs.Prelude.{IfSome}
 use Rattle.hx_types.specs.declared.traces.Script.{Script}
-use Rattle.hx_words.specs.Saying.{SaysRun, SaysShare, SaysSoak}
+use Rattle.hx_words.specs.Saying.{Asks, SaysAudit, SaysRun, SaysShare, SaysSoak}
+use Rattle.hx_words.proofs.Lemmas.{one_request}
+use Rattle.hx_words.specs.declared.commands.Question.{Question}
+use Rattle.hx_words.specs.declared.commands.Request.TheVariants as a_request
 use Rattle.hx_words.specs.declared.commands.Run.{Run}
 use Rattle.hx_words.specs.declared.commands.Share.{Share}
 use Rattle.hx_words.specs.declared.commands.Soak.{Soak}
-use Rattle.hx_replay.specs.Calling.{EndsAudit}
+use Rattle.std.specs.Io.KnownBytes.{Appends}
+use Rattle.hx_replay.specs.Calling.{EndsAudit, Shows}
 use Rattle.hx_replay.specs.Streams.{Stream}
-use Rattle.hx_replay.specs.Commands.{SaysAudit}
 use Rattle.hx_command.specs.Telling.{AnswersAudit, Told}
-use Rattle.hx_command.specs.Threads.{EndsRun, EndsShare, Handed, IsDecided, IsTextJudged, Language, any_version, nothing, version_1}
+use Rattle.hx_command.specs.Threads.{EndsRun, EndsShare, EndsSoak, Handed, IsDecided, IsTextJudged, Language, any_version, nothing, version_1}
 use Rattle.hx_replay.specs.declared.outcomes.Outcome.{Outcome}
 use Rattle.hx_replay.specs.declared.outcomes.Outcome.TheVariants.{Fine, Memory}
 use Rattle.hx_replay.specs.declared.texts.Scripted.{Scripted}
 use Rattle.hx_command.proofs.Deciding.{no_script, no_scripted}
 
-pub same_some : {A : Type 0} (x y : A) → Some x ≡ Some y → y ≡ x
-same_some x y e = cc
+-- ---- words that ask for a run, a soak or a share ask for it alone
+module _ (words : List (String Global)) where
+  pub same_run : (one other : Run) → SaysRun words one → SaysRun words other → other ≡ one
+  same_run one other says also = let same = one_request words (a_request.Run one) (a_request.Run other) says also in cc
 
-pub none_some : {A : Type 0} (x : A) → None ≡ Some x → ⊥
-none_some x e = absurd (cc)
+  pub same_soak : (one other : Soak) → SaysSoak words one → SaysSoak words other → other ≡ one
+  same_soak one other says also = let same = one_request words (a_request.Soak one) (a_request.Soak other) says also in cc
 
--- ---- the words of `run`, of `soak` and of `share` differ in their first
-abbrev first_long : List (List ℕ) → ℕ
-first_long [] = 0
-first_long (w ∷ ws) = length w
+  pub same_question : (one other : Question) → Asks words one → Asks words other → other ≡ one
+  same_question one other says also = let same = one_request words (a_request.Question one) (a_request.Question other) says also in cc
 
-differ : (n a b : ℕ) → n ≡ a → n ≡ b → a < b → ⊥
-differ n a b is also less = omega (arith, is, also, less)
+  pub not_both : (run : Run) (soak : Soak) → SaysRun words run → SaysSoak words soak → ⊥
+  not_both run soak says also = let same = one_request words (a_request.Run run) (a_request.Soak soak) says also in absurd (cc)
 
-pub not_both : (words : List (String Global)) (run : Run) (soak : Soak) → SaysRun words run → SaysSoak words soak → ⊥
-not_both words run soak a b = differ (first_long (map string_bytes words)) 3 4 (ap first_long a.said) (ap first_long b.said) (omega arith)
+  pub no_run_shares : (run : Run) (share : Share) → SaysRun words run → SaysShare words share → ⊥
+  no_run_shares run share says also = let same = one_request words (a_request.Run run) (a_request.Share share) says also in absurd (cc)
 
-pub no_run_shares : (words : List (String Global)) (run : Run) (share : Share) → SaysRun words run → SaysShare words share → ⊥
-no_run_shares words run share a b = differ (first_long (map string_bytes words)) 3 5 (ap first_long a.said) (ap first_long b.said) (omega arith)
+  pub no_soak_shares : (soak : Soak) (share : Share) → SaysSoak words soak → SaysShare words share → ⊥
+  no_soak_shares soak share says also = let same = one_request words (a_request.Soak soak) (a_request.Share share) says also in absurd (cc)
 
-pub no_soak_shares : (words : List (String Global)) (soak : Soak) (share : Share) → SaysSoak words soak → SaysShare words share → ⊥
-no_soak_shares words soak share a b = differ (first_long (map string_bytes words)) 4 5 (ap first_long a.said) (ap first_long b.said) (omega arith)
+-- what is shown with status 0 was written
+pub shown : (sink : Stream) (text : List ℕ) (outcome : Outcome) → Shows sink text outcome → outcome ≡ Fine → Appends sink.before sink.after text
+shown sink text outcome (inl whole) fine = whole.1
+shown sink text outcome (inr part) fine = let fault = part.0 in absurd (cc)
 
 -- what was written to the word `audit`
 pub audit_answered : (words : List (String Global)) (source sink : Stream) (outcome : Outcome) → SaysAudit words → outcome ≡ Fine → EndsAudit source sink outcome → AnswersAudit words source sink
 audit_answered words source sink outcome says fine ends = record { says = says; ends = subst (λ (o : Outcome). EndsAudit source sink o) fine ends }
+
+-- how a run and a soak end that were answered
+pub ran_at : (run : Run) (scripted : Scripted) (source sink : Stream) (h : Handed) (outcome : Outcome) → outcome ≡ Fine → EndsRun run scripted source sink h outcome → EndsRun run scripted source sink h Fine
+ran_at run scripted source sink h outcome fine ends = subst (λ (o : Outcome). EndsRun run scripted source sink h o) fine ends
+
+pub soaked_at : (soak : Soak) (sink : Stream) (h : Handed) (outcome : Outcome) → outcome ≡ Fine → EndsSoak soak sink h outcome → EndsSoak soak sink h Fine
+soaked_at soak sink h outcome fine ends = subst (λ (o : Outcome). EndsSoak soak sink h o) fine ends
 
 -- how a share ends whose report was written
 pub shared_at : (script : Script) (source sink : Stream) (h : Handed) (outcome : Outcome) → outcome ≡ Fine → EndsShare script source sink h outcome → EndsShare script source sink h Fine

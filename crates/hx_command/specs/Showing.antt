@@ -1,7 +1,7 @@
 -- What the program shows to a question about itself.
 use Rattle.std.specs.Prelude.{ℕ, List, codes}
-use Rattle.hx_replay.specs.declared.words.Question.{Question}
-use Rattle.hx_replay.specs.declared.words.Question.TheVariants.{Help, Version}
+use Rattle.hx_words.specs.declared.commands.Question.{Question}
+use Rattle.hx_words.specs.declared.commands.Question.TheVariants.{Help, Version}
 
 abbrev pub shown_text : Question → List ℕ
 shown_text Help =

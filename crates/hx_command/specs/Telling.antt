@@ -15,9 +15,9 @@ use Rattle.hx_replay.specs.declared.texts.Scripted.{Scripted}
 use Rattle.hx_replay.specs.declared.outcomes.Outcome.{Outcome}
 use Rattle.hx_replay.specs.declared.outcomes.Outcome.TheVariants as an_outcome
 use Rattle.hx_replay.specs.Calling.{Ends, EndsAudit, Shows, Writes}
-use Rattle.hx_replay.specs.Commands.{Asks, SaysAudit}
+use Rattle.hx_words.specs.Saying.{Asks, SaysAudit}
 use Rattle.hx_replay.specs.Streams.{Stream}
-use Rattle.hx_replay.specs.declared.words.Question.{Question}
+use Rattle.hx_words.specs.declared.commands.Question.{Question}
 use Rattle.hx_command.specs.Showing.{shown_text}
 use Rattle.hx_command.specs.Threads.{EndsRun, EndsShare, EndsSoak, Handed, IsDecided, IsUnthreaded, any_version, version_1}
 

@@ -7,10 +7,10 @@ ghost use Rattle.hx_io.specs.Pieces.{AppendsPrefix};
 ghost use Rattle.hx_replay.specs.Calling.{Shows};
 ghost use Rattle.hx_command.specs.Telling.{Answers, EndsProgram, IsUnread, Prints, Told};
 ghost use Rattle.hx_command.specs.Threads.{Handed, HasEnough};
-ghost use Rattle.hx_replay.specs.Commands.{Asks};
+ghost use Rattle.hx_words.specs.Saying.{Asks};
 ghost use Rattle.hx_replay.specs.Outcomes.{IsSilent, fault_line, status_of};
 ghost use Rattle.hx_command.specs.Showing.{shown_text};
-ghost use Rattle.hx_replay.specs.declared.words.Question.{Question};
+ghost use Rattle.hx_words.specs.declared.commands.Question.{Question};
 ghost use Rattle.hx_replay.specs.Streams.{drawn, filled};
 
 use crate::finished::Finished;
@@ -19,9 +19,9 @@ use crate::top::hyperstore;
 use hx_driver::Open;
 use hx_fate::{Fate, Losing};
 use hx_io::{Sink, Source, write_all};
-use hx_replay::{Done, Outcome, Question, fault_text, question_of, status};
+use hx_replay::{Done, Outcome, fault_text, status};
 use hx_types::Memory;
-use hx_words::{run_of, soak_of};
+use hx_words::{Question, Request, request_of};
 use std::alloc::Global;
 use std::mem::ManuallyDrop;
 use std::rt::Env;
@@ -145,10 +145,10 @@ fn command<R: Threads + Wait + Sync, S: Source, K: Sink>(
     ensures write_fault { result ≡ Outcome.WriteFault → Rose (K.faults sink.old) (K.faults sink.new) }
     ensures silent { IsSilent result → sink.new ≡ sink.old }
 {
-    match question_of(words) {
-        Some(question) => show(sink, shown_text(question)),
-        None => called(rt, alloc, words, source, sink),
+    if let Some(Request::Question(question)) = request_of(words) {
+        return show(sink, shown_text(question));
     }
+    called(rt, alloc, words, source, sink)
 }
 
 /// How many drivers the words may start, and the seed that their fates draw from, where they say
@@ -156,12 +156,10 @@ fn command<R: Threads + Wait + Sync, S: Source, K: Sink>(
 fn drivers_of(words: &[String]) -> (u32, Option<u64>)
     ensures { HasEnough words.now result.0 }
 {
-    match run_of(words) {
-        Some(run) => (MOST_DRIVERS, run.seed),
-        None => match soak_of(words) {
-            Some(soak) => (soak.workers, None),
-            None => (0, None),
-        },
+    match request_of(words) {
+        Some(Request::Run(run)) => (MOST_DRIVERS, run.seed),
+        Some(Request::Soak(soak)) => (soak.workers, None),
+        _ => (0, None),
     }
 }
 

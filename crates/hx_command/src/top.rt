@@ -25,7 +25,7 @@ use hx_driver::Gate;
 use hx_fate::Fate;
 use hx_io::{Sink, Source};
 use hx_replay::hyperstore_alone;
-use hx_words::{run_of, share_of, soak_of};
+use hx_words::{Request, request_of};
 use std::alloc::Global;
 use std::sync::Wait;
 use std::thread::Threads;
@@ -106,14 +106,15 @@ pub fn hyperstore<R: Threads + Wait + Sync, S: Source, K: Sink, G: Gate + Sync>(
     ensures source_faults { S.faults source.old ≤ S.faults source.new }
     ensures sink_faults { K.faults sink.old ≤ K.faults sink.new }
 {
-    match run_of(words) {
-        Some(command) => run_words(rt, alloc, command, source, sink, fates, gate),
-        None => match soak_of(words) {
-            Some(command) => soak_words(rt, alloc, command, sink, fates, gate),
-            None => match share_of(words) {
-                Some(command) => share_words(rt, alloc, command, source, sink, gate),
-                None => without_threads(alloc, hyperstore_alone(alloc, words, source, sink)),
-            },
-        },
+    match request_of(words) {
+        Some(Request::Run(command)) => {
+            return run_words(rt, alloc, command, source, sink, fates, gate);
+        }
+        Some(Request::Soak(command)) => return soak_words(rt, alloc, command, sink, fates, gate),
+        Some(Request::Share(command)) => {
+            return share_words(rt, alloc, command, source, sink, gate);
+        }
+        _ => {}
     }
+    without_threads(alloc, hyperstore_alone(alloc, words, source, sink))
 }

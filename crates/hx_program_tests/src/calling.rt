@@ -6,7 +6,7 @@ use hx_command::{Finished, hyperstore};
 use hx_driver::Open;
 use hx_fate::{Faithful, Fate};
 use hx_io::{MemorySink, MemorySource};
-use hx_words::{run_of, soak_of};
+use hx_words::{Request, request_of};
 use std::process::Abort;
 use std::sync::Wait;
 use std::thread::Threads;
@@ -79,12 +79,10 @@ fn fates<R: Abort + AllocGlobal>(rt: &R, count: u32) -> Vec<Box<dyn Fate + Send>
 fn fates_for<R: Abort + AllocGlobal>(rt: &R, words: &[String]) -> Vec<Box<dyn Fate + Send>>
     ensures { HasEnough words.now (length result.items) }
 {
-    match run_of(words) {
-        Some(_run) => fates(rt, 16),
-        None => match soak_of(words) {
-            Some(soak) => fates(rt, soak.workers),
-            None => fates(rt, 0),
-        },
+    match request_of(words) {
+        Some(Request::Run(_)) => fates(rt, 16),
+        Some(Request::Soak(soak)) => fates(rt, soak.workers),
+        _ => fates(rt, 0),
     }
 }
 

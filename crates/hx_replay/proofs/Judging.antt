@@ -5,14 +5,13 @@ use Rattle.hx_model.specs.Types.{Entry}
 use Rattle.hx_script.specs.declared.errors.Reason.{Reason}
 use Rattle.hx_script.specs.declared.errors.Reason.TheVariants as a_reason
 use Rattle.hx_script.specs.declared.errors.ScriptError.TheVariants as a_script_error
-use Rattle.hx_replay.specs.Causes.{IsJudgedResult, IsRefusedStep, IsRefusedUnder, IsSteppable, IsTaken}
-use Rattle.hx_replay.specs.Commands.{Replays}
+use Rattle.hx_replay.specs.Causes.{IsJudgedResult, IsRefusedStep, IsRefusedUnder, IsSteppable, IsTaken, Replays}
 use Rattle.hx_replay.specs.Texts.{scripted_of}
 use Rattle.hx_replay.specs.declared.outcomes.Ended.{Ended}
 use Rattle.hx_replay.specs.declared.outcomes.Ended.TheVariants.{Refused}
 use Rattle.hx_replay.specs.declared.texts.Scripted.{Scripted}
-use Rattle.hx_replay.specs.declared.words.Command.{Command}
-use Rattle.hx_replay.specs.declared.words.Command.TheVariants.{Replay, Plan}
+use Rattle.hx_words.specs.declared.commands.Command.{Command}
+use Rattle.hx_words.specs.declared.commands.Command.TheVariants.{Replay, Plan}
 use Rattle.hx_replay.proofs.Reading.{refused_scripted}
 
 pub one_script : (text : List ℕ) (a b : Scripted) → scripted_of text ≡ Ok a → scripted_of text ≡ Ok b → a ≡ b
@@ -33,11 +32,9 @@ module _ (command : Command) (text : List ℕ) (line : ℕ) (reason : Reason) wh
       none-refused command by.scripted by.replays (subst (λ (s : Scripted). IsSteppable command s) same taken.steppable) line by.traces by.refused
 
 -- a script with an answer has no step that is refused
-pub refused_is_not_taken : (command own : Command) (text : List ℕ) (before : Option (List ℕ)) (made : Ended) (line : ℕ) (traces : List (List Entry)) → Some own ≡ Some command → before ≡ Some text
-    → IfSome before (λ t. IsJudgedResult own t (Ok made)) → made ≡ Refused line traces → IsTaken command text → ⊥
-refused_is_not_taken command own text before made line traces some left judged is taken =
-    let same : own ≡ command = cc in
-    let at : IfSome (Some text) (λ t. IsJudgedResult own t (Ok made)) = subst (λ (o : Option (List ℕ)). IfSome o (λ t. IsJudgedResult own t (Ok made))) left judged in
-    let told : IsJudgedResult own text (Ok (Refused line traces)) = subst (λ (m : Ended). IsJudgedResult own text (Ok m)) is at in
-    let here : IsJudgedResult command text (Ok (Refused line traces)) = subst (λ (c : Command). IsJudgedResult c text (Ok (Refused line traces))) same told in
-    taken_refused command text line a_reason.Step taken here.1
+pub refused_is_not_taken : (command : Command) (text : List ℕ) (before : Option (List ℕ)) (made : Ended) (line : ℕ) (traces : List (List Entry)) → before ≡ Some text
+    → IfSome before (λ t. IsJudgedResult command t (Ok made)) → made ≡ Refused line traces → IsTaken command text → ⊥
+refused_is_not_taken command text before made line traces left judged is taken =
+    let at : IfSome (Some text) (λ t. IsJudgedResult command t (Ok made)) = subst (λ (o : Option (List ℕ)). IfSome o (λ t. IsJudgedResult command t (Ok made))) left judged in
+    let told : IsJudgedResult command text (Ok (Refused line traces)) = subst (λ (m : Ended). IsJudgedResult command text (Ok m)) is at in
+    taken_refused command text line a_reason.Step taken told.1

@@ -7,8 +7,8 @@ use Rattle.hx_bundle.specs.declared.bundles.Bundle.{Bundle}
 use Rattle.hx_model.specs.Types.{Actor, Entry, Script}
 use Rattle.hx_script.specs.declared.errors.Reason.{Reason}
 use Rattle.hx_script.specs.declared.errors.Reason.TheVariants as a_reason
-use Rattle.hx_replay.specs.Causes.{CommandEnds, CommandMakes, EndsAtStep, EndsWorn, IsJudged, IsRefusedStep, IsSteppable, IsStopped, IsTaken, IsWorn, ReadsText, ScriptedEnds, limit, outcome_of}
-use Rattle.hx_replay.specs.Commands.{Replays, Says}
+use Rattle.hx_replay.specs.Causes.{CommandEnds, CommandMakes, EndsAtStep, EndsWorn, IsJudged, IsRefusedStep, IsSteppable, IsStopped, IsTaken, IsWorn, ReadsText, Replays, ScriptedEnds, limit, outcome_of}
+use Rattle.hx_words.specs.Saying.{Says}
 use Rattle.hx_replay.specs.Courses.{IsRefusedIn, IsWornAfterBundleSteps, IsWornAtBundleStep, IsWornCourse}
 use Rattle.hx_replay.specs.Runs.{IsWornAfterSteps, IsWornRun}
 use Rattle.hx_replay.specs.Steps.{IsRefusedAt, IsWornAtStep}
@@ -19,8 +19,8 @@ use Rattle.hx_replay.specs.declared.outcomes.Outcome.{Outcome}
 use Rattle.hx_replay.specs.declared.outcomes.Outcome.TheVariants as an_outcome
 use Rattle.hx_replay.specs.declared.texts.Scripted.{Scripted}
 use Rattle.hx_replay.specs.declared.texts.Scripted.TheVariants.{One, Several}
-use Rattle.hx_replay.specs.declared.words.Command.{Command}
-use Rattle.hx_replay.specs.declared.words.Command.TheVariants.{Replay, Plan}
+use Rattle.hx_words.specs.declared.commands.Command.{Command}
+use Rattle.hx_words.specs.declared.commands.Command.TheVariants.{Replay, Plan}
 use Rattle.hx_replay.proofs.Stepping.{all-taken-not-refused, taken-not-refused, worn-not-refused, worn-step-not-refused}
 
 pub made_of_replay : (with_trace : Bool) (text : List ℕ) (scripted : Scripted) (made : Ended) → scripted_of text ≡ Ok scripted → ScriptedEnds with_trace scripted made → CommandEnds (Replay with_trace) text made

@@ -7,8 +7,7 @@ use Rattle.hx_model.specs.Types.{Actor, Entry, Script, Step}
 use Rattle.hx_script.specs.declared.errors.ScriptError.TheVariants as a_script_error
 use Rattle.hx_model.specs.Schedule.{Worn as WornFault, entries_of, next_entry, scheduled, stepped, with_entry}
 use Rattle.hx_world.specs.Worlds.{HasFewEntries, IsWornOut}
-use Rattle.hx_replay.specs.Causes.{CommandEnds, CommandMakes, EndsWorn, IsCause, IsJudgedResult, IsRefusedUnder, IsWorn, limit, outcome_of}
-use Rattle.hx_replay.specs.Commands.{Replays}
+use Rattle.hx_replay.specs.Causes.{CommandEnds, CommandMakes, EndsWorn, IsCause, IsJudgedResult, IsRefusedUnder, IsWorn, Replays, limit, outcome_of}
 use Rattle.hx_replay.specs.Runs.{IsWholeReplay, IsWornAfterSteps, IsWornRun}
 use Rattle.hx_replay.specs.Steps.{IsWornAtStep, Stop, stop_of}
 use Rattle.hx_replay.specs.declared.outcomes.Ended.{Ended}
@@ -17,8 +16,8 @@ use Rattle.hx_replay.specs.declared.outcomes.Outcome.{Outcome}
 use Rattle.hx_replay.specs.declared.outcomes.Outcome.TheVariants as an_outcome
 use Rattle.hx_replay.specs.declared.texts.Scripted.{Scripted}
 use Rattle.hx_replay.specs.declared.texts.Scripted.TheVariants.{One, Several}
-use Rattle.hx_replay.specs.declared.words.Command.{Command}
-use Rattle.hx_replay.specs.declared.words.Command.TheVariants.{Replay, Plan}
+use Rattle.hx_words.specs.declared.commands.Command.{Command}
+use Rattle.hx_words.specs.declared.commands.Command.TheVariants.{Replay, Plan}
 use Rattle.hx_replay.proofs.Counting.{counts_own, grows}
 use Rattle.hx_replay.proofs.Judging.{one_script}
 use Rattle.hx_replay.proofs.Making.{stopped-refused, worn-steppable}
@@ -158,13 +157,12 @@ made_of_worn command text (Worn b before) traces a replays made worn =
     ap (λ (x : Actor). an_outcome.Worn x) (worn_scripted_at_one worn.scripted before traces b a (subst (λ (s : Scripted). EndsWorn s before b) same made.1.worn) worn.worn)
 
 -- the same where the source told its text
-pub made_wears : (own command : Command) (text : List ℕ) (before : Option (List ℕ)) (made shown : Ended) (traces : List (List Entry)) (a : Actor) → Some own ≡ Some command → before ≡ Some text
-    → IfSome before (λ t. CommandEnds own t made) → made ≡ shown → Replays command → IsWorn text traces a → outcome_of shown ≡ an_outcome.Worn a
-made_wears own command text before made shown traces a some left told is replays worn =
-    let same : own ≡ command = cc in
-    let at : IfSome (Some text) (λ t. CommandEnds own t made) = subst (λ (o : Option (List ℕ)). IfSome o (λ t. CommandEnds own t made)) left told in
-    let here : CommandEnds own text shown = subst (λ (m : Ended). CommandEnds own text m) is at in
-    made_of_worn command text shown traces a replays (subst (λ (c : Command). CommandEnds c text shown) same here) worn
+pub made_wears : (command : Command) (text : List ℕ) (before : Option (List ℕ)) (made shown : Ended) (traces : List (List Entry)) (a : Actor) → before ≡ Some text
+    → IfSome before (λ t. CommandEnds command t made) → made ≡ shown → Replays command → IsWorn text traces a → outcome_of shown ≡ an_outcome.Worn a
+made_wears command text before made shown traces a left told is replays worn =
+    let at : IfSome (Some text) (λ t. CommandEnds command t made) = subst (λ (o : Option (List ℕ)). IfSome o (λ t. CommandEnds command t made)) left told in
+    let here : CommandEnds command text shown = subst (λ (m : Ended). CommandEnds command text m) is at in
+    made_of_worn command text shown traces a replays here worn
 
 by_outcome : (command : Command) (text : List ℕ) (before after : Option (List ℕ)) (m n : ℕ) (outcome : Outcome) (traces : List (List Entry)) (a : Actor)
     → Replays command → length text ≤ limit → IsWorn text traces a → (Rose m n → ⊥) → IsJudgedResult command text (Err outcome) → IsCause command before after m n outcome → outcome ≡ an_outcome.Memory
@@ -186,10 +184,8 @@ by_outcome command text before after m n (an_outcome.Worn b) traces a replays sh
 by_outcome command text before after m n (an_outcome.Wrong line clause) traces a replays short worn still judged cause = absurd cause
 
 -- and where reading the text or answering it ended before
-pub err_wears : (own command : Command) (text : List ℕ) (before after : Option (List ℕ)) (m n : ℕ) (outcome : Outcome) (traces : List (List Entry)) (a : Actor) → Some own ≡ Some command → before ≡ Some text
-    → IfSome before (λ t. IsJudgedResult own t (Err outcome)) → IsCause own before after m n outcome → Replays command → length text ≤ limit → IsWorn text traces a → (Rose m n → ⊥) → outcome ≡ an_outcome.Memory
-err_wears own command text before after m n outcome traces a some left judged cause replays short worn still =
-    let same : own ≡ command = cc in
-    let at : IfSome (Some text) (λ t. IsJudgedResult own t (Err outcome)) = subst (λ (o : Option (List ℕ)). IfSome o (λ t. IsJudgedResult own t (Err outcome))) left judged in
-    by_outcome command text before after m n outcome traces a replays short worn still
-    (subst (λ (c : Command). IsJudgedResult c text (Err outcome)) same at) (subst (λ (c : Command). IsCause c before after m n outcome) same cause)
+pub err_wears : (command : Command) (text : List ℕ) (before after : Option (List ℕ)) (m n : ℕ) (outcome : Outcome) (traces : List (List Entry)) (a : Actor) → before ≡ Some text
+    → IfSome before (λ t. IsJudgedResult command t (Err outcome)) → IsCause command before after m n outcome → Replays command → length text ≤ limit → IsWorn text traces a → (Rose m n → ⊥) → outcome ≡ an_outcome.Memory
+err_wears command text before after m n outcome traces a left judged cause replays short worn still =
+    let at : IfSome (Some text) (λ t. IsJudgedResult command t (Err outcome)) = subst (λ (o : Option (List ℕ)). IfSome o (λ t. IsJudgedResult command t (Err outcome))) left judged in
+    by_outcome command text before after m n outcome traces a replays short worn still at cause

@@ -10,10 +10,10 @@ use Rattle.hx_script.specs.declared.errors.Reason.{Reason}
 use Rattle.hx_script.specs.declared.errors.Reason.TheVariants as a_reason
 use Rattle.hx_replay.specs.declared.outcomes.Outcome.{Outcome}
 use Rattle.hx_replay.specs.declared.outcomes.Outcome.TheVariants as an_outcome
-use Rattle.hx_replay.specs.declared.words.Command.{Command}
-use Rattle.hx_replay.specs.Causes.{IsAnswer, IsFaulty, IsJudged, IsStopped, IsTaken, IsWorn, ReadsText, limit}
+use Rattle.hx_words.specs.declared.commands.Command.{Command}
+use Rattle.hx_replay.specs.Causes.{IsAnswer, IsFaulty, IsJudged, IsStopped, IsTaken, IsWorn, ReadsText, Replays, limit}
 use Rattle.hx_replay.specs.Texts.{IsRefused}
-use Rattle.hx_replay.specs.Commands.{Replays, Says, SaysAudit}
+use Rattle.hx_words.specs.Saying.{Says, SaysAudit}
 use Rattle.hx_replay.specs.Audits.{IsAudited, IsAuditJudged, yes_line}
 use Rattle.hx_replay.specs.Streams.{Stream}
 use Rattle.hx_audit.specs.declared.verdicts.Clause.{Clause}

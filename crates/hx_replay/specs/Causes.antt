@@ -16,9 +16,8 @@ use Rattle.hx_replay.specs.declared.outcomes.Outcome.{Outcome}
 use Rattle.hx_replay.specs.declared.outcomes.Outcome.TheVariants as an_outcome
 use Rattle.hx_replay.specs.declared.texts.Scripted.{Scripted}
 use Rattle.hx_replay.specs.declared.texts.Scripted.TheVariants.{One, Several}
-use Rattle.hx_replay.specs.declared.words.Command.{Command}
-use Rattle.hx_replay.specs.declared.words.Command.TheVariants as a_command
-use Rattle.hx_replay.specs.Commands.{Replays}
+use Rattle.hx_words.specs.declared.commands.Command.{Command}
+use Rattle.hx_words.specs.declared.commands.Command.TheVariants as a_command
 use Rattle.hx_replay.specs.Courses.{BundleEnds, IsCourseCutShort, IsPlannedBundle, IsRefusedIn, IsWholeCourse, IsWornCourse}
 use Rattle.hx_replay.specs.Runs.{IsCutShort, IsOfOne, IsPlanned, IsWholeReplay, IsWornRun, ReplayEnds}
 use Rattle.hx_replay.specs.Steps.{IsRefusedAt}
@@ -42,6 +41,11 @@ pub record ReadsText (before after : Option (List ℕ)) (text : List ℕ) : Type
   pub consumed : Consumes before after text
   pub end : IsAtEnd after
   pub small : length text ≤ limit
+
+-- the command runs the script
+abbrev pub Replays : Command → Type 0
+Replays (a_command.Replay with_trace) = ⊤
+Replays a_command.Plan = ⊥
 
 -- the step on that line is the first that can't be taken, and is refused after these traces
 abbrev pub IsRefusedStep : Scripted → ℕ → List (List Entry) → Type 0

@@ -1,4 +1,3 @@
-pub mod Commands
 pub mod Outcomes
 pub mod Plans
 pub mod Steps

@@ -7,16 +7,16 @@ ghost use Rattle.hx_model.specs.Types.{Actor};
 ghost use Rattle.hx_replay.specs.Calling.{EndsAudit, IsAuditDecided, IsCommandDecided, Refuses, WearsOut, Writes, WritesPrefix};
 ghost use Rattle.hx_replay.specs.Streams.{drawn, filled};
 ghost use Rattle.hx_replay.specs.Causes.{limit};
-ghost use Rattle.hx_replay.specs.Commands.{Says, SaysAudit};
+ghost use Rattle.hx_words.specs.Saying.{Says, SaysAudit};
 ghost use Rattle.hx_replay.specs.Outcomes.{HasNoTraces, IsSilent, status_of};
 ghost use Rattle.hx_replay.specs.declared.outcomes.Outcome.{Outcome};
-ghost use Rattle.hx_replay.specs.declared.words.Command.{Command};
+ghost use Rattle.hx_words.specs.declared.commands.Command.{Command};
 
 use crate::auditing::audit_source;
-use crate::commanded::{command_words, silent};
-use crate::outcomes::Done;
-use crate::words::says_audit;
+use crate::commanded::{answer_command, silent};
+use crate::outcomes::{Done, Outcome};
 use hx_io::{Sink, Source};
+use hx_words::{Request, request_of};
 use std::alloc::Global;
 
 /// The program: it takes its words, the source of its script or report and the sink of its answer.
@@ -87,9 +87,10 @@ pub fn hyperstore_alone<S: Source, K: Sink>(
     ensures source_faults { S.faults source.old ≤ S.faults source.new }
     ensures sink_faults { K.faults sink.old ≤ K.faults sink.new }
 {
-    if says_audit(words) {
-        silent(alloc, audit_source(alloc, source, sink))
-    } else {
-        command_words(alloc, words, source, sink)
+    match request_of(words) {
+        Some(Request::Command(command)) => return answer_command(alloc, command, source, sink),
+        Some(Request::Audit) => return silent(alloc, audit_source(alloc, source, sink)),
+        _ => {}
     }
+    silent(alloc, Outcome::Usage)
 }

@@ -2,17 +2,17 @@ ghost use Rattle.std.specs.Prelude.{◌≡◌, ℕ, List, [], IfOk, IfErr, Ok, m
 ghost use Rattle.hx_model.specs.Types.{Script as ScriptSeen};
 ghost use Rattle.hx_replay.specs.Causes.{CommandEnds, CommandMakes, IsTextCause, ScriptedEnds};
 ghost use Rattle.hx_replay.specs.Texts.{IsScripted, scripted_of};
-ghost use Rattle.hx_replay.specs.declared.words.Command.TheVariants as a_command;
+ghost use Rattle.hx_words.specs.declared.commands.Command.TheVariants as a_command;
 
 use crate::bundle_replaying::replay_bundle;
 use crate::outcomes::{Ended, Outcome, Written};
 use crate::plans::{bundle_plans, plans};
 use crate::replaying::{one_trace, replay};
 use crate::texts::{Scripted, read_scripted};
-use crate::words::Command;
 use hx_spaces::Traces;
 use hx_trace::Trace;
 use hx_types::{Memory, Script};
+use hx_words::Command;
 use std::alloc::Global;
 use std::mem::ManuallyDrop;
 

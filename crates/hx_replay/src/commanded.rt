@@ -1,4 +1,6 @@
-ghost use Rattle.std.specs.Prelude.{◌≡◌, ◌↔◌, ◌⊎◌, ◌+◌, ◌≤◌, ℕ, List, [], Some, IfOk, IfErr, IfSome, length};
+ghost use Rattle.std.specs.Prelude.{◌≡◌, ◌≢◌, ◌⊎◌, ◌+◌, ◌≤◌, ℕ, List, [], Some, IfOk, IfErr, IfSome, length};
+ghost use Rattle.std.specs.declared.string.String.{String};
+ghost use Rattle.std.specs.declared.alloc.Global.{Global};
 ghost use Rattle.std.specs.Io.KnownBytes.{Appends};
 ghost use Rattle.hx_io.specs.Causes.{Rose};
 ghost use Rattle.hx_io.specs.Pieces.{AppendsPrefix, ConsumesExactly};
@@ -7,66 +9,61 @@ ghost use Rattle.hx_script.specs.declared.errors.Reason.TheVariants as a_reason;
 ghost use Rattle.hx_model.specs.Types.{Actor, Entry};
 ghost use Rattle.hx_replay.specs.Calling.{Refuses, WearsOut, Writes, WritesPrefix};
 ghost use Rattle.hx_replay.specs.Streams.{drawn, filled};
-ghost use Rattle.hx_replay.specs.Causes.{IsCause, IsFaulty, IsJudged, IsJudgedResult, CommandEnds, IsTaken, IsWorn, ReadsText, limit};
-ghost use Rattle.hx_replay.specs.Commands.{Replays, Says};
+ghost use Rattle.hx_replay.specs.Causes.{CommandEnds, IsCause, IsFaulty, IsJudged, IsJudgedResult, IsTaken, IsWorn, ReadsText, Replays, limit};
+ghost use Rattle.hx_words.specs.Saying.{Says};
 ghost use Rattle.hx_replay.specs.Outcomes.{HasNoTraces, IsSilent, status_of};
 ghost use Rattle.hx_replay.specs.declared.outcomes.Outcome.{Outcome};
-ghost use Rattle.hx_replay.specs.declared.words.Command.{Command};
 
 use crate::answering::answer;
 use crate::outcomes::{Done, Ended, Outcome, Written, status};
-use crate::words::{Command, command_of};
 use hx_io::{Sink, Source, read_all, write_all};
 use hx_script::Reason;
 use hx_spaces::Traces;
 use hx_types::{Actor, LONGEST_SCRIPT};
+use hx_words::Command;
 use std::alloc::Global;
 
 /// How many bytes a script may have.
 const LIMIT: usize = LONGEST_SCRIPT;
 
-/// The call with the words of a command, or with words that are none.
-pub fn command_words<S: Source, K: Sink>(
+/// The call with a command. What is said of words is said of those that say it.
+pub fn answer_command<S: Source, K: Sink>(
     alloc: Global,
-    words: &[String],
+    command: Command,
     source: &mut S,
     sink: &mut K,
 ) -> Done
     ensures status { result.status ≡ status_of result.outcome }
-    ensures fine { result.outcome ≡ Outcome.Fine → Writes words.now (drawn S.Source source.old source.new) (filled K.Sink sink.old sink.new) result.traces }
-    ensures usage { (result.outcome ≡ Outcome.Usage) ↔ ((command : Command) → ¬ Says words.now command) }
-    ensures refused { (line : ℕ) (reason : Reason) → result.outcome ≡ Outcome.Refused line reason
-        → Refuses words.now (drawn S.Source source.old source.new) line reason result.traces }
+    ensures usage { result.outcome ≢ Outcome.Usage }
+    ensures fine { (words : List (String Global)) → Says words command → result.outcome ≡ Outcome.Fine
+        → Writes words (drawn S.Source source.old source.new) (filled K.Sink sink.old sink.new) result.traces }
+    ensures refused { (words : List (String Global)) → Says words command → (line : ℕ) → (reason : Reason) → result.outcome ≡ Outcome.Refused line reason
+        → Refuses words (drawn S.Source source.old source.new) line reason result.traces }
     ensures too_large { result.outcome ≡ Outcome.TooLarge → ConsumesExactly (S.left source.old) (S.left source.new) (limit + 1) }
     ensures read_fault { result.outcome ≡ Outcome.ReadFault → Rose (S.faults source.old) (S.faults source.new) }
     ensures write_fault { result.outcome ≡ Outcome.WriteFault → Rose (K.faults sink.old) (K.faults sink.new) }
-    ensures prefix { result.outcome ≡ Outcome.WriteFault → WritesPrefix words.now (drawn S.Source source.old source.new) (filled K.Sink sink.old sink.new) result.traces }
-    ensures worn { (a : Actor) → result.outcome ≡ Outcome.Worn a → WearsOut words.now (drawn S.Source source.old source.new) result.traces a }
-    ensures wears { (command : Command) → (text : List ℕ) → (traces : List (List Entry)) → (a : Actor) → Says words.now command
-        → Replays command → S.left source.old ≡ Some text → length text ≤ limit → IsWorn text traces a
+    ensures prefix { (words : List (String Global)) → Says words command → result.outcome ≡ Outcome.WriteFault
+        → WritesPrefix words (drawn S.Source source.old source.new) (filled K.Sink sink.old sink.new) result.traces }
+    ensures worn { (words : List (String Global)) → Says words command → (a : Actor) → result.outcome ≡ Outcome.Worn a
+        → WearsOut words (drawn S.Source source.old source.new) result.traces a }
+    ensures wears { (text : List ℕ) → (traces : List (List Entry)) → (a : Actor) → Replays command
+        → S.left source.old ≡ Some text → length text ≤ limit → IsWorn text traces a
         → ¬ Rose (S.faults source.old) (S.faults source.new)
         → (result.outcome ≡ Outcome.Worn a) ⊎ (result.outcome ≡ Outcome.Memory) }
-    ensures judged { (command : Command) → Says words.now command
-        → IfSome (S.left source.old) (λ text. IsJudged command text result.outcome) }
-    ensures faulty { (command : Command) → (text : List ℕ) → (outcome : Outcome) → Says words.now command
-        → S.left source.old ≡ Some text → IsFaulty command text outcome
+    ensures judged { IfSome (S.left source.old) (λ text. IsJudged command text result.outcome) }
+    ensures faulty { (text : List ℕ) → (outcome : Outcome) → S.left source.old ≡ Some text → IsFaulty command text outcome
         → ¬ Rose (S.faults source.old) (S.faults source.new)
         → (result.outcome ≡ outcome) ⊎ (result.outcome ≡ Outcome.Memory) }
-    ensures complete { (command : Command) → (text : List ℕ) → Says words.now command
-        → S.left source.old ≡ Some text → length text ≤ limit → IsTaken command text
+    ensures complete { (text : List ℕ) → S.left source.old ≡ Some text → length text ≤ limit → IsTaken command text
         → ¬ Rose (S.faults source.old) (S.faults source.new)
         → ¬ Rose (K.faults sink.old) (K.faults sink.new)
         → (result.outcome ≡ Outcome.Fine) ⊎ (result.outcome ≡ Outcome.Memory)
         ⊎ ((a : Actor) × (result.outcome ≡ Outcome.Worn a)) }
     ensures silent { IsSilent result.outcome → sink.new ≡ sink.old }
     ensures no_traces { HasNoTraces result.outcome → result.traces ≡ [] }
-    ensures untouched { result.outcome ≡ Outcome.Usage → source.new ≡ source.old }
     ensures source_faults { S.faults source.old ≤ S.faults source.new }
     ensures sink_faults { K.faults sink.old ≤ K.faults sink.new }
 {
-    let Some(command) = command_of(words) else {
-        return silent(alloc, Outcome::Usage);
-    };
     match read_and_answer(alloc, command, source) {
         Ok(Ended::Whole(made)) => write(sink, made),
         Ok(Ended::Refused { line, traces }) => refused(line, traces),

@@ -1,4 +1,4 @@
-use hx_words::{Run, Share, Soak, run_of, share_of, soak_of};
+use hx_words::{Command, Question, Request, Run, Share, Soak, request_of};
 use std::process::Abort;
 
 const OPTIONS: [&str; 5] = [
@@ -108,19 +108,30 @@ fn words<R: Abort + AllocGlobal>(rt: &R, line: &str) -> Vec<String> {
     words
 }
 
-fn run<R: Abort + AllocGlobal>(rt: &R, line: &str) -> Option<Run> {
+fn request<R: Abort + AllocGlobal>(rt: &R, line: &str) -> Option<Request> {
     let words = words(rt, line);
-    run_of(words.as_slice())
+    request_of(words.as_slice())
+}
+
+fn run<R: Abort + AllocGlobal>(rt: &R, line: &str) -> Option<Run> {
+    match request(rt, line) {
+        Some(Request::Run(run)) => Some(run),
+        _ => None,
+    }
 }
 
 fn soak<R: Abort + AllocGlobal>(rt: &R, line: &str) -> Option<Soak> {
-    let words = words(rt, line);
-    soak_of(words.as_slice())
+    match request(rt, line) {
+        Some(Request::Soak(soak)) => Some(soak),
+        _ => None,
+    }
 }
 
 fn share<R: Abort + AllocGlobal>(rt: &R, line: &str) -> Option<Share> {
-    let words = words(rt, line);
-    share_of(words.as_slice())
+    match request(rt, line) {
+        Some(Request::Share(share)) => Some(share),
+        _ => None,
+    }
 }
 
 /// The options of these places, one after the other.
@@ -136,6 +147,27 @@ fn run_with<R: Abort + AllocGlobal>(rt: &R, places: [usize; 5]) -> Option<Run> {
 /// Whether each of the five places is among these.
 fn differ(places: [usize; 5]) -> bool {
     (0..5).all(|place| places.contains(&place))
+}
+
+#[test]
+fn a_name_alone_is_a_request(rt: HostRuntime) {
+    let replay = Command::Replay { with_trace: false };
+    let traced = Command::Replay { with_trace: true };
+    assert!(rt; request(&rt, "replay") == Some(Request::Command(replay)));
+    assert!(rt; request(&rt, "replay --trace") == Some(Request::Command(traced)));
+    assert!(rt; request(&rt, "plan") == Some(Request::Command(Command::Plan)));
+    assert!(rt; request(&rt, "audit") == Some(Request::Audit));
+    assert!(rt; request(&rt, "--help") == Some(Request::Question(Question::Help)));
+    assert!(rt; request(&rt, "--version") == Some(Request::Question(Question::Version)));
+    for line in [
+        "",
+        "plan plan",
+        "audit --trace",
+        "--help --version",
+        "replay replay",
+    ] {
+        assert!(rt; request(&rt, line) == None, "{line}");
+    }
 }
 
 #[test]

@@ -1,6 +1,7 @@
 pub mod Decimals
 pub mod Words
 pub mod Sayings
-pub mod Runs
-pub mod Soaks
-pub mod Shares
+pub mod Limiting
+pub mod Choices
+pub mod Names
+pub mod Lemmas

@@ -24,7 +24,7 @@ spoken option rest e = absurd (at option (ap length e))
     at (Seed n) e = omega (arith, e)
     at Trace e = omega (arith, e)
 
-none_said : (before after : Chosen) → AreSaid [] before after ↔ (before ≡ after)
+pub none_said : (before after : Chosen) → AreSaid [] before after ↔ (before ≡ after)
 none_said before after = (λ s. to s.options s.choose s.said, λ e. record { options = []; choose = e; said = refl })
   where
     to : (options : List CommandOption) → Choose before options after → [] ≡ flat_map words_of options → before ≡ after
@@ -32,7 +32,7 @@ none_said before after = (λ s. to s.options s.choose s.said, λ e. record { opt
     to (o ∷ os) h e = spoken o (flat_map words_of os) e
 
 -- the words of an option, and more: it was free, and the others are said after it
-first_said : (option : CommandOption) (rest : List (List ℕ)) (before after : Chosen) → IsWithin option → AreSaid (words_of option ++ rest) before after ↔ (IsFree before option × AreSaid rest (choosing before option) after)
+pub first_said : (option : CommandOption) (rest : List (List ℕ)) (before after : Chosen) → IsWithin option → AreSaid (words_of option ++ rest) before after ↔ (IsFree before option × AreSaid rest (choosing before option) after)
 first_said option rest before after within = (λ s. to s.options s.choose s.said, λ h. record { options = option ∷ h.1.options; choose = (within, h.0, h.1.choose); said = ap (λ words. words_of option ++ words) h.1.said })
   where
     matched : (o : CommandOption) (os : List CommandOption) → IsFree before o → Choose (choosing before o) os after → option ≡ o → rest ≡ flat_map words_of os → IsFree before option × AreSaid rest (choosing before option) after
@@ -94,6 +94,23 @@ taken answer option before h e free = none-some (choosing before option) (sym e 
 pub first_word : (words : List (String Global)) (name : String Global) → 1 ≤ length words → name ≡ get_or words 0 name → map string_bytes words ≡ string_bytes name ∷ map string_bytes (take (length words - 1) (drop 1 words))
 first_word [] name h e = absurd (omega (arith, h))
 first_word (w ∷ words) name h e = ap (λ x. string_bytes x ∷ map string_bytes words) (sym e) ∙ ap (λ xs. string_bytes name ∷ map string_bytes xs) (sym (take_all (length (w ∷ words) - 1) words (omega arith)))
+
+-- the first two words and the others
+pub two_words : (words : List (String Global)) (one two : String Global) → 2 ≤ length words → one ≡ get_or words 0 one → two ≡ get_or words 1 two
+    → map string_bytes words ≡ string_bytes one ∷ string_bytes two ∷ map string_bytes (take (length words - 2) (drop 2 words))
+two_words [] one two h e f = absurd (omega (arith, h))
+two_words (v ∷ []) one two h e f = absurd (omega (arith, h))
+two_words (v ∷ w ∷ words) one two h e f =
+    ap (λ x. string_bytes x ∷ string_bytes w ∷ map string_bytes words) (sym e)
+    ∙ ap (λ x. string_bytes one ∷ string_bytes x ∷ map string_bytes words) (sym f)
+    ∙ ap (λ xs. string_bytes one ∷ string_bytes two ∷ map string_bytes xs) (sym (take_all (length (v ∷ w ∷ words) - 2) words (omega arith)))
+
+-- one word alone
+pub one_word : (words : List (String Global)) (name : String Global) → 1 ≤ length words → length words < 2 → name ≡ get_or words 0 name
+    → map string_bytes words ≡ string_bytes name ∷ []
+one_word [] name h g e = absurd (omega (arith, h))
+one_word (w ∷ []) name h g e = ap (λ x. string_bytes x ∷ []) (sym e)
+one_word (v ∷ w ∷ words) name h g e = absurd (omega (arith, g))
 
 pub nothing_left : (words : List (String Global)) (before after : Chosen) → length words < 1 → (Some before ≡ Some after) ↔ AreSaid (map string_bytes words) before after
 nothing_left [] before after h = (λ e. (none_said before after).1 (same_Some before after e), λ s. ap Some ((none_said before after).0 s))

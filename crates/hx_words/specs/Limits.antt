@@ -1,6 +1,8 @@
 -- The limits of commands.
-use Rattle.std.specs.Prelude.{◌≤◌}
+use Rattle.std.specs.Prelude.{◌≤◌, ⊤}
 use Rattle.hx_types.specs.declared.limits.TheConstants.{MOST_CALLS}
+use Rattle.hx_words.specs.declared.commands.Request.{Request}
+use Rattle.hx_words.specs.declared.commands.Request.TheVariants as a_request
 use Rattle.hx_words.specs.declared.commands.Run.{Run}
 use Rattle.hx_words.specs.declared.commands.Share.{Share}
 use Rattle.hx_words.specs.declared.commands.Soak.{Soak}
@@ -20,3 +22,12 @@ pub record IsSoak (soak : Soak) : Type 0 where
 pub record IsShare (share : Share) : Type 0 where
   pub some_workers : 1 ≤ share.workers
   pub workers : share.workers ≤ 16
+
+-- the numbers of a request are within their limits
+abbrev pub HasLimits : Request → Type 0
+HasLimits (a_request.Command command) = ⊤
+HasLimits a_request.Audit = ⊤
+HasLimits (a_request.Run run) = IsRun run
+HasLimits (a_request.Soak soak) = IsSoak soak
+HasLimits (a_request.Share share) = IsShare share
+HasLimits (a_request.Question question) = ⊤
