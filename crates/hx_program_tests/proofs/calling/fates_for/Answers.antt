@@ -30,10 +30,3 @@ returns-in_default g c =
       run = λ run says. let asked = (c.request_of.ensures.said (a_request.Run run)).1 says in absurd (search rules);
       soak = λ soak says. let asked = (c.request_of.ensures.said (a_request.Soak soak)).1 says in absurd (search rules);
     }
-
-pub returns-in_default-2 : goal.returns-in_default-2
-returns-in_default-2 g c =
-    record {
-      run = λ run says. let asked = (c.request_of.ensures.said (a_request.Run run)).1 says in absurd (search rules);
-      soak = λ soak says. let asked = (c.request_of.ensures.said (a_request.Soak soak)).1 says in absurd (search rules);
-    }
