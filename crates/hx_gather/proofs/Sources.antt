@@ -23,8 +23,8 @@ use Rattle.hx_clock.specs.Parts.{all_of, stamps_of, IsCausal}
 use Rattle.hx_clock.proofs.Lemmas.{each_all, each_in}
 use Rattle.hx_law_threads.proofs.Lemmas.{in_permuted, map_append}
 use Rattle.hx_law_threads.specs.Merged.{IsMerged}
-use Rattle.hx_trace.specs.Turns.{IsTurnOf, stamped_at}
-use Rattle.hx_gather.specs.Stretches.{numbered, stretches_from, stretches_of, turns_in, AreTurns, StretchSeen}
+use Rattle.hx_trace.specs.Places.{IsPlaceIn, stamped_at}
+use Rattle.hx_gather.specs.Stretches.{numbered, places_in, stretches_from, stretches_of, ArePlaces, StretchSeen}
 use Rattle.hx_gather.proofs.Stretched.{all_entries, all_from, all_stretches, both_all, entries_in, IsStretchOf}
 use Rattle.hx_gather.proofs.Ordered.{by_stamp, entries_rise, sorted_stretches}
 
@@ -63,26 +63,26 @@ sorted_lists n [] h = All-nil (IsSortedBy by_stamp)
 sorted_lists n (p ∷ ps) h =
     All-cons (IsSortedBy by_stamp) (stretches_from n 0 p) (numbered (λ place part. stretches_from place 0 part) (n + 1) ps) (sorted_stretches n p h.0) (sorted_lists (n + 1) ps h.1)
 
--- stretches in the order of their stamps, each once, are seen as turns of all entries
-each_turn : (parts : List (List Stamped)) (ss : List StretchSeen) → AllByRecursion (IsStretchOf parts) ss → AllByRecursion (IsTurnOf parts) (flat_map turns_in ss)
-each_turn parts [] w = tt
-each_turn parts (s ∷ ss) w = both_all (IsTurnOf parts) (turns_in s) (flat_map turns_in ss) w.0.turns (each_turn parts ss w.1)
+-- stretches in the order of their stamps, each once, are seen as places of all entries
+each_place : (parts : List (List Stamped)) (ss : List StretchSeen) → AllByRecursion (IsStretchOf parts) ss → AllByRecursion (IsPlaceIn parts) (flat_map places_in ss)
+each_place parts [] w = tt
+each_place parts (s ∷ ss) w = both_all (IsPlaceIn parts) (places_in s) (flat_map places_in ss) w.0.places (each_place parts ss w.1)
 
-turns_found : (parts : List (List Stamped)) (ss : List StretchSeen) → AllByRecursion (IsStretchOf parts) ss → map (stamped_at parts) (flat_map turns_in ss) ≡ entries_in ss
-turns_found parts [] w = refl
-turns_found parts (s ∷ ss) w =
-    let rest = turns_found parts ss w.1 in
-    map_append (stamped_at parts) (turns_in s) (flat_map turns_in ss) ∙ (λ i. w.0.found i ++ rest i)
+places_found : (parts : List (List Stamped)) (ss : List StretchSeen) → AllByRecursion (IsStretchOf parts) ss → map (stamped_at parts) (flat_map places_in ss) ≡ entries_in ss
+places_found parts [] w = refl
+places_found parts (s ∷ ss) w =
+    let rest = places_found parts ss w.1 in
+    map_append (stamped_at parts) (places_in s) (flat_map places_in ss) ∙ (λ i. w.0.found i ++ rest i)
 
-are_turns : (parts : List (List Stamped)) (ss : List StretchSeen) → IsCausal parts → IsPermutation (all_from 0 parts) ss → IsSortedBy by_stamp ss → AreTurns (flat_map turns_in ss) parts
-are_turns parts ss causal perm up =
+are_places : (parts : List (List Stamped)) (ss : List StretchSeen) → IsCausal parts → IsPermutation (all_from 0 parts) ss → IsSortedBy by_stamp ss → ArePlaces (flat_map places_in ss) parts
+are_places parts ss causal perm up =
     let each : AllByRecursion (IsStretchOf parts) (all_from 0 parts) = all_stretches parts 0 parts (λ k lt. let z : 0 + k ≡ k = omega arith in ap (λ n. slice_index_or parts n []) z) in
     let w : AllByRecursion (IsStretchOf parts) ss = each_all (IsStretchOf parts) ss (λ s i. each_in (IsStretchOf parts) (all_from 0 parts) s each (in_permuted ss (all_from 0 parts) s (IsPermutation-sym _ _ perm) i)) in
     let all : IsPermutation (all_of parts) (entries_in ss) = subst (λ l. IsPermutation l (entries_in ss)) (all_entries 0 parts) (flat-permutation (λ (s : StretchSeen). s.entries) (all_from 0 parts) ss perm) in
     let differ = IsDistinct-IsPermutation eqb (λ x y. grind (arith, nat_tests)) _ _ (IsPermutation-map (λ (x : Stamped). x.stamp.0) _ _ all) causal.differ in
     record {
-      each = each_turn parts ss w;
-      merged = subst (IsMerged parts) (sym (turns_found parts ss w)) (record { all = all; by_stamp = entries_rise parts ss w up differ });
+      each = each_place parts ss w;
+      merged = subst (IsMerged parts) (sym (places_found parts ss w)) (record { all = all; by_stamp = entries_rise parts ss w up differ });
     }
 
 module _ {Y F W : Type 0} (computes : F → (StretchSeen → StretchSeen → Bool) → Type 0) (parts : List (List Stamped)) (it : IntoIter (List StretchSeen) Y) (m n : KMergeBy (List StretchSeen) F W StretchSeen)
@@ -94,7 +94,7 @@ module _ {Y F W : Type 0} (computes : F → (StretchSeen → StretchSeen → Boo
       → ((x y : StretchSeen) → lt x y ≡ by_stamp x y)
       → WholeRun into_iter_steps it (λ p. (ls : List (List StretchSeen)) → SourcesGive (λ (s r : List StretchSeen). r ≡ s) steps p.items ls → MergeGivesAll steps computes m ls)
       → WholeRun into_iter_steps it (λ p. IsStrictWeakOrder lt → (ls : List (List StretchSeen)) → SourcesGive (λ (s r : List StretchSeen). r ≡ s) steps p.items ls → All (IsSortedBy lt) ls → MergeInOrder steps computes lt m)
-      → n ≡ m → DrainsIf (kmerge_steps steps computes) (Unit {0}) n xs → AreTurns (flat_map turns_in xs) parts
+      → n ≡ m → DrainsIf (kmerge_steps steps computes) (Unit {0}) n xs → ArePlaces (flat_map places_in xs) parts
   merges causal is runs same items order begins started =
       let drained = subst (λ m. DrainsIf (kmerge_steps steps computes) (Unit {0}) m xs) begins started in
       let read : (p : Run (into_iter_steps {X = List StretchSeen} {Z = Y})) → p.from ≡ it → p.whole ≡ true → p.items ≡ stretches_of parts = λ p from whole. (runs p p.seen).4 whole ∙ ap into_iter_items from ∙ is in
@@ -103,7 +103,7 @@ module _ {Y F W : Type 0} (computes : F → (StretchSeen → StretchSeen → Boo
       let perm = merged_items into_iter_steps it (λ (s r : List StretchSeen). r ≡ s) steps computes m (stretches_of parts) (stretches_of parts) xs read src drained items in
       let up = merged_order into_iter_steps it (λ (s r : List StretchSeen). r ≡ s) steps computes m (stretches_of parts) (stretches_of parts) xs read src drained lt order
       (subst IsStrictWeakOrder alike (IsStrictWeakOrder-by_number (λ (s : StretchSeen). s.stamp))) (subst (λ lt. All (IsSortedBy lt) (stretches_of parts)) alike (sorted_lists 0 parts causal.ascend)) in
-      are_turns parts xs causal perm (subst (λ lt. IsSortedBy lt xs) (sym alike) up)
+      are_places parts xs causal perm (subst (λ lt. IsSortedBy lt xs) (sym alike) up)
 
 equal-case : (c : Bool) → is_lt (cond c Equal Greater) ≡ false
 equal-case true = refl

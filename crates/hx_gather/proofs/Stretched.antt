@@ -10,9 +10,9 @@ use Rattle.hx_types.specs.declared.ids.Stamp.{Stamp}
 use Rattle.hx_clock.proofs.Lemmas.{some_same}
 use Rattle.hx_clock.specs.declared.parts.Stamped.{Stamped}
 use Rattle.hx_clock.specs.Parts.{all_of}
-use Rattle.hx_trace.specs.declared.turns.Turn.{Turn}
-use Rattle.hx_trace.specs.Turns.{IsTurnOf, no_entry, part_at, stamped_at, turned}
-use Rattle.hx_gather.specs.Stretches.{begun_with, following, numbered, stretches_from, stretches_of, turn_at, turns_in, with_first, StretchSeen}
+use Rattle.hx_trace.specs.declared.places.EntryPlace.{EntryPlace}
+use Rattle.hx_trace.specs.Places.{IsPlaceIn, no_entry, part_at, placed, stamped_at}
+use Rattle.hx_gather.specs.Stretches.{begun_with, following, numbered, place_at, places_in, stretches_from, stretches_of, with_first, StretchSeen}
 
 -- ---- the first stretch
 
@@ -90,10 +90,11 @@ abbrev pub IsFollowing : ℕ → List Stamped → Type 0
 IsFollowing n [] = ⊤
 IsFollowing n (x ∷ xs) = (x.stamp.0 ≡ n) × IsFollowing (n + 1) xs
 
--- the turns of a stretch are those of its entries, of which there are some, and whose stamps follow one another
+-- the places of a stretch are those of its entries, of which there are some, and whose stamps
+-- follow one another
 pub record IsStretchOf (parts : List (List Stamped)) (s : StretchSeen) : Type 0 where
-  pub turns : AllByRecursion (IsTurnOf parts) (turns_in s)
-  pub found : map (stamped_at parts) (turns_in s) ≡ s.entries
+  pub places : AllByRecursion (IsPlaceIn parts) (places_in s)
+  pub found : map (stamped_at parts) (places_in s) ≡ s.entries
   pub some : 0 < length s.entries
   pub follow : IsFollowing s.stamp s.entries
 
@@ -129,19 +130,19 @@ are_here parts part at (x ∷ xs) le h =
           (λ k lt. let next : at + 1 + k ≡ at + suc k = omega arith in ap (λ n. get_or (part_at parts part) n no_entry) next ∙ h (suc k) (omega (arith, lt))),
     )
 
-turn_here : (parts : List (List Stamped)) (part at : ℕ) (x : Stamped) → IsHere parts part at x → IsTurnOf parts (turn_at part at x)
-turn_here parts part at x h = record { there = h.0; notes = ap (λ (y : Stamped). nat_lt 0 (length y.entry.notes)) (sym h.1) }
+place_here : (parts : List (List Stamped)) (part at : ℕ) (x : Stamped) → IsHere parts part at x → IsPlaceIn parts (place_at part at x)
+place_here parts part at x h = record { there = h.0; notes = ap (λ (y : Stamped). nat_lt 0 (length y.entry.notes)) (sym h.1) }
 
 alone : (parts : List (List Stamped)) (part at : ℕ) (x : Stamped) → IsHere parts part at x → IsStretchOf parts (begun_with part at x [])
-alone parts part at x h = record { turns = (turn_here parts part at x h, tt); found = ap (λ y. y ∷ []) h.1; some = omega arith; follow = (refl, tt) }
+alone parts part at x h = record { places = (place_here parts part at x h, tt); found = ap (λ y. y ∷ []) h.1; some = omega arith; follow = (refl, tt) }
 
 longer : (parts : List (List Stamped)) (part at : ℕ) (x : Stamped) (s : StretchSeen) → IsHere parts part at x → s.part ≡ part → s.at ≡ at + 1 → s.stamp ≡ x.stamp.0 + 1 → IsStretchOf parts s
     → IsStretchOf parts (begun_with part at x s.entries)
 longer parts part at x s h p a e w =
-    let same : turns_in s ≡ numbered (turn_at part) (at + 1) s.entries = λ i. numbered (turn_at (p i)) (a i) s.entries in
-    let found : map (stamped_at parts) (numbered (turn_at part) (at + 1) s.entries) ≡ s.entries = ap (map (stamped_at parts)) (sym same) ∙ w.found in
+    let same : places_in s ≡ numbered (place_at part) (at + 1) s.entries = λ i. numbered (place_at (p i)) (a i) s.entries in
+    let found : map (stamped_at parts) (numbered (place_at part) (at + 1) s.entries) ≡ s.entries = ap (map (stamped_at parts)) (sym same) ∙ w.found in
     record {
-      turns = (turn_here parts part at x h, subst (AllByRecursion (IsTurnOf parts)) same w.turns);
+      places = (place_here parts part at x h, subst (AllByRecursion (IsPlaceIn parts)) same w.places);
       found = λ i. h.1 i ∷ found i;
       some = omega arith;
       follow = (refl, subst (λ n. IsFollowing n s.entries) e w.follow);
@@ -274,11 +275,11 @@ long_get [] k x is = let none : None ≡ Some x = is in absurd (cc)
 long_get (y ∷ xs) zero x is = omega arith
 long_get (y ∷ xs) (suc k) x is = let h = long_get xs k x is in omega (arith, h)
 
--- one turn more of a run of a part
-pub turn_more : (old turns new : List Turn) (place start at : ℕ) (part : List Stamped) (t : Turn) (b : Bool) → new ≡ turns ++ t ∷ [] → turns ≡ old ++ numbered (turn_at place) start (slice_range part start at) → start ≤ at
-    → Some b ≡ option_map (λ (x : Stamped). nat_lt 0 (length x.entry.notes)) (slice_get part at) → t ≡ record { part = place; at = at; has_notes = b }
-    → new ≡ old ++ numbered (turn_at place) start (slice_range part start (at + 1))
-turn_more old turns new place start at part t b pushed before from is turn =
+-- one place more of a run of a part
+pub place_more : (old places new : List EntryPlace) (place start at : ℕ) (part : List Stamped) (p : EntryPlace) (b : Bool) → new ≡ places ++ p ∷ [] → places ≡ old ++ numbered (place_at place) start (slice_range part start at) → start ≤ at
+    → Some b ≡ option_map (λ (x : Stamped). nat_lt 0 (length x.entry.notes)) (slice_get part at) → p ≡ record { part = place; at = at; has_notes = b }
+    → new ≡ old ++ numbered (place_at place) start (slice_range part start (at + 1))
+place_more old places new place start at part p b pushed before from is here =
     let x = told (λ (x : Stamped). nat_lt 0 (length x.entry.notes)) (slice_get part at) b is in
     let k = at - start in
     let place_is : start + k ≡ at = omega (arith, from) in
@@ -288,15 +289,15 @@ turn_more old turns new place start at part t b pushed before from is turn =
     let within = long_get (drop start part) k x.0 there in
     let long : length (slice_range part start at) ≡ k = long_take (drop start part) k (omega (arith, within)) in
     let last : start + length (slice_range part start at) ≡ at = omega (arith, long, from) in
-    let is_turn : t ≡ turn_at place (start + length (slice_range part start at)) x.0 = turn ∙ (λ i. record { part = place; at = sym last i; has_notes = x.2 i }) in
-    pushed ∙ (λ i. before i ++ is_turn i ∷ []) ∙ append_assoc old (numbered (turn_at place) start (slice_range part start at)) (turn_at place (start + length (slice_range part start at)) x.0 ∷ [])
-    ∙ ap (λ l. old ++ l) (sym (numbered_end (turn_at place) start (slice_range part start at) x.0) ∙ ap (numbered (turn_at place) start) (sym longer))
+    let is_place : p ≡ place_at place (start + length (slice_range part start at)) x.0 = here ∙ (λ i. record { part = place; at = sym last i; has_notes = x.2 i }) in
+    pushed ∙ (λ i. before i ++ is_place i ∷ []) ∙ append_assoc old (numbered (place_at place) start (slice_range part start at)) (place_at place (start + length (slice_range part start at)) x.0 ∷ [])
+    ∙ ap (λ l. old ++ l) (sym (numbered_end (place_at place) start (slice_range part start at) x.0) ∙ ap (numbered (place_at place) start) (sym longer))
 
--- no turn yet
-pub no_turns : (old : List Turn) (place start : ℕ) (part : List Stamped) → old ≡ old ++ numbered (turn_at place) start (slice_range part start start)
-no_turns old place start part =
+-- no place yet
+pub no_places : (old : List EntryPlace) (place start : ℕ) (part : List Stamped) → old ≡ old ++ numbered (place_at place) start (slice_range part start start)
+no_places old place start part =
     let none : start - start ≡ 0 = omega arith in
-    sym (append-nil old) ∙ ap (λ n. old ++ numbered (turn_at place) start (take n (drop start part))) (sym none)
+    sym (append-nil old) ∙ ap (λ n. old ++ numbered (place_at place) start (take n (drop start part))) (sym none)
 
 -- ---- what is merged
 
@@ -315,6 +316,6 @@ sources_more parts place part old new more pushed before lt is stretches =
     let here : more ≡ stretches_from (0 + place) 0 (get_or parts place part) = stretches ∙ (λ i. stretches_from (zeroth i) 0 (is i)) in
     pushed ∙ (λ i. before i ++ here i ∷ []) ∙ sym (numbered_more (λ n p. stretches_from n 0 p) 0 parts place part lt) ∙ ap (λ k. stretches_of (take k parts)) next
 
-pub turned_entries : (parts : List (List Stamped)) (turns : List Turn) → map (turned parts) turns ≡ map (λ (x : Stamped). x.entry) (map (stamped_at parts) turns)
-turned_entries parts [] = refl
-turned_entries parts (t ∷ ts) = ap (λ es. turned parts t ∷ es) (turned_entries parts ts)
+pub placed_entries : (parts : List (List Stamped)) (places : List EntryPlace) → map (placed parts) places ≡ map (λ (x : Stamped). x.entry) (map (stamped_at parts) places)
+placed_entries parts [] = refl
+placed_entries parts (p ∷ ps) = ap (λ es. placed parts p ∷ es) (placed_entries parts ps)

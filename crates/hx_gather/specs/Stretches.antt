@@ -3,8 +3,8 @@ use Rattle.std.specs.Prelude.{ℕ, suc, ◌+◌, ◌<◌, ◌≤◌, ◌^◌, co
 use Rattle.std.specs.List.{AllByRecursion}
 use Rattle.hx_clock.specs.declared.parts.Stamped.{Stamped}
 use Rattle.hx_law_threads.specs.Merged.{IsMerged}
-use Rattle.hx_trace.specs.declared.turns.Turn.{Turn}
-use Rattle.hx_trace.specs.Turns.{IsTurnOf, stamped_at}
+use Rattle.hx_trace.specs.declared.places.EntryPlace.{EntryPlace}
+use Rattle.hx_trace.specs.Places.{IsPlaceIn, stamped_at}
 
 -- the place of the part, the place in it of the first entry, that entry's stamp, and the entries
 pub record StretchSeen : Type 0 where
@@ -47,15 +47,15 @@ abbrev pub following : ℕ → List Stamped → ℕ
 following n [] = 0
 following n (x ∷ xs) = cond (eqb x.stamp.0 n) (suc (following (n + 1) xs)) 0
 
--- the turn of an entry that stands at a place of its part
-abbrev pub turn_at : ℕ → ℕ → Stamped → Turn
-turn_at part at x = record { part = part; at = at; has_notes = nat_lt 0 (length x.entry.notes) }
+-- the place of an entry, by the numbers of its part and of it in the part
+abbrev pub place_at : ℕ → ℕ → Stamped → EntryPlace
+place_at part at x = record { part = part; at = at; has_notes = nat_lt 0 (length x.entry.notes) }
 
--- the turns of the entries of a stretch
-abbrev pub turns_in : StretchSeen → List Turn
-turns_in s = numbered (turn_at s.part) s.at s.entries
+-- the places of the entries of a stretch
+abbrev pub places_in : StretchSeen → List EntryPlace
+places_in s = numbered (place_at s.part) s.at s.entries
 
--- the turns are those of all entries of the parts, in the order of their stamps
-pub record AreTurns (turns : List Turn) (parts : List (List Stamped)) : Type 0 where
-  pub each : AllByRecursion (IsTurnOf parts) turns
-  pub merged : IsMerged parts (map (stamped_at parts) turns)
+-- the places are those of all entries of the parts, in the order of their stamps
+pub record ArePlaces (places : List EntryPlace) (parts : List (List Stamped)) : Type 0 where
+  pub each : AllByRecursion (IsPlaceIn parts) places
+  pub merged : IsMerged parts (map (stamped_at parts) places)

@@ -2,19 +2,19 @@ ghost use Rattle.std.specs.Prelude.{◌≡◌, ◌<◌, ◌^◌, List, length, m
 ghost use Rattle.hx_clock.specs.declared.parts.Stamped.{Stamped};
 ghost use Rattle.hx_clock.specs.Parts.{all_of, IsCausal};
 ghost use Rattle.hx_law_threads.specs.Merged.{IsMerged};
-ghost use Rattle.hx_gather.specs.Stretches.{stretches_of, AreTurns};
+ghost use Rattle.hx_gather.specs.Stretches.{stretches_of, ArePlaces};
 
 use crate::stretches::Stretches;
 use hx_clock::{Part, Parts};
-use hx_trace::{Trace, Turn};
+use hx_trace::{EntryPlace, Trace};
 use hx_types::Memory;
 use itertools::Itertools;
 use std::alloc::Global;
 
 /// All entries of causal parts in the order of their stamps, and nothing else. It moves no entry:
-/// each has its turn, and stays where it lies. What is merged are stretches of entries whose stamps
-/// follow one another, as each thread gives an actor several turns together, and these are fewer
-/// than the entries.
+/// each stays where it lies, and the trace has its place. What is merged are stretches of entries
+/// whose stamps follow one another, as each thread gives an actor several turns together, and these
+/// are fewer than the entries.
 ///
 /// Beside the parts there is memory for eight bytes for each entry, and for a stretch of each part.
 /// Where there is not enough, or there are 4,294,967,296 entries or 65,536 parts, the entries are
@@ -23,25 +23,25 @@ pub fn merge(alloc: Global, parts: Parts) -> Result<Trace, Memory>
     requires causal { IsCausal parts }
     ensures merged { IfOk result (λ trace. (merged : List Stamped) × IsMerged parts merged × (trace ≡ map (λ x. x.entry) merged)) }
 {
-    let turns = turns_of(alloc, parts.as_slice())?;
-    Ok(Trace::of_parts(alloc, parts, turns))
+    let places = places_of(alloc, parts.as_slice())?;
+    Ok(Trace::of_parts(alloc, parts, places))
 }
 
-/// The turns of all entries, in the order of their stamps.
-fn turns_of(alloc: Global, parts: &[Part]) -> Result<Vec<Turn>, Memory>
+/// The places of all entries, in the order of their stamps.
+fn places_of(alloc: Global, parts: &[Part]) -> Result<Vec<EntryPlace>, Memory>
     requires causal { IsCausal parts.now }
-    ensures turns { IfOk result (λ turns. AreTurns turns.items parts.now) }
+    ensures places { IfOk result (λ places. ArePlaces places.items parts.now) }
 {
     let entries = entries_in(parts)?;
     if entries > u32::MAX as usize || parts.len() > usize::from(u16::MAX) {
         return Err(Memory);
     }
-    let mut turns = Vec::with_capacity(alloc, entries)?;
+    let mut places = Vec::with_capacity(alloc, entries)?;
     let sources = sources_of(alloc, parts)?;
     for stretch in sources.into_iter().kmerge(alloc)? {
-        stretch.take_turns(&mut turns)?;
+        stretch.put_places(&mut places)?;
     }
-    Ok(turns)
+    Ok(places)
 }
 
 /// The stretches of each part.

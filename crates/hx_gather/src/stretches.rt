@@ -4,10 +4,10 @@ ghost use Rattle.std.specs.Cmp.{partial_order_from_own_ties};
 ghost use Rattle.std.specs.Cmp.Rules.{comparing};
 ghost use Rattle.std.specs.Iterator.{YieldsFirst, item_count};
 ghost use Rattle.std.specs.Ordering.{as_partial_cmp, nat_cmp, on};
-ghost use Rattle.hx_gather.specs.Stretches.{IsRunIn, following, stretches_from, turns_in};
+ghost use Rattle.hx_gather.specs.Stretches.{IsRunIn, following, places_in, stretches_from};
 
 use hx_clock::Part;
-use hx_trace::Turn;
+use hx_trace::EntryPlace;
 use hx_types::Memory;
 use std::cmp::Ordering;
 use std::marker::Model;
@@ -75,12 +75,12 @@ impl<'a> PartialOrd for Stretch<'a> {
 }
 
 impl<'a> Stretch<'a> {
-    /// Puts the turns of its entries at the end.
-    pub(crate) fn take_turns(&self, turns: &mut Vec<Turn>) -> Result<(), Memory>
-        ensures { OnOk result (turns.new.items ≡ turns.old.items ++ turns_in self.now) }
+    /// Puts the places of its entries at the end.
+    pub(crate) fn put_places(&self, places: &mut Vec<EntryPlace>) -> Result<(), Memory>
+        ensures { OnOk result (places.new.items ≡ places.old.items ++ places_in self.now) }
     {
         for at in self.at..self.end {
-            turns.push(Turn {
+            places.push(EntryPlace {
                 part: self.place,
                 at,
                 has_notes: self.part.has_notes(at as usize),

@@ -14,7 +14,7 @@ use Rattle.hx_trace.specs.Lists.{AreWhole, entries_by, entries_in, entry_by, fil
 use Rattle.hx_trace.proofs.Longer.{entry_at_head, head_in, length_entries, no_entry_at}
 use Rattle.hx_trace.specs.Rooms.{HasItsRoom, IsRoomFor}
 use Rattle.hx_clock.specs.declared.rooms.Room.{Room}
-use Rattle.hx_trace.specs.Turns.{turned}
+use Rattle.hx_trace.specs.Places.{placed}
 use Rattle.hx_trace.proofs.Numbering.{entry_is, no_entry}
 use Rattle.hx_clock.proofs.Lemmas.{get_range, get_within_range}
 
@@ -90,12 +90,12 @@ lies_at posts notes wholes first hs id p h past =
     by_head posts notes wholes hs (id.entry - 1 - length first) id.place p (slice_get hs (id.entry - 1 - length first)) refl
     (ap (λ (o : Option Entry). when_some o None (λ (x : Entry). slice_get x.outputs id.place)) (sym here) ∙ sym (post_at (first ++ entries) id some) ∙ h)
 
--- the same for the entries of lists, whose heads come after so many turns
-pub lies_in : (l : Lists) (id : PostId) (p : Post) (turns place : ℕ) → post_named id (reverse (entries_in l)) ≡ Some p → turns ≡ length l.turns.items → turns ≤ id.entry - 1 → place ≡ id.entry - 1 - turns
+-- the same for the entries of lists, whose heads come after so many places
+pub lies_in : (l : Lists) (id : PostId) (p : Post) (places place : ℕ) → post_named id (reverse (entries_in l)) ≡ Some p → places ≡ length l.places.items → places ≤ id.entry - 1 → place ≡ id.entry - 1 - places
     → LiesAt l.posts.items l.notes.items l.wholes.items l.heads.items place id.place p
-lies_in l id p turns place sent many past is =
-    let first : List Entry = map (turned l.parts.items) l.turns.items in
-    let long : length first ≡ length l.turns.items = length-map l.turns.items (turned l.parts.items) in
+lies_in l id p places place sent many past is =
+    let first : List Entry = map (placed l.parts.items) l.places.items in
+    let long : length first ≡ length l.places.items = length-map l.places.items (placed l.parts.items) in
     let at : id.entry - 1 - length first ≡ place = omega (arith, long, many, is) in
     subst (λ k. LiesAt l.posts.items l.notes.items l.wholes.items l.heads.items k id.place p) at
     (lies_at l.posts.items l.notes.items l.wholes.items first l.heads.items id p sent (omega (arith, long, many, past)))
@@ -128,12 +128,12 @@ post_filed posts notes wholes hs i place p head at is none =
     filed_post posts notes wholes head (slice_get hs (suc i)) place p none (same_head posts notes wholes hs i place p head at is)
 
 -- the entry of the head at a place
-head_entry : (l : Lists) (id : PostId) (turns number place : ℕ) (head : Head) → turns ≡ length l.turns.items → (1 ≤ id.entry) × (number ≡ id.entry - 1) → (turns ≤ number) × (place ≡ number - turns)
+head_entry : (l : Lists) (id : PostId) (places number place : ℕ) (head : Head) → places ≡ length l.places.items → (1 ≤ id.entry) × (number ≡ id.entry - 1) → (places ≤ number) × (place ≡ number - places)
     → slice_get l.heads.items place ≡ Some head → slice_get (entries_in l) (id.entry - 1) ≡ Some (entry_by l.posts.items l.notes.items l.wholes.items head (slice_get l.heads.items (suc place)))
-head_entry l id turns number place head many from past is =
-    let first : List Entry = map (turned l.parts.items) l.turns.items in
+head_entry l id places number place head many from past is =
+    let first : List Entry = map (placed l.parts.items) l.places.items in
     let rest : List Entry = entries_by l.posts.items l.notes.items l.wholes.items l.heads.items in
-    let long : length first ≡ length l.turns.items = length-map l.turns.items (turned l.parts.items) in
+    let long : length first ≡ length l.places.items = length-map l.places.items (placed l.parts.items) in
     let at : id.entry - 1 - length first ≡ place = omega (arith, long, many, from, past) in
     get_after first rest (id.entry - 1) (omega (arith, long, many, from, past))
     ∙ ap (λ k. slice_get rest k) at
@@ -144,13 +144,13 @@ filed_entry : (posts : List Post) (notes : List Note) (wholes : List Entry) (hea
 filed_entry posts notes wholes head next none = ap (λ (o : Option Entry). when_some o (filed_by posts notes head next) (λ whole. whole)) none
 
 -- a post of a name lies where the posts of its head start
-named_post : (l : Lists) (id : PostId) (turns number place : ℕ) (head : Head) → turns ≡ length l.turns.items → (1 ≤ id.entry) × (number ≡ id.entry - 1) → (turns ≤ number) × (place ≡ number - turns)
+named_post : (l : Lists) (id : PostId) (places number place : ℕ) (head : Head) → places ≡ length l.places.items → (1 ≤ id.entry) × (number ≡ id.entry - 1) → (places ≤ number) × (place ≡ number - places)
     → slice_get l.heads.items place ≡ Some head → whole_by l.wholes.items head.input ≡ None → head.posts + id.place < posts_from (length l.posts.items) (slice_get l.heads.items (suc place))
     → slice_get l.posts.items (head.posts + id.place) ≡ post_named id (reverse (entries_in l))
-named_post l id turns number place head many from past is none few =
+named_post l id places number place head many from past is none few =
     sym (get_within_range l.posts.items head.posts (posts_from (length l.posts.items) (slice_get l.heads.items (suc place))) id.place few)
     ∙ ap (λ (e : Entry). slice_get e.outputs id.place) (sym (filed_entry l.posts.items l.notes.items l.wholes.items head (slice_get l.heads.items (suc place)) none))
-    ∙ ap (λ (o : Option Entry). when_some o None (λ (x : Entry). slice_get x.outputs id.place)) (sym (head_entry l id turns number place head many from past is))
+    ∙ ap (λ (o : Option Entry). when_some o None (λ (x : Entry). slice_get x.outputs id.place)) (sym (head_entry l id places number place head many from past is))
     ∙ sym (post_at (entries_in l) id (omega (arith, from)))
 
 -- that place, if it is one of them
@@ -158,15 +158,15 @@ pub record IsPlaced (l : Lists) (id : PostId) (o : Option ℕ) : Type 0 where
   pub within : IfSome o (λ at. at < length l.posts.items)
   pub post : IfSome o (λ at. slice_get l.posts.items at ≡ post_named id (reverse (entries_in l)))
 
-pub filed_place : (l : Lists) (id : PostId) (turns number place : ℕ) (head : Head) → AreWhole l → turns ≡ length l.turns.items → (1 ≤ id.entry) × (number ≡ id.entry - 1) → (turns ≤ number) × (place ≡ number - turns)
+pub filed_place : (l : Lists) (id : PostId) (places number place : ℕ) (head : Head) → AreWhole l → places ≡ length l.places.items → (1 ≤ id.entry) × (number ≡ id.entry - 1) → (places ≤ number) × (place ≡ number - places)
     → slice_get l.heads.items place ≡ Some head → whole_by l.wholes.items head.input ≡ None
     → (end : ℕ) → end ≡ posts_from (length l.posts.items) (slice_get l.heads.items (suc place)) → (o : Option ℕ) → MatchOption o (end ≤ head.posts + id.place) (λ at. (at ≡ head.posts + id.place) × (at < end)) → IsPlaced l id o
-filed_place l id turns number place head whole many from past is none end ends None h = record { within = tt; post = tt }
-filed_place l id turns number place head whole many from past is none end ends (Some at) h =
+filed_place l id places number place head whole many from past is none end ends None h = record { within = tt; post = tt }
+filed_place l id places number place head whole many from past is none end ends (Some at) h =
     let lies = head_in (length l.posts.items) (length l.notes.items) (length l.wholes.items) l.heads.items place head whole.heads is in
     record {
       within = omega (arith, h.1, ends, lies.posts_within);
-      post = ap (λ k. slice_get l.posts.items k) h.0 ∙ named_post l id turns number place head many from past is none (omega (arith, h.0, h.1, ends));
+      post = ap (λ k. slice_get l.posts.items k) h.0 ∙ named_post l id places number place head many from past is none (omega (arith, h.0, h.1, ends));
     }
 
 -- a post that was sent is one of the entries
@@ -182,7 +182,7 @@ some_at [] i h = absurd (omega (arith, h))
 some_at (x ∷ xs) zero h = (x, refl)
 some_at (x ∷ xs) (suc i) h = some_at xs i (omega (arith, h))
 
-few_with_room : (l : Lists) (r : Option Room) (p n : ℕ) → HasItsRoom l r → IsRoomFor r p n → length l.turns.items + length l.heads.items + 1 < 4294967296
+few_with_room : (l : Lists) (r : Option Room) (p n : ℕ) → HasItsRoom l r → IsRoomFor r p n → length l.places.items + length l.heads.items + 1 < 4294967296
 few_with_room l None p n has for = absurd for
 few_with_room l (Some r) p n has for = has.few_entries
 
@@ -193,7 +193,7 @@ few_named l r p n id at has for within is =
     let sent = some_at l.posts.items at within in
     let number = sent_within (entries_in l) id sent.0 (sym is ∙ sent.1) in
     let few = few_with_room l r p n has for in
-    let long = length-append (map (turned l.parts.items) l.turns.items) (entries_by l.posts.items l.notes.items l.wholes.items l.heads.items) in
-    let turns = length-map l.turns.items (turned l.parts.items) in
+    let long = length-append (map (placed l.parts.items) l.places.items) (entries_by l.posts.items l.notes.items l.wholes.items l.heads.items) in
+    let places = length-map l.places.items (placed l.parts.items) in
     let heads = length_entries l.posts.items l.notes.items l.wholes.items l.heads.items in
-    omega (arith, number, few, long, turns, heads)
+    omega (arith, number, few, long, places, heads)

@@ -3,4 +3,4 @@ pub mod Entries
 pub mod Lists
 pub mod Lending
 pub mod Rooms
-pub mod Turns
+pub mod Places

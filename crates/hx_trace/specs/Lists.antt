@@ -1,5 +1,6 @@
--- How a trace lies in memory: first the entries of adopted parts, a turn for each, which lie in their parts; then a head for
--- each entry that was put at the end, and the posts and notes of these one after another. Those that are kept whole lie apart.
+-- How a trace lies in memory: first the entries of adopted parts, a place for each, since they lie
+-- in their parts; then a head for each entry that was put at the end, and the posts and notes of
+-- these one after another. Those that are kept whole lie apart.
 use Rattle.std.specs.Prelude.{◌≡◌, ◌⊎◌, ℕ, ◌+◌, ◌<◌, ◌≤◌, ◌^◌, ◌++◌, List, [], ◌∷◌, length, map, slice_get, slice_range, Option, None, Some, vec_capacity, ⊤}
 use Rattle.std.specs.List.{AllByRecursion}
 use Rattle.hx_model.specs.Types.{Coordinator, Deliver, Entry, Halt, Input, Note, Post, PostId, Tick}
@@ -8,8 +9,8 @@ use Rattle.hx_trace.specs.declared.heads.Head.{Head}
 use Rattle.hx_trace.specs.declared.heads.InputHead.{InputHead}
 use Rattle.hx_trace.specs.declared.heads.InputHead.TheVariants as a_head
 use Rattle.hx_trace.specs.declared.lists.Lists.{Lists}
-use Rattle.hx_trace.specs.declared.turns.Turn.{Turn}
-use Rattle.hx_trace.specs.Turns.{IsTurnOf, turned}
+use Rattle.hx_trace.specs.declared.places.EntryPlace.{EntryPlace}
+use Rattle.hx_trace.specs.Places.{IsPlaceIn, placed}
 
 -- the delivery of a post
 abbrev pub delivery : PostId → Option Post → Input
@@ -57,13 +58,13 @@ abbrev pub entries_by : List Post → List Note → List Entry → List Head →
 entries_by posts notes wholes [] = []
 entries_by posts notes wholes (h ∷ hs) = entry_by posts notes wholes h (slice_get hs 0) ∷ entries_by posts notes wholes hs
 
--- the entries of turns of the parts, and then those of heads of the lists
-abbrev pub entries_of : Lists → List Turn → List Head → List Entry
-entries_of l ts hs = map (turned l.parts.items) ts ++ entries_by l.posts.items l.notes.items l.wholes.items hs
+-- the entries at places in the parts, and then those of heads of the lists
+abbrev pub entries_of : Lists → List EntryPlace → List Head → List Entry
+entries_of l ps hs = map (placed l.parts.items) ps ++ entries_by l.posts.items l.notes.items l.wholes.items hs
 
 -- the entries of the lists
 abbrev pub entries_in : Lists → List Entry
-entries_in l = entries_of l l.turns.items l.heads.items
+entries_in l = entries_of l l.places.items l.heads.items
 
 -- what the head names lies in the lists
 abbrev pub IsInputIn : ℕ → ℕ → InputHead → Type 0
@@ -90,15 +91,16 @@ abbrev pub AreHeadsIn : ℕ → ℕ → ℕ → List Head → Type 0
 AreHeadsIn posts notes wholes [] = ⊤
 AreHeadsIn posts notes wholes (h ∷ hs) = IsHeadIn posts notes wholes h (slice_get hs 0) × AreHeadsIn posts notes wholes hs
 
--- each turn names an entry of its part, what each head names lies in the lists, and there are few posts and notes
-pub record AreIn (l : Lists) (ts : List Turn) (hs : List Head) : Type 0 where
-  pub turns : AllByRecursion (IsTurnOf l.parts.items) ts
+-- each place names an entry of its part, what each head names lies in the lists, and there are few
+-- posts and notes
+pub record AreIn (l : Lists) (ps : List EntryPlace) (hs : List Head) : Type 0 where
+  pub places : AllByRecursion (IsPlaceIn l.parts.items) ps
   pub heads : AreHeadsIn (length l.posts.items) (length l.notes.items) (length l.wholes.items) hs
   pub few_posts : length l.posts.items < 2 ^ 32
   pub few_notes : length l.notes.items < 2 ^ 32
 
 abbrev pub AreWhole : Lists → Type 0
-AreWhole l = AreIn l l.turns.items l.heads.items
+AreWhole l = AreIn l l.places.items l.heads.items
 
 -- the head of an entry that is kept whole, where there are so many posts, notes and such entries before it
 abbrev pub kept : ℕ → ℕ → ℕ → Head
@@ -112,7 +114,7 @@ pub record HasWholeRoom (l : Lists) : Type 0 where
 
 -- no entry is kept whole, and none was adopted
 pub record AreAllFiled (l : Lists) : Type 0 where
-  pub turns : length l.turns.items ≡ 0
+  pub places : length l.places.items ≡ 0
   pub wholes : length l.wholes.items ≡ 0
 
 -- there is room for one entry more with p posts and n notes, and for it as a whole where some entry isn't filed
@@ -120,14 +122,14 @@ pub record HasRoom (l : Lists) (p n : ℕ) : Type 0 where
   pub heads : length l.heads.items < vec_capacity l.heads
   pub posts : length l.posts.items + p ≤ vec_capacity l.posts
   pub notes : length l.notes.items + n ≤ vec_capacity l.notes
-  pub few_entries : length l.turns.items + length l.heads.items + 1 < 2 ^ 32
+  pub few_entries : length l.places.items + length l.heads.items + 1 < 2 ^ 32
   pub few_posts : length l.posts.items + p < 2 ^ 32
   pub few_notes : length l.notes.items + n < 2 ^ 32
   pub whole : AreAllFiled l ⊎ HasWholeRoom l
 
 -- the items of the lists are the same
 pub record IsSame (old new : Lists) : Type 0 where
-  pub turns : new.turns.items ≡ old.turns.items
+  pub places : new.places.items ≡ old.places.items
   pub heads : new.heads.items ≡ old.heads.items
   pub posts : new.posts.items ≡ old.posts.items
   pub notes : new.notes.items ≡ old.notes.items

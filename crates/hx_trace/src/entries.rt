@@ -3,15 +3,15 @@ ghost use Rattle.std.specs.Iterator.{YieldsFirstBy, item_count};
 ghost use Rattle.hx_trace.specs.Entries.{entry_seen};
 
 use crate::heads::Head;
-use crate::lists::{Lists, entry_of, entry_of_turn};
-use crate::turns::Turn;
+use crate::lists::{Lists, entry_in_part, entry_of};
+use crate::places::EntryPlace;
 use hx_clock::EntryRef;
 use std::marker::Model;
 
 /// The entries of a trace in order.
 #[derive(Drop)]
 pub struct Entries<'a> {
-    pub(crate) turns: &'a [Turn],
+    pub(crate) places: &'a [EntryPlace],
     pub(crate) heads: &'a [Head],
     pub(crate) lists: &'a Lists,
 }
@@ -23,9 +23,9 @@ impl<'a> Model for Entries<'a> {
 
     ghost Value = { List Entry };
 
-    ghost view = { λ e. entries_of e.lists.now e.turns.now e.heads.now };
+    ghost view = { λ e. entries_of e.lists.now e.places.now e.heads.now };
 
-    ghost invariant = { λ e. AreIn e.lists.now e.turns.now e.heads.now };
+    ghost invariant = { λ e. AreIn e.lists.now e.places.now e.heads.now };
 }
 
 impl<'a> Iterator for Entries<'a> {
@@ -37,9 +37,9 @@ impl<'a> Iterator for Entries<'a> {
 
     #[inline(always)]
     fn next(&mut self) -> Option<EntryRef<'a>> {
-        if let Some((turn, rest)) = self.turns.split_first() {
-            self.turns = rest;
-            return Some(entry_of_turn(self.lists, *turn));
+        if let Some((place, rest)) = self.places.split_first() {
+            self.places = rest;
+            return Some(entry_in_part(self.lists, *place));
         }
         let (head, rest) = self.heads.split_first()?;
         self.heads = rest;

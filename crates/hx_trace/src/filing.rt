@@ -15,7 +15,7 @@ pub fn has_room(lists: &Lists, posts: usize, notes: usize) -> bool
     fits(&lists.heads, 1)
         && fits(&lists.posts, posts)
         && fits(&lists.notes, notes)
-        && lists.turns.is_empty()
+        && lists.places.is_empty()
         && lists.wholes.is_empty()
 }
 
@@ -24,7 +24,7 @@ pub fn has_room(lists: &Lists, posts: usize, notes: usize) -> bool
 fn reserve_head(lists: &mut Lists) -> Result<(), Memory>
     ensures same { IsSame lists.old lists.new }
     ensures room { OnOk result (length lists.new.heads.items < vec_capacity lists.new.heads) }
-    ensures few { OnOk result (length lists.new.turns.items + length lists.new.heads.items + 1 < 2 ^ 32) }
+    ensures few { OnOk result (length lists.new.places.items + length lists.new.heads.items + 1 < 2 ^ 32) }
 {
     if !is_few(count(lists), 1) {
         return Err(Memory);
@@ -45,7 +45,7 @@ pub fn reserve(lists: &mut Lists, posts: usize, notes: usize) -> Result<(), Memo
     reserve_head(lists)?;
     make_room(&mut lists.posts, posts)?;
     make_room(&mut lists.notes, notes)?;
-    if lists.turns.is_empty() && lists.wholes.is_empty() {
+    if lists.places.is_empty() && lists.wholes.is_empty() {
         return Ok(());
     }
     make_room(&mut lists.wholes, 1)

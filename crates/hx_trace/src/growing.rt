@@ -5,12 +5,12 @@ ghost use Rattle.hx_types.specs.declared.traces.Input.TheVariants as an_input;
 ghost use Rattle.hx_model.specs.Runs.{MayTake, post_named};
 ghost use Rattle.hx_trace.specs.Lists.{AreAllFiled, AreWhole, IsFiledAs, delivery, entries_in};
 ghost use Rattle.hx_trace.specs.Rooms.{IsRoomFor, LiesAt};
-ghost use Rattle.hx_trace.specs.Turns.{IsTurnOf, turned};
+ghost use Rattle.hx_trace.specs.Places.{IsPlaceIn, placed};
 
 use crate::filing::{append_parts, append_whole, has_room, reserve, reserve_whole};
 use crate::heads::InputHead;
 use crate::lists::{Lists, adopted, count, empty, head_at, next_of, posts_end};
-use crate::turns::Turn;
+use crate::places::EntryPlace;
 use hx_clock::{Parts, Room};
 use hx_types::{Actor, Entry, Input, Memory, Message, Notes, Post, PostId, Posts};
 use std::alloc::Global;
@@ -45,7 +45,7 @@ impl Model for GrowingTrace {
 /// There is `None` where the post is one of an entry that is kept whole, which has no such place.
 fn head_of_input(lists: &Lists, actor: Actor, input: &Input) -> Option<InputHead>
     requires whole { AreWhole lists.now }
-    requires few_entries { length lists.now.turns.items + length lists.now.heads.items < 2 ^ 32 }
+    requires few_entries { length lists.now.places.items + length lists.now.heads.items < 2 ^ 32 }
     requires few_posts { length lists.now.posts.items < 2 ^ 32 }
     requires may { MayTake (reverse (entries_in lists.now)) actor input.now }
     ensures filed { IfSome result (IsFiledAs lists.now input.now) }
@@ -67,13 +67,13 @@ fn sent_at(
     message: &Message,
 ) -> Option<InputHead>
     requires whole { AreWhole lists.now }
-    requires few_entries { length lists.now.turns.items + length lists.now.heads.items < 2 ^ 32 }
+    requires few_entries { length lists.now.places.items + length lists.now.heads.items < 2 ^ 32 }
     requires few_posts { length lists.now.posts.items < 2 ^ 32 }
     requires sent { post_named id (reverse (entries_in lists.now)) ≡ Some (post from to message.now) }
     ensures filed { IfSome result (IsFiledAs lists.now (an_input.Deliver id from message.now)) }
     ensures unfiled { IfNone result (AreAllFiled lists.now → ⊥) }
 {
-    let place = (id.entry as usize - 1).checked_sub(lists.turns.len())?;
+    let place = (id.entry as usize - 1).checked_sub(lists.places.len())?;
     let Some(head) = head_at(lists, place) else {
         // The post was sent, so its entry has a head.
         unreachable!()
@@ -96,7 +96,7 @@ fn place_in(lists: &Lists, id: PostId) -> Option<usize>
     ensures post { IfSome result (λ at. slice_get lists.now.posts.items at ≡ post_named id (reverse (entries_in lists.now))) }
 {
     let number = id.entry.checked_sub(1)?;
-    let place = (number as usize).checked_sub(lists.turns.len())?;
+    let place = (number as usize).checked_sub(lists.places.len())?;
     let head = head_at(lists, place)?;
     match head.input {
         InputHead::Whole { .. } => None,
@@ -129,13 +129,13 @@ impl GrowingTrace {
         }
     }
 
-    /// The entries of parts, one at each turn. It takes no memory.
-    pub(crate) fn of_parts(alloc: Global, parts: Parts, turns: Vec<Turn>) -> GrowingTrace
-        requires { AllByRecursion (IsTurnOf parts) turns.items }
-        ensures { result.entries ≡ map (turned parts) turns.items }
+    /// The entries of parts, one at each place. It takes no memory.
+    pub(crate) fn of_parts(alloc: Global, parts: Parts, places: Vec<EntryPlace>) -> GrowingTrace
+        requires { AllByRecursion (IsPlaceIn parts) places.items }
+        ensures { result.entries ≡ map (placed parts) places.items }
     {
         GrowingTrace {
-            lists: adopted(alloc, parts, turns),
+            lists: adopted(alloc, parts, places),
             room: None,
         }
     }

@@ -4,7 +4,7 @@
 //! entry and the posts and the notes of all entries, one after another. An entry that delivers a
 //! post of the trace names that post, and doesn't hold its message once more. An entry that is
 //! pushed is kept whole, as it is. The parts that a trace is made of are adopted: their entries
-//! stay where they lie, and a turn of eight bytes says where. That form is this project's choice:
+//! stay where they lie, and a place of eight bytes says where. That form is this project's choice:
 //! memory that is touched for the first time is the dearest part of a run.
 //!
 //! No contract says that there is memory, so a function that always answered
@@ -17,11 +17,11 @@ mod filing;
 mod growing;
 mod heads;
 mod lists;
+mod places;
 mod traces;
-mod turns;
 
 pub use entries::Entries;
 pub use growing::GrowingTrace;
 pub use hx_clock::{EntryRef, InputRef, Part, Parts, Room, Stamped};
+pub use places::EntryPlace;
 pub use traces::Trace;
-pub use turns::Turn;

@@ -4,20 +4,20 @@ ghost use Rattle.std.specs.Option.{option_copied, option_map};
 ghost use Rattle.hx_types.specs.Words.{when_some};
 ghost use Rattle.hx_trace.specs.Entries.{entry_seen, input_seen};
 ghost use Rattle.hx_trace.specs.Lists.{AreWhole, IsHeadIn, delivery, entries_by, entries_in, entry_by, input_by, notes_from, posts_from, whole_by};
-ghost use Rattle.hx_trace.specs.Turns.{IsTurnOf, turned};
+ghost use Rattle.hx_trace.specs.Places.{IsPlaceIn, placed};
 
 use crate::heads::{Head, InputHead};
-use crate::turns::{Turn, turned_part};
+use crate::places::{EntryPlace, part_at_place};
 use hx_clock::{EntryRef, InputRef, Part, Parts, run_of};
 use hx_types::{Entry, Input, Note, Post, PostId};
 use std::alloc::Global;
 
 /// The lists in which a trace lies. First come the entries of adopted parts, which lie where they
-/// lay before: each has its turn, and its stamp counts for nothing. Then come those that were put
+/// lay before: each has its place, and its stamp counts for nothing. Then come those that were put
 /// at the end: each has a head, and the posts and notes of all lie one after another. Of these,
 /// entries that are kept whole lie apart.
 pub struct Lists {
-    pub turns: Vec<Turn>,
+    pub places: Vec<EntryPlace>,
     pub parts: Vec<Part>,
     pub heads: Vec<Head>,
     pub posts: Vec<Post>,
@@ -28,7 +28,7 @@ pub struct Lists {
 impl Drop for Lists {
     fn drop(self) {
         let Lists {
-            turns: _,
+            places: _,
             parts: _,
             heads: _,
             posts: _,
@@ -38,14 +38,14 @@ impl Drop for Lists {
     }
 }
 
-/// The lists of the entries of parts, one at each turn. It takes no memory.
-pub fn adopted(alloc: Global, parts: Parts, turns: Vec<Turn>) -> Lists
-    requires { AllByRecursion (IsTurnOf parts) turns.items }
+/// The lists of the entries of parts, one at each place. It takes no memory.
+pub fn adopted(alloc: Global, parts: Parts, places: Vec<EntryPlace>) -> Lists
+    requires { AllByRecursion (IsPlaceIn parts) places.items }
     ensures whole { AreWhole result }
-    ensures entries { entries_in result ≡ map (turned parts) turns.items }
+    ensures entries { entries_in result ≡ map (placed parts) places.items }
 {
     Lists {
-        turns,
+        places,
         parts: parts.into_vec(),
         heads: Vec::new(alloc),
         posts: Vec::new(alloc),
@@ -65,10 +65,10 @@ pub fn empty(alloc: Global) -> Lists
 /// How many entries there are.
 #[inline]
 pub fn count(lists: &Lists) -> usize
-    ensures turns_and_heads { result ≡ length lists.now.turns.items + length lists.now.heads.items }
+    ensures places_and_heads { result ≡ length lists.now.places.items + length lists.now.heads.items }
     ensures entries { result ≡ length (entries_in lists.now) }
 {
-    lists.turns.len() + lists.heads.len()
+    lists.places.len() + lists.heads.len()
 }
 
 /// The head at a place from 0, or `None` past the end.
@@ -243,13 +243,13 @@ fn posts_of_head(lists: &Lists, place: usize) -> Option<&[Post]>
     }
 }
 
-/// The entry of a turn of the parts, lent.
+/// The entry at a place in the parts, lent.
 #[inline(always)]
-pub fn entry_of_turn(lists: &Lists, turn: Turn) -> EntryRef<'_>
-    requires { IsTurnOf lists.now.parts.items turn }
-    ensures { entry_seen result ≡ turned lists.now.parts.items turn }
+pub fn entry_in_part(lists: &Lists, place: EntryPlace) -> EntryRef<'_>
+    requires { IsPlaceIn lists.now.parts.items place }
+    ensures { entry_seen result ≡ placed lists.now.parts.items place }
 {
-    turned_part(lists.parts.as_slice(), turn).entry(turn.at as usize)
+    part_at_place(lists.parts.as_slice(), place).entry(place.at as usize)
 }
 
 /// The entry at a place from 0, or `None` past the end.
@@ -258,19 +258,19 @@ pub fn entry_at(lists: &Lists, place: usize) -> Option<EntryRef<'_>>
     requires { AreWhole lists.now }
     ensures { option_map entry_seen result ≡ slice_get (entries_in lists.now) place }
 {
-    match place.checked_sub(lists.turns.len()) {
-        None => Some(entry_of_turn(lists, lists.turns[place])),
+    match place.checked_sub(lists.places.len()) {
+        None => Some(entry_in_part(lists, lists.places[place])),
         Some(place) => entry_of_head(lists, place),
     }
 }
 
-/// The posts of the entry of a turn.
+/// The posts of the entry at a place in the parts.
 #[inline(always)]
-fn posts_of_turn(lists: &Lists, turn: Turn) -> &[Post]
-    requires { IsTurnOf lists.now.parts.items turn }
-    ensures { result.now ≡ (turned lists.now.parts.items turn).outputs }
+fn posts_in_part(lists: &Lists, place: EntryPlace) -> &[Post]
+    requires { IsPlaceIn lists.now.parts.items place }
+    ensures { result.now ≡ (placed lists.now.parts.items place).outputs }
 {
-    turned_part(lists.parts.as_slice(), turn).posts(turn.at as usize)
+    part_at_place(lists.parts.as_slice(), place).posts(place.at as usize)
 }
 
 /// The posts of the entry at a place from 0, or `None` past the end. Nothing else of the entry is
@@ -280,8 +280,8 @@ pub fn posts_at(lists: &Lists, place: usize) -> Option<&[Post]>
     requires { AreWhole lists.now }
     ensures { option_copied result ≡ option_map (λ e. e.outputs) (slice_get (entries_in lists.now) place) }
 {
-    match place.checked_sub(lists.turns.len()) {
-        None => Some(posts_of_turn(lists, lists.turns[place])),
+    match place.checked_sub(lists.places.len()) {
+        None => Some(posts_in_part(lists, lists.places[place])),
         Some(place) => posts_of_head(lists, place),
     }
 }
@@ -294,15 +294,15 @@ pub fn post_at(posts: &[Post], place: u32) -> Option<&Post>
     posts.get(place as usize)
 }
 
-/// Whether there is an entry at a place from 0 and it has notes. Of the entry of a turn it reads
+/// Whether there is an entry at a place from 0 and it has notes. Of an entry of the parts it reads
 /// nothing.
 #[inline(always)]
 pub fn has_notes_at(lists: &Lists, place: usize) -> bool
     requires { AreWhole lists.now }
     ensures { result ≡ when_some (slice_get (entries_in lists.now) place) false (λ e. nat_lt 0 (length e.notes)) }
 {
-    match place.checked_sub(lists.turns.len()) {
-        None => lists.turns[place].has_notes,
+    match place.checked_sub(lists.places.len()) {
+        None => lists.places[place].has_notes,
         Some(place) => match entry_of_head(lists, place) {
             Some(entry) => entry.notes.len() > 0,
             None => false,

@@ -5,12 +5,12 @@ ghost use Rattle.hx_model.specs.Runs.{post_named};
 ghost use Rattle.std.specs.Borrow.{sem};
 ghost use Rattle.hx_trace.specs.Entries.{entry_seen, if_noted};
 ghost use Rattle.hx_trace.specs.Lending.{LendsGrowing};
-ghost use Rattle.hx_trace.specs.Turns.{IsTurnOf, turned};
+ghost use Rattle.hx_trace.specs.Places.{IsPlaceIn, placed};
 
 use crate::entries::Entries;
 use crate::growing::GrowingTrace;
 use crate::lists::{entry_at, has_notes_at, post_at, posts_at};
-use crate::turns::Turn;
+use crate::places::EntryPlace;
 use hx_clock::{EntryRef, Parts};
 use hx_types::{Entry, Memory, Post, PostId};
 use std::alloc::Global;
@@ -57,15 +57,15 @@ impl Trace {
         Ok(Trace { growing })
     }
 
-    /// The entries of parts, one at each turn. They stay where they lie in the parts, and their
-    /// stamps count for nothing. Each turn names an entry of its part, and tells whether it has
+    /// The entries of parts, one at each place. They stay where they lie in the parts, and their
+    /// stamps count for nothing. Each place names an entry of its part, and tells whether it has
     /// notes. It takes no memory.
-    pub fn of_parts(alloc: Global, parts: Parts, turns: Vec<Turn>) -> Trace
-        requires { AllByRecursion (IsTurnOf parts) turns.items }
-        ensures { result ≡ map (turned parts) turns.items }
+    pub fn of_parts(alloc: Global, parts: Parts, places: Vec<EntryPlace>) -> Trace
+        requires { AllByRecursion (IsPlaceIn parts) places.items }
+        ensures { result ≡ map (placed parts) places.items }
     {
         Trace {
-            growing: GrowingTrace::of_parts(alloc, parts, turns),
+            growing: GrowingTrace::of_parts(alloc, parts, places),
         }
     }
 
@@ -122,7 +122,7 @@ impl Trace {
     {
         let lists = self.growing.lists();
         Entries {
-            turns: lists.turns.as_slice(),
+            places: lists.places.as_slice(),
             heads: lists.heads.as_slice(),
             lists,
         }

@@ -4,7 +4,7 @@ ghost use Rattle.hx_types.specs.declared.messages.Message.TheVariants as a_messa
 ghost use Rattle.hx_types.specs.declared.traces.Input.TheVariants as an_input;
 
 use crate::parts::list;
-use hx_trace::{InputRef, Part, Stamped, Trace, Turn};
+use hx_trace::{EntryPlace, InputRef, Part, Stamped, Trace};
 use hx_types::{
     Actor, Entry, Epoch, Input, Message, Note, Notes, Post, PostId, Posts, ServerId, SessionId,
     Stamp,
@@ -264,11 +264,11 @@ fn longer<R: Abort + AllocGlobal>(rt: &R, mut part: Part, entry: Entry) -> Part
     part
 }
 
-/// The turn of an entry of a part.
-fn turn(part: u16, at: u32, has_notes: bool) -> Turn
+/// The place of an entry of a part.
+fn entry_place(part: u16, at: u32, has_notes: bool) -> EntryPlace
     ensures { result ≡ record { part = part; at = at; has_notes = has_notes } }
 {
-    Turn {
+    EntryPlace {
         part,
         at,
         has_notes,
@@ -286,14 +286,18 @@ fn are_noted(trace: &Trace, wanted: &[bool]) -> bool {
 }
 
 #[test]
-fn parts_give_their_entries_in_turns(rt: HostRuntime) {
+fn parts_give_their_entries_by_places(rt: HostRuntime) {
     let first = longer(&rt, Part::new(rt.alloc()), asking(&rt));
     let first = longer(&rt, first, hearing(&rt));
     let second = longer(&rt, Part::new(rt.alloc()), taking(&rt, 9));
     let parts = list(&rt, [first, second]);
-    let turns = [turn(0, 0, true), turn(1, 0, false), turn(0, 1, true)];
-    let turns = Vec::from_array(rt.alloc(), turns).expect(&rt, "memory");
-    let mut trace = Trace::of_parts(rt.alloc(), parts, turns);
+    let places = [
+        entry_place(0, 0, true),
+        entry_place(1, 0, false),
+        entry_place(0, 1, true),
+    ];
+    let places = Vec::from_array(rt.alloc(), places).expect(&rt, "memory");
+    let mut trace = Trace::of_parts(rt.alloc(), parts, places);
     trace.push(asking(&rt)).expect(&rt, "memory");
     let are_noted = are_noted(&trace, &[true, false, true, true]);
     let sent = [

@@ -1,11 +1,11 @@
 use Rattle.std.proofs.Common.{map, subst, ◌∙◌}
-use Rattle.hx_trace.specs.Turns.{stamped_at}
-use Rattle.hx_gather.specs.Stretches.{AreTurns}
-use Rattle.hx_gather.proofs.Stretched.{turned_entries}
+use Rattle.hx_trace.specs.Places.{stamped_at}
+use Rattle.hx_gather.specs.Stretches.{ArePlaces}
+use Rattle.hx_gather.proofs.Stretched.{placed_entries}
 use Rattle.hx_gather.proofs.merging.merge.Goals as goal
 
 pub returns : goal.returns
 returns c =
-    let turns = c.in_ok-turns.turns.items in
-    let made = subst (AreTurns turns) c.as_slice.ensures c.in_ok-turns.ensures.turns in
-    record { merged = (map (stamped_at c.args.parts) turns, made.merged, c.of_parts.ensures ∙ turned_entries c.args.parts turns) }
+    let places = c.in_ok-places.places.items in
+    let made = subst (ArePlaces places) c.as_slice.ensures c.in_ok-places.ensures.places in
+    record { merged = (map (stamped_at c.args.parts) places, made.merged, c.of_parts.ensures ∙ placed_entries c.args.parts places) }

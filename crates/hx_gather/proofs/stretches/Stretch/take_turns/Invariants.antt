@@ -1,8 +1,0 @@
-use Rattle.std.proofs.Common.{◌≡◌, ◌++◌}
-use Rattle.std.specs.Prelude.{slice_range}
-use Rattle.hx_gather.specs.Stretches.{numbered, turn_at}
-use Rattle.hx_gather.proofs.stretches.Stretch.take_turns.Given as goal
-
-abbrev pub invariant-loop-at : goal.invariant-loop-at
-invariant-loop-at l =
-    l.turns.items ≡ l.initial.turns.items ++ numbered (turn_at l.self-inside.place) l.self-inside.at (slice_range l.self-inside.part.now l.self-inside.at l.at)
