@@ -126,7 +126,7 @@ fn put(rt: &impl Abort, alloc: Global, store: &mut Store, key: &str, number: i64
         touches: Touches::new(alloc),
     };
     let slot = Slot::of_kept(alloc, RegionId(3), kept, false);
-    store.put(alloc, slot).expect(rt, "no memory");
+    store.put_slot(alloc, slot).expect(rt, "no memory");
 }
 
 /// A store of the numbers 0 to 999, at the keys "k0" to "k999".
@@ -161,7 +161,7 @@ fn an_object_that_is_replaced_is_found_no_more(rt: HostRuntime) {
     let mut store = empty(&rt, alloc, false);
     put(&rt, alloc, &mut store, "k7", 7);
     let slot = Slot::new(alloc, RegionId(3), text(&rt, alloc, "k7"), false);
-    let is_put = store.put(alloc, slot).is_ok();
+    let is_put = store.put_slot(alloc, slot).is_ok();
     let found = finds(&rt, alloc, &mut store, None, &[]);
     drop(store);
     assert!(rt; is_put);
@@ -204,7 +204,7 @@ fn a_snapshot_is_installed(rt: HostRuntime) {
     put(&rt, alloc, &mut store, "b", 2);
     put(&rt, alloc, &mut store, "a", 1);
     let slot = Slot::new(alloc, RegionId(3), text(&rt, alloc, "c"), false);
-    let is_put = store.put(alloc, slot).is_ok();
+    let is_put = store.put_slot(alloc, slot).is_ok();
     let mut joiner = empty(&rt, alloc, false);
     let is_installed = install(alloc, &mut store, &mut joiner);
     let found = finds(&rt, alloc, &mut joiner, None, &["a", "b"]);

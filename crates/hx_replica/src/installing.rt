@@ -100,7 +100,7 @@ fn join_all(
             return Err(Memory);
         };
         join(alloc, context, &mut slot, pending, posts)?;
-        store.put(alloc, slot)?;
+        store.put_slot(alloc, slot)?;
     }
     Ok(())
 }

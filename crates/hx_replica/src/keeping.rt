@@ -218,5 +218,5 @@ fn mark(store: &mut Store, i: usize, version: Version)
     ensures ordered { store.new.ordered ≡ true }
 {
     let place = store.place_at(i);
-    store.mark(place, version);
+    store.mark_acknowledged(place, version);
 }

@@ -138,7 +138,7 @@ pub fn change_slot(store: &mut Store, place: usize, change: SlotChange)
     ensures rooms { UsesRoom place store.old.rooms store.new.rooms }
 {
     match change {
-        SlotChange::Open => store.open(place),
+        SlotChange::Open => store.ensure_slot(place),
         SlotChange::Accept {
             update,
             place: number,

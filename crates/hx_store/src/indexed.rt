@@ -69,7 +69,7 @@ impl Indexed {
 
     /// The slot at a place may have another object from now on. Where the slot has no place yet, it
     /// is taken in when it gets one. It takes no memory.
-    pub fn mark(&mut self, place: usize)
+    pub fn mark_stale(&mut self, place: usize)
         ensures stale { self.new.stale ≡ slice_set self.old.stale place true }
         ensures rows { self.new.rows ≡ self.old.rows }
         ensures index { self.new.index ≡ self.old.index }

@@ -182,7 +182,7 @@ impl Slots {
         ensures replaced { IsReplacedAt place slot self.old.entries self.new.entries }
         ensures attributes { length self.new.index.orders ≡ length self.old.index.orders }
     {
-        self.indexed.mark(place);
+        self.indexed.mark_stale(place);
         self.slots[place] = slot;
     }
 
@@ -205,7 +205,7 @@ impl Slots {
         ensures moved { HasMoved place (accepted_at update ends.now) 1 self.old.entries self.new.entries }
         ensures attributes { length self.new.index.orders ≡ length self.old.index.orders }
     {
-        self.indexed.mark(place);
+        self.indexed.mark_stale(place);
         accept(&mut self.slots[place], update, number, ends);
     }
 
@@ -215,7 +215,7 @@ impl Slots {
         ensures moved { HasMoved place (acknowledged_at version.0) 0 self.old.entries self.new.entries }
         ensures attributes { length self.new.index.orders ≡ length self.old.index.orders }
     {
-        self.indexed.mark(place);
+        self.indexed.mark_stale(place);
         let _ = self.slots[place].ack(version);
     }
 
@@ -243,7 +243,7 @@ impl Slots {
         ensures moved { HasMoved place settled_at 0 self.old.entries self.new.entries }
         ensures attributes { length self.new.index.orders ≡ length self.old.index.orders }
     {
-        self.indexed.mark(place);
+        self.indexed.mark_stale(place);
         let _ = self.slots[place].settle();
     }
 

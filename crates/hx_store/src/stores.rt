@@ -223,7 +223,7 @@ impl Store {
         ensures ordered { has_slot key.now self.old.states ≡ true → self.new.ordered ≡ self.old.ordered }
     {
         let place = self.give_place(alloc, key)?;
-        self.open(place);
+        self.ensure_slot(place);
         Ok(place)
     }
 
@@ -262,7 +262,7 @@ impl Store {
 
     /// The key at a place has a slot from now on. A new slot goes to the end of the order, which is
     /// made again by [`Store::sort_order`]. It takes no memory.
-    pub fn open(&mut self, place: usize)
+    pub fn ensure_slot(&mut self, place: usize)
         requires { place < length self.old.rooms }
         ensures region { self.new.region ≡ self.old.region }
         ensures marks { self.new.marks ≡ self.old.marks }
@@ -309,7 +309,7 @@ impl Store {
         ensures ordered { has_slot update.key self.old.states ≡ true → self.new.ordered ≡ self.old.ordered }
         ensures rooms { UsesRoom place self.old.rooms self.new.rooms }
     {
-        self.open(place);
+        self.ensure_slot(place);
         self.slots.accept_at(place, update, number, ends);
     }
 
@@ -323,7 +323,7 @@ impl Store {
         ensures ordered { has_slot (key_at self.old place) self.old.states ≡ true → self.new.ordered ≡ self.old.ordered }
         ensures rooms { KeepsRooms self.old.rooms self.new.rooms }
     {
-        self.open(place);
+        self.ensure_slot(place);
         self.slots.acknowledge_at(place, version);
     }
 
@@ -349,13 +349,13 @@ impl Store {
         ensures ordered { has_slot (key_at self.old place) self.old.states ≡ true → self.new.ordered ≡ self.old.ordered }
         ensures rooms { KeepsRooms self.old.rooms self.new.rooms }
     {
-        self.open(place);
+        self.ensure_slot(place);
         self.slots.reset_at(place);
     }
 
     /// A pending version is marked as acknowledged at a place, and nothing is committed. It takes
     /// no memory.
-    pub fn mark(&mut self, place: usize, version: Version)
+    pub fn mark_acknowledged(&mut self, place: usize, version: Version)
         requires place { place < length self.old.rooms }
         requires pending { is_pending version.0 (state_at self.old (key_at self.old place)) ≡ true }
         ensures region { self.new.region ≡ self.old.region }
@@ -365,7 +365,7 @@ impl Store {
         ensures ordered { has_slot (key_at self.old place) self.old.states ≡ true → self.new.ordered ≡ self.old.ordered }
         ensures rooms { KeepsRooms self.old.rooms self.new.rooms }
     {
-        self.open(place);
+        self.ensure_slot(place);
         self.slots.mark_at(place, version);
     }
 
@@ -379,12 +379,12 @@ impl Store {
         ensures ordered { has_slot (key_at self.old place) self.old.states ≡ true → self.new.ordered ≡ self.old.ordered }
         ensures rooms { KeepsRooms self.old.rooms self.new.rooms }
     {
-        self.open(place);
+        self.ensure_slot(place);
         self.slots.settle_at(place);
     }
 
     /// Puts a slot at its key, in place of the one that is there.
-    pub fn put(&mut self, alloc: Global, slot: Slot) -> Result<(), Memory>
+    pub fn put_slot(&mut self, alloc: Global, slot: Slot) -> Result<(), Memory>
         requires region { slot.region ≡ self.old.region }
         requires marks { slot.state.marks ≡ self.old.marks }
         ensures region { self.new.region ≡ self.old.region }
@@ -413,7 +413,7 @@ impl Store {
             // The slot's key has a place.
             unreachable!()
         };
-        self.open(place);
+        self.ensure_slot(place);
         self.slots.replace_at(place, slot);
     }
 

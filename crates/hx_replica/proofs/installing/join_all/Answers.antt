@@ -19,8 +19,8 @@ join-requires-clause-fresh c =
     (at-map (λ (b : Bor (List ℕ)). b.now) c.args.keys.now c.loop-key.key-index c.key-item.result (at_item c.args.keys.now c.loop-key.key-index c.key-item.result c.loop-key-test.true c.key-item.is))
     c.loop-key.invariant.so_far (c.loop-key.invariant.marks ∙ c.requires.marks) c.in-Ok.ensures.state
 
-pub put-requires-clause-marks : goal.put-requires-clause-marks
-put-requires-clause-marks c =
+pub put_slot-requires-clause-marks : goal.put_slot-requires-clause-marks
+put_slot-requires-clause-marks c =
     let context = context_seen c.args.context.now in
     let kind = c.loop-key.invariant.marks ∙ c.requires.marks in
     ap (λ (s : KeyState). s.marks) c.in_ok-join.ensures.state
@@ -33,12 +33,12 @@ put-requires-clause-marks c =
 
 pub loop-key-preserved : goal.loop-key-preserved
 loop-key-preserved c = record {
-  region = c.in_ok-put.ensures.region ∙ c.loop-key.invariant.region;
-  marks = c.in_ok-put.ensures.marks ∙ c.loop-key.invariant.marks;
+  region = c.in_ok-put_slot.ensures.region ∙ c.loop-key.invariant.region;
+  marks = c.in_ok-put_slot.ensures.marks ∙ c.loop-key.invariant.marks;
   so_far =
       join_next (context_seen c.args.context.now) c.args.pending.now c.args.store.now.states (texts c.args.keys.now) c.loop-key.key-index c.key-item.result.now c.args.posts.now c.loop-key.posts c.loop-key.store.states c.loop-key.store.marks c.in-Ok.slot.state
       c.requires.fresh c.requires.keys
       (at-map (λ (b : Bor (List ℕ)). b.now) c.args.keys.now c.loop-key.key-index c.key-item.result (at_item c.args.keys.now c.loop-key.key-index c.key-item.result c.loop-key-test.true c.key-item.is))
       c.loop-key.invariant.so_far (c.loop-key.invariant.marks ∙ c.requires.marks) c.in-Ok.ensures.state
-      c.join.new.slot.state c.put.new.self.states c.join.new.posts c.in_ok-join.ensures.state c.in_ok-put.ensures.states c.in_ok-join.ensures.posts;
+      c.join.new.slot.state c.put_slot.new.self.states c.join.new.posts c.in_ok-join.ensures.state c.in_ok-put_slot.ensures.states c.in_ok-join.ensures.posts;
 }

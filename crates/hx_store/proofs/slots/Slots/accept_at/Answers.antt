@@ -22,7 +22,7 @@ pub accept-requires-clause-pending : goal.accept-requires-clause-pending
 accept-requires-clause-pending c = some-at (λ (s : SlotState). ArePending (moved_all (offered s.region s.state c.args.update) s.state) c.args.ends.now) c.self.inside.slots.items c.args.place c.index_mut.result.now (some-seen c.self.inside.keys.entries c.self.inside.slots.items c.args.self.now.entries c.self.invariant.count (ap (λ (s : SlotsState). s.entries) c.self.view_is) (λ (s : SlotState). ArePending (moved_all (offered s.region s.state c.args.update) s.state) c.args.ends.now) c.args.place c.requires.pending) (at-item c.self.inside.slots.items c.args.place c.index_mut.result.now (some-within (λ (s : SlotState). 0 < s.spare) c.self.inside.slots.items c.args.place (some-seen c.self.inside.keys.entries c.self.inside.slots.items c.args.self.now.entries c.self.invariant.count (ap (λ (s : SlotsState). s.entries) c.self.view_is) (λ (s : SlotState). 0 < s.spare) c.args.place c.requires.room)) c.index_mut.ensures.value)
 
 pub invariant_of-self : goal.invariant_of-self
-invariant_of-self c = set-stale c.self.inside.keys.entries c.self.inside.slots.items c.self.inside.indexed c.mark.new.self c.args.place c.accept.new.slot c.self.invariant (some-within (λ (s : SlotState). 0 < s.spare) c.self.inside.slots.items c.args.place (some-seen c.self.inside.keys.entries c.self.inside.slots.items c.args.self.now.entries c.self.invariant.count (ap (λ (s : SlotsState). s.entries) c.self.view_is) (λ (s : SlotState). 0 < s.spare) c.args.place c.requires.room)) c.mark.ensures.rows c.mark.ensures.stale
+invariant_of-self c = set-stale c.self.inside.keys.entries c.self.inside.slots.items c.self.inside.indexed c.mark_stale.new.self c.args.place c.accept.new.slot c.self.invariant (some-within (λ (s : SlotState). 0 < s.spare) c.self.inside.slots.items c.args.place (some-seen c.self.inside.keys.entries c.self.inside.slots.items c.args.self.now.entries c.self.invariant.count (ap (λ (s : SlotsState). s.entries) c.self.view_is) (λ (s : SlotState). 0 < s.spare) c.args.place c.requires.room)) c.mark_stale.ensures.rows c.mark_stale.ensures.stale
 
 pub returns-clause-moved : goal.returns-clause-moved
 returns-clause-moved c =
@@ -40,4 +40,4 @@ returns-clause-moved c =
     )
 
 pub returns-clause-attributes : goal.returns-clause-attributes
-returns-clause-attributes c = ap (λ (x : IndexState). length x.orders) c.mark.ensures.index ∙ ap (λ (s : SlotsState). length s.index.orders) c.self.view_is
+returns-clause-attributes c = ap (λ (x : IndexState). length x.orders) c.mark_stale.ensures.index ∙ ap (λ (s : SlotsState). length s.index.orders) c.self.view_is

@@ -11,7 +11,7 @@ pub index_mut-requires : goal.index_mut-requires
 index_mut-requires c = let l = (within-slots c.self.inside.keys.entries c.self.inside.slots.items c.args.self.now.entries c.self.invariant.count (ap (λ (s : SlotsState). s.entries) c.self.view_is) c.args.place c.requires) in let ok = c.self.inside.slots.ok.0 in omega (arith, l, ok)
 
 pub invariant_of-self : goal.invariant_of-self
-invariant_of-self c = set-stale c.self.inside.keys.entries c.self.inside.slots.items c.self.inside.indexed c.mark.new.self c.args.place c.ack.new.self c.self.invariant (within-slots c.self.inside.keys.entries c.self.inside.slots.items c.args.self.now.entries c.self.invariant.count (ap (λ (s : SlotsState). s.entries) c.self.view_is) c.args.place c.requires) c.mark.ensures.rows c.mark.ensures.stale
+invariant_of-self c = set-stale c.self.inside.keys.entries c.self.inside.slots.items c.self.inside.indexed c.mark_stale.new.self c.args.place c.ack.new.self c.self.invariant (within-slots c.self.inside.keys.entries c.self.inside.slots.items c.args.self.now.entries c.self.invariant.count (ap (λ (s : SlotsState). s.entries) c.self.view_is) c.args.place c.requires) c.mark_stale.ensures.rows c.mark_stale.ensures.stale
 
 pub returns-clause-moved : goal.returns-clause-moved
 returns-clause-moved c =
@@ -29,4 +29,4 @@ returns-clause-moved c =
     )
 
 pub returns-clause-attributes : goal.returns-clause-attributes
-returns-clause-attributes c = ap (λ (x : IndexState). length x.orders) c.mark.ensures.index ∙ ap (λ (s : SlotsState). length s.index.orders) c.self.view_is
+returns-clause-attributes c = ap (λ (x : IndexState). length x.orders) c.mark_stale.ensures.index ∙ ap (λ (s : SlotsState). length s.index.orders) c.self.view_is

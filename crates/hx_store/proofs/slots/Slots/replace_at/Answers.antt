@@ -10,7 +10,7 @@ pub index_mut-requires : goal.index_mut-requires
 index_mut-requires c = let l = (within-slots c.self.inside.keys.entries c.self.inside.slots.items c.args.self.now.entries c.self.invariant.count (ap (λ (s : SlotsState). s.entries) c.self.view_is) c.args.place c.requires) in let ok = c.self.inside.slots.ok.0 in omega (arith, l, ok)
 
 pub invariant_of-self : goal.invariant_of-self
-invariant_of-self c = set-stale c.self.inside.keys.entries c.self.inside.slots.items c.self.inside.indexed c.mark.new.self c.args.place c.args.slot c.self.invariant (within-slots c.self.inside.keys.entries c.self.inside.slots.items c.args.self.now.entries c.self.invariant.count (ap (λ (s : SlotsState). s.entries) c.self.view_is) c.args.place c.requires) c.mark.ensures.rows c.mark.ensures.stale
+invariant_of-self c = set-stale c.self.inside.keys.entries c.self.inside.slots.items c.self.inside.indexed c.mark_stale.new.self c.args.place c.args.slot c.self.invariant (within-slots c.self.inside.keys.entries c.self.inside.slots.items c.args.self.now.entries c.self.invariant.count (ap (λ (s : SlotsState). s.entries) c.self.view_is) c.args.place c.requires) c.mark_stale.ensures.rows c.mark_stale.ensures.stale
 
 pub returns-clause-replaced : goal.returns-clause-replaced
 returns-clause-replaced c =
@@ -22,4 +22,4 @@ returns-clause-replaced c =
     }
 
 pub returns-clause-attributes : goal.returns-clause-attributes
-returns-clause-attributes c = ap (λ (x : IndexState). length x.orders) c.mark.ensures.index ∙ ap (λ (s : SlotsState). length s.index.orders) c.self.view_is
+returns-clause-attributes c = ap (λ (x : IndexState). length x.orders) c.mark_stale.ensures.index ∙ ap (λ (s : SlotsState). length s.index.orders) c.self.view_is

@@ -8,14 +8,14 @@ use Rattle.hx_store.proofs.Ordering.{keys-moved, late-both, late-states}
 use Rattle.hx_store.proofs.stores.Store.reset_acks.Goals as goal
 
 pub invariant_of-self : goal.invariant_of-self
-invariant_of-self c = late-both c.self.invariant c.reset_at.new.self.entries _ (step-there c.self.inside.region c.self.inside.marks c.self.inside.slots.entries (order_of c.self.inside.slots.entries) (vec_capacity c.self.inside.order) c.open.new.self c.self.view_is c.self.invariant.store c.args.self.now c.args.place (forgotten_at) (keeps_forgotten) 0 c.reset_at.new.self.entries c.reset_at.ensures.moved (key_at c.args.self.now c.args.place) (ap (λ (rs : List Room). when_some (slice_get rs c.args.place) [] (λ (r : Room). r.key)) c.open.ensures.rooms) c.open.ensures.states c.open.ensures.marks c.open.ensures.region) (keys-moved c.reset_at.ensures.moved)
+invariant_of-self c = late-both c.self.invariant c.reset_at.new.self.entries _ (step-there c.self.inside.region c.self.inside.marks c.self.inside.slots.entries (order_of c.self.inside.slots.entries) (vec_capacity c.self.inside.order) c.ensure_slot.new.self c.self.view_is c.self.invariant.store c.args.self.now c.args.place (forgotten_at) (keeps_forgotten) 0 c.reset_at.new.self.entries c.reset_at.ensures.moved (key_at c.args.self.now c.args.place) (ap (λ (rs : List Room). when_some (slice_get rs c.args.place) [] (λ (r : Room). r.key)) c.ensure_slot.ensures.rooms) c.ensure_slot.ensures.states c.ensure_slot.ensures.marks c.ensure_slot.ensures.region) (keys-moved c.reset_at.ensures.moved)
 
 pub returns-clause-states : goal.returns-clause-states
 returns-clause-states c =
-    let both = step-there c.self.inside.region c.self.inside.marks c.self.inside.slots.entries (order_of c.self.inside.slots.entries) (vec_capacity c.self.inside.order) c.open.new.self c.self.view_is c.self.invariant.store c.args.self.now c.args.place (forgotten_at) (keeps_forgotten) 0 c.reset_at.new.self.entries c.reset_at.ensures.moved (key_at c.args.self.now c.args.place) (ap (λ (rs : List Room). when_some (slice_get rs c.args.place) [] (λ (r : Room). r.key)) c.open.ensures.rooms) c.open.ensures.states c.open.ensures.marks c.open.ensures.region in
+    let both = step-there c.self.inside.region c.self.inside.marks c.self.inside.slots.entries (order_of c.self.inside.slots.entries) (vec_capacity c.self.inside.order) c.ensure_slot.new.self c.self.view_is c.self.invariant.store c.args.self.now c.args.place (forgotten_at) (keeps_forgotten) 0 c.reset_at.new.self.entries c.reset_at.ensures.moved (key_at c.args.self.now c.args.place) (ap (λ (rs : List Room). when_some (slice_get rs c.args.place) [] (λ (r : Room). r.key)) c.ensure_slot.ensures.rooms) c.ensure_slot.ensures.states c.ensure_slot.ensures.marks c.ensure_slot.ensures.region in
     late-states c.self.invariant c.reset_at.new.self.entries _ both.0 both.1
 
 pub returns-clause-rooms : goal.returns-clause-rooms
 returns-clause-rooms c =
-    subst (λ (rs : List Room). KeepsRooms rs (rooms_in c.reset_at.new.self.entries)) c.open.ensures.rooms
-    (step-keeps c.self.inside.region c.self.inside.marks c.self.inside.slots.entries (order_of c.self.inside.slots.entries) (vec_capacity c.self.inside.order) c.open.new.self c.self.view_is c.self.invariant.store c.args.place (forgotten_at) c.reset_at.new.self.entries c.reset_at.ensures.moved)
+    subst (λ (rs : List Room). KeepsRooms rs (rooms_in c.reset_at.new.self.entries)) c.ensure_slot.ensures.rooms
+    (step-keeps c.self.inside.region c.self.inside.marks c.self.inside.slots.entries (order_of c.self.inside.slots.entries) (vec_capacity c.self.inside.order) c.ensure_slot.new.self c.self.view_is c.self.invariant.store c.args.place (forgotten_at) c.reset_at.new.self.entries c.reset_at.ensures.moved)

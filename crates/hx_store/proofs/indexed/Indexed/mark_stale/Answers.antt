@@ -2,7 +2,7 @@ use Rattle.std.proofs.Common.{◌≡◌, ◌<◌, List, arith, length, subst, sy
 use Rattle.std.specs.List.{slice_set}
 use Rattle.hx_store.specs.Indexed.{AreIndexed, is_marked}
 use Rattle.hx_store.proofs.Following.{marked, marked-is, marked-room}
-use Rattle.hx_store.proofs.indexed.Indexed.mark.Goals as goal
+use Rattle.hx_store.proofs.indexed.Indexed.mark_stale.Goals as goal
 
 pub push_reserved-requires : goal.push_reserved-requires
 push_reserved-requires c =

@@ -3,7 +3,7 @@ use Rattle.std.proofs.lemmas.Bool.{false≢true}
 use Rattle.hx_store.specs.Invariant.{IsLateStore, order_of}
 use Rattle.hx_store.proofs.Ordering.{open-late, open-room-late, open-rooms-late, open-states-late}
 use Rattle.hx_store.proofs.Showing.{listed-stored, open-same, slot-listed, stored-some, within-is}
-use Rattle.hx_store.proofs.stores.Store.open.Goals as goal
+use Rattle.hx_store.proofs.stores.Store.ensure_slot.Goals as goal
 
 pub returns-then-is_listed-clause-states : goal.returns-then-is_listed-clause-states
 returns-then-is_listed-clause-states c =

@@ -2,7 +2,7 @@ use Rattle.std.proofs.Common.{sym, subst, ◌∙◌}
 use Rattle.hx_store.specs.Stores.{IsPlace}
 use Rattle.hx_store.proofs.Installing.{place-has}
 use Rattle.hx_store.proofs.Showing.{kept-others, others-kept}
-use Rattle.hx_store.proofs.stores.Store.put.Goals as goal
+use Rattle.hx_store.proofs.stores.Store.put_slot.Goals as goal
 
 pub put_ready-requires : goal.put_ready-requires
 put_ready-requires c = record {
