@@ -9,7 +9,7 @@ use Rattle.hx_model.specs.Types.{Epoch, Note, RegionId, Row}
 use Rattle.hx_types.specs.declared.traces.Note.TheVariants as a_note
 use Rattle.hx_types.specs.Spaces.{IsAscending}
 use Rattle.hx_model.specs.SessionSteps.{Part as PartSeen, SessionState, SessionStep, all_parts, awaits, end_with_parts, ending, found_step, is_search, lacks_part, merged_parts, staying, with_part}
-use Rattle.hx_session.specs.declared.parts.Part.{Part}
+use Rattle.hx_session.specs.declared.parts.SearchPart.{SearchPart}
 use Rattle.hx_session.specs.declared.prepared.Change.{Change}
 use Rattle.hx_session.specs.declared.sessions.Session.TheInside.{Inside}
 use Rattle.hx_session.specs.Changes.{Makes, ended_as, is_found, kept_as, lacks_rows, part_seen, unmoved_at, with_parts}
@@ -87,7 +87,7 @@ last_fails true false c r = refl
 last_fails false b c r = refl
 
 -- the rows of a region that lacks them
-pub found_is : (i : Inside) (v : SessionValue) (epoch : Epoch) (number : ℕ) (g : RegionId) (rows : List Row) (parts : List Part) → value_of i ≡ v
+pub found_is : (i : Inside) (v : SessionValue) (epoch : Epoch) (number : ℕ) (g : RegionId) (rows : List Row) (parts : List SearchPart) → value_of i ≡ v
     → parts ≡ i.parts → awaits v.state number is_search ≡ true → epoch.0 ≡ i.config.epoch.0
     → list_any (lacks_rows g) parts ≡ true → end_with_parts (with_parts v.state g rows) ≡ found_step v.state epoch number g rows
 found_is i v epoch number g rows parts view slice waits at lacks =
@@ -96,10 +96,10 @@ found_is i v epoch number g rows parts view slice waits at lacks =
     (all_hold (awaits v.state number is_search) (epoch.0 == v.state.config.epoch.0) (list_any (lacks_part g) v.state.parts) waits
     (ap (λ n. epoch.0 == n) (sym (at ∙ ap (λ (w : SessionValue). w.state.config.epoch.0) view)) ∙ same_number epoch.0)
     (ap (λ (w : SessionValue). list_any (lacks_part g) w.state.parts) (sym view) ∙ sym (lacking_seen g i.parts)
-    ∙ ap (λ (ps : List Part). list_any (lacks_rows g) ps) (sym slice) ∙ lacks)))
+    ∙ ap (λ (ps : List SearchPart). list_any (lacks_rows g) ps) (sym slice) ∙ lacks)))
 
 -- no region lacks these rows
-pub unfound_is : (i : Inside) (v : SessionValue) (epoch : Epoch) (number : ℕ) (g : RegionId) (rows : List Row) (parts : List Part) → value_of i ≡ v
+pub unfound_is : (i : Inside) (v : SessionValue) (epoch : Epoch) (number : ℕ) (g : RegionId) (rows : List Row) (parts : List SearchPart) → value_of i ≡ v
     → parts ≡ i.parts
     → list_any (lacks_rows g) parts ≡ false → staying v.state ≡ found_step v.state epoch number g rows
 unfound_is i v epoch number g rows parts view slice lacks =
@@ -107,7 +107,7 @@ unfound_is i v epoch number g rows parts view slice lacks =
     (end_with_parts (with_parts v.state g rows)) (staying v.state)
     (last_fails (awaits v.state number is_search) (epoch.0 == v.state.config.epoch.0) (list_any (lacks_part g) v.state.parts)
     (ap (λ (w : SessionValue). list_any (lacks_part g) w.state.parts) (sym view) ∙ sym (lacking_seen g i.parts)
-    ∙ ap (λ (ps : List Part). list_any (lacks_rows g) ps) (sym slice) ∙ lacks)))
+    ∙ ap (λ (ps : List SearchPart). list_any (lacks_rows g) ps) (sym slice) ∙ lacks)))
 
 -- nothing changes
 pub stays_makes : (i : Inside) (v : SessionValue) (change : Change) → value_of i ≡ v → change ≡ unmoved_at i.progress → Makes v.state (staying v.state) change

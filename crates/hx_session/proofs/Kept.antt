@@ -9,14 +9,14 @@ use Rattle.hx_model.specs.Types.{RegionId, Row}
 use Rattle.hx_types.specs.Spaces.{IsAscending}
 use Rattle.hx_types.specs.Words.{same_region}
 use Rattle.hx_model.specs.SessionSteps.{Part as PartSeen, all_parts, lacks_part, with_part}
-use Rattle.hx_session.specs.declared.parts.Part.{Part}
+use Rattle.hx_session.specs.declared.parts.SearchPart.{SearchPart}
 use Rattle.hx_session.specs.Changes.{is_found, lacks_rows, part_seen}
 
 abbrev pub regions_of : List PartSeen → List ℕ
 regions_of parts = map (λ (p : PartSeen). p.region.0) parts
 
 -- which part lacks rows looks the same from the definitions
-pub lacking_seen : (g : RegionId) (parts : List Part) → list_any (lacks_rows g) parts ≡ list_any (lacks_part g) (map part_seen parts)
+pub lacking_seen : (g : RegionId) (parts : List SearchPart) → list_any (lacks_rows g) parts ≡ list_any (lacks_part g) (map part_seen parts)
 lacking_seen g [] = refl
 lacking_seen g (p ∷ rest) = ap (λ b. lacks_rows g p || b) (lacking_seen g rest)
 
@@ -24,7 +24,7 @@ found_rows : (b : Bool) (g : RegionId) (rows : List Row) (p : PartSeen) → (b |
 found_rows true g rows p = refl
 found_rows false g rows p = refl
 
-pub all_found_seen : (g : RegionId) (rows : List Row) (parts : List Part) → list_all (is_found g) parts ≡ all_parts (map (with_part g rows) (map part_seen parts))
+pub all_found_seen : (g : RegionId) (rows : List Row) (parts : List SearchPart) → list_all (is_found g) parts ≡ all_parts (map (with_part g rows) (map part_seen parts))
 all_found_seen g rows [] = refl
 all_found_seen g rows (p ∷ rest) =
     ap (λ b. is_found g p && b) (all_found_seen g rows rest)

@@ -17,7 +17,7 @@ use Rattle.hx_model.specs.Planning.{plan_of}
 use Rattle.hx_model.specs.Regions.{key_region}
 use Rattle.hx_model.specs.SessionSteps.{Part as PartSeen, SessionState, SessionStep, all_parts, ask_regions, awaits, begin, call_under_way, end_with_parts, ending, is_administrative, is_key_call, send, send_to, session_message, session_step, staying, with_part, with_poll}
 use Rattle.hx_region.proofs.Lemmas.{asked}
-use Rattle.hx_session.specs.declared.parts.Part.{Part}
+use Rattle.hx_session.specs.declared.parts.SearchPart.{SearchPart}
 use Rattle.hx_session.specs.declared.prepared.Change.{Change}
 use Rattle.hx_session.specs.declared.sessions.Session.TheInside.{Inside}
 use Rattle.hx_session.specs.Changes.{IsChange, changed, part_seen, parts_after}
@@ -126,10 +126,10 @@ step_in_order space s h Halt = h
 step_in_order space s h (Deliver id from message) = message_in_order space s h message
 
 -- the fields of a session after a change
-abbrev after_change : Inside → Change → Config → List Part → Inside
+abbrev after_change : Inside → Change → Config → List SearchPart → Inside
 after_change i c config parts = record i { config = config; progress = c.progress; parts = parts }
 
-pub applied_state : (i : Inside) (v : SessionValue) (c : Change) (config : Config) (parts : List Part) → value_of i ≡ v
+pub applied_state : (i : Inside) (v : SessionValue) (c : Change) (config : Config) (parts : List SearchPart) → value_of i ≡ v
     → config ≡ unwrap_or c.config i.config → map part_seen parts ≡ parts_after (map part_seen i.parts) c.parts
     → (value_of (after_change i c config parts)).state ≡ changed v.state c
 applied_state i v c config parts view adopted put =
@@ -137,7 +137,7 @@ applied_state i v c config parts view adopted put =
     ∙ ap (λ (k : Config). record (changed (value_of i).state c) { config = k }) adopted
     ∙ ap (λ (w : SessionValue). changed w.state c) view
 
-pub applied_in_order : (i : Inside) (v : SessionValue) (c : Change) (config : Config) (parts : List Part) → value_of i ≡ v → IsSession i
+pub applied_in_order : (i : Inside) (v : SessionValue) (c : Change) (config : Config) (parts : List SearchPart) → value_of i ≡ v → IsSession i
     → config ≡ unwrap_or c.config i.config
     → map part_seen parts ≡ parts_after (map part_seen i.parts) c.parts → IsChange v c → IsSession (after_change i c config parts)
 applied_in_order i v c config parts view ok adopted put is =

@@ -6,7 +6,7 @@ use Rattle.hx_types.specs.Configs.{head_of}
 use Rattle.hx_types.specs.Words.{same_region, when_some}
 use Rattle.hx_model.specs.SessionSteps.{Part as PartSeen, SessionState, SessionStep, ask_to, awaits, call_under_way, ending, is_administrative, lacks_part, send, session_step, staying, with_part}
 use Rattle.hx_session.specs.declared.kinds.CallKind.{CallKind}
-use Rattle.hx_session.specs.declared.parts.Part.{Part}
+use Rattle.hx_session.specs.declared.parts.SearchPart.{SearchPart}
 use Rattle.hx_session.specs.declared.parts.PartsChange.{PartsChange}
 use Rattle.hx_session.specs.declared.parts.PartsChange.TheVariants.{Stay, Replace, Put}
 use Rattle.hx_session.specs.declared.prepared.Change.{Change}
@@ -17,19 +17,19 @@ use Rattle.hx_session.specs.Kinds.{kind_test}
 use Rattle.hx_session.specs.Sessions.{CanTake, SessionValue, session_entry}
 
 -- a part as the definitions say it
-abbrev pub part_seen : Part → PartSeen
+abbrev pub part_seen : SearchPart → PartSeen
 part_seen p = record { region = p.region; rows = p.rows }
 
 -- the part is the region's and has no rows
-abbrev pub lacks_rows : RegionId → Part → Bool
+abbrev pub lacks_rows : RegionId → SearchPart → Bool
 lacks_rows g p = lacks_part g (part_seen p)
 
 -- the part has rows once the region's has
-abbrev pub is_found : RegionId → Part → Bool
+abbrev pub is_found : RegionId → SearchPart → Bool
 is_found g p = same_region p.region g || is_some p.rows
 
 -- a region that hasn't answered
-abbrev pub asked_part : RegionId → Part
+abbrev pub asked_part : RegionId → SearchPart
 asked_part g = record { region = g; rows = None }
 
 abbrev pub parts_after : List PartSeen → PartsChange → List PartSeen
@@ -109,7 +109,7 @@ abbrev pub adopting_as : Config → Change → Change
 adopting_as config change = record { config = Some config; progress = change.progress; parts = change.parts }
 
 -- a part is kept
-abbrev pub kept_as : Progress → ℕ → Part → Change
+abbrev pub kept_as : Progress → ℕ → SearchPart → Change
 kept_as progress place part = record { config = None; progress = progress; parts = Put place part }
 
 -- a call ends with an answer of its number, where it is under way and of the kind

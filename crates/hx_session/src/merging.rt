@@ -8,7 +8,7 @@ ghost use Rattle.hx_model.specs.SessionSteps.{merged_parts, rows_joined, with_pa
 ghost use Rattle.hx_session.specs.Changes.{part_seen};
 ghost use Rattle.hx_session.specs.Joined.{row_key, rows_in};
 
-use crate::parts::Part;
+use crate::parts::SearchPart;
 use hx_types::{Exact, Memory, RegionId, Row, Rows, Shared, prefix_of};
 use std::alloc::Global;
 use std::cmp::Ordering;
@@ -17,7 +17,12 @@ use std::marker::Model;
 /// The rows of all parts, of each key the one with the highest version, in byte order of keys. The
 /// part of the region has the rows that were found. The rows of a part may come in any order; those
 /// that come in order of keys cost the fewest comparisons.
-pub fn merged(alloc: Global, parts: &[Part], region: RegionId, found: &Rows) -> Result<Rows, Memory>
+pub fn merged(
+    alloc: Global,
+    parts: &[SearchPart],
+    region: RegionId,
+    found: &Rows,
+) -> Result<Rows, Memory>
     ensures { IfOk result (λ rows. rows ≡ merged_parts (map (with_part region found.now) (map part_seen parts.now))) }
 {
     let mut rows = gathered(alloc, parts, region, found)?;
@@ -92,7 +97,7 @@ fn is_as_new(one: &Keyed, other: &Keyed) -> bool
 /// The rows of all parts, part after part.
 fn gathered<'a>(
     alloc: Global,
-    parts: &'a [Part],
+    parts: &'a [SearchPart],
     region: RegionId,
     found: &'a Rows,
 ) -> Result<Vec<Keyed<'a>>, Memory>
@@ -107,7 +112,7 @@ fn gathered<'a>(
 }
 
 /// How many rows the parts have, up to the greatest number that there is.
-fn count_rows(parts: &[Part], region: RegionId, found: &Rows) -> usize {
+fn count_rows(parts: &[SearchPart], region: RegionId, found: &Rows) -> usize {
     let mut count: usize = 0;
     for part in parts {
         count = count.saturating_add(rows_of(part, region, found).len());
@@ -116,7 +121,7 @@ fn count_rows(parts: &[Part], region: RegionId, found: &Rows) -> usize {
 }
 
 /// The rows of a part, where the region has those that were found.
-fn rows_of<'a>(part: &'a Part, region: RegionId, found: &'a Rows) -> &'a [Shared<Row>]
+fn rows_of<'a>(part: &'a SearchPart, region: RegionId, found: &'a Rows) -> &'a [Shared<Row>]
     ensures { result.now ≡ rows_in (with_part region found.now (part_seen part.now)) }
 {
     if part.region.0 == region.0 {

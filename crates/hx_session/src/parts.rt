@@ -1,25 +1,25 @@
 ghost use Rattle.std.specs.Prelude.{◌≡◌, map, slice_get, slice_set, true, false, IfNone, IfSome, IsSomeAnd};
 ghost use Rattle.std.specs.List.{list_all, list_any};
-ghost use Rattle.hx_session.specs.declared.parts.Part.{Part as PartOf};
+ghost use Rattle.hx_session.specs.declared.parts.SearchPart.{SearchPart as PartOf};
 ghost use Rattle.hx_session.specs.Changes.{afresh, is_found, lacks_rows, part_seen, parts_after};
 
 use hx_types::{RegionId, Rows, Sequence};
 use std::alloc::Global;
 
 /// The rows of a region that a search asked: none until it has answered.
-pub struct Part {
+pub struct SearchPart {
     pub region: RegionId,
     pub rows: Option<Rows>,
 }
 
-impl Drop for Part {
+impl Drop for SearchPart {
     fn drop(self) {
-        let Part { region: _, rows: _ } = self;
+        let SearchPart { region: _, rows: _ } = self;
     }
 }
 
 /// The parts of a search, in ascending order of regions.
-pub type Parts = Sequence<Part>;
+pub type Parts = Sequence<SearchPart>;
 
 /// How a step changes the parts of a search.
 pub enum PartsChange {
@@ -27,7 +27,7 @@ pub enum PartsChange {
     /// There are these parts instead.
     Replace(Parts),
     /// There is another part at a place.
-    Put { place: usize, part: Part },
+    Put { place: usize, part: SearchPart },
 }
 
 impl Drop for PartsChange {
@@ -64,7 +64,7 @@ impl PartsChange {
     }
 }
 
-fn put_part(parts: &mut Parts, place: usize, part: Part)
+fn put_part(parts: &mut Parts, place: usize, part: SearchPart)
     ensures { map part_seen parts.new ≡ slice_set (map part_seen parts.old) place (part_seen part) }
 {
     if place < parts.len() {
@@ -73,7 +73,7 @@ fn put_part(parts: &mut Parts, place: usize, part: Part)
 }
 
 /// The place of the region's part, where it has no rows yet.
-pub fn lacking(parts: &[Part], region: RegionId) -> Option<usize>
+pub fn lacking(parts: &[SearchPart], region: RegionId) -> Option<usize>
     ensures none { IfNone result (list_any (lacks_rows region) parts.now ≡ false) }
     ensures some { IfSome result (λ place. list_any (lacks_rows region) parts.now ≡ true) }
     ensures region { IfSome result (λ place. IsSomeAnd (slice_get parts.now place) (λ (p : PartOf). p.region ≡ region)) }
@@ -87,7 +87,7 @@ pub fn lacking(parts: &[Part], region: RegionId) -> Option<usize>
 }
 
 /// Whether every part has rows once the region's has.
-pub fn all_found(parts: &[Part], region: RegionId) -> bool
+pub fn all_found(parts: &[SearchPart], region: RegionId) -> bool
     ensures { result ≡ list_all (is_found region) parts.now }
 {
     parts

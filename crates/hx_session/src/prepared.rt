@@ -5,7 +5,7 @@ ghost use Rattle.hx_types.specs.declared.traces.Note.TheVariants as a_note;
 ghost use Rattle.hx_types.specs.Words.{post, provided};
 ghost use Rattle.hx_session.specs.Changes.{adopting_as, afresh, ended_as, kept_as, part_seen, parts_after, unmoved_at};
 
-use crate::parts::{Part, Parts, PartsChange};
+use crate::parts::{Parts, PartsChange, SearchPart};
 use hx_types::{
     Actor, Answer, Config, Entry, Epoch, Memory, Message, Note, Notes, Post, Posts, Sequence,
     SessionId, Shared, Version,
@@ -170,7 +170,7 @@ fn adopt(config: &mut Shared<Config>, adopted: Option<Shared<Config>>)
 }
 
 /// A part is kept.
-pub fn kept(progress: Progress, place: usize, part: Part) -> Change
+pub fn kept(progress: Progress, place: usize, part: SearchPart) -> Change
     ensures { result ≡ kept_as progress place part }
 {
     Change {

@@ -6,7 +6,7 @@ ghost use Rattle.hx_model.specs.SessionSteps.{Part as PartSeen, ask_regions, ask
 ghost use Rattle.hx_session.specs.Changes.{Makes, asked_as, asks_posted, sender_seen};
 ghost use Rattle.hx_session.specs.Lists.{Grows};
 
-use crate::parts::{Part, Parts, PartsChange};
+use crate::parts::{Parts, PartsChange, SearchPart};
 use crate::prepared::{Change, Progress, change_nothing, ended};
 use hx_region::{RegionMap, plan};
 use hx_types::{
@@ -203,7 +203,7 @@ fn ask_regions(
     let mut parts = Parts::with_capacity(alloc, regions.len())?;
     for region in regions.as_slice() {
         ask(alloc, sender, terms, *region, posts)?;
-        parts.push(Part {
+        parts.push(SearchPart {
             region: *region,
             rows: None,
         })?;

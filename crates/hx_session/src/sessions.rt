@@ -17,7 +17,7 @@ ghost use Rattle.hx_session.specs.Kinds.{kind_test};
 
 use crate::kinds::{CallKind, is_of};
 use crate::merging::merged;
-use crate::parts::{Part, Parts, all_found, lacking};
+use crate::parts::{Parts, SearchPart, all_found, lacking};
 use crate::prepared::{Change, Plan, Progress, change_nothing, cut_back, ended, kept, poll};
 use crate::sending::{Sender, send};
 use hx_region::RegionMap;
@@ -201,7 +201,7 @@ impl Session {
     {
         let _ = &self.id;
         let (post_count, note_count) = (posts.len(), notes.len());
-        let Ok(change) = self.heard(alloc, message, posts, notes) else {
+        let Ok(change) = self.hear_message(alloc, message, posts, notes) else {
             cut_back(alloc, posts, post_count);
             cut_back(alloc, notes, note_count);
             return Err(Memory);
@@ -373,7 +373,7 @@ impl Session {
     }
 
     /// What a message makes.
-    fn heard(
+    fn hear_message(
         &self,
         alloc: Global,
         message: &Message,
@@ -401,14 +401,14 @@ impl Session {
                 number,
                 region,
                 rows,
-            } => self.found(alloc, *epoch, *number, *region, rows, notes),
+            } => self.hear_found(alloc, *epoch, *number, *region, rows, notes),
             Message::Install { config } => self.install(alloc, config, posts, notes),
             _ => Ok(change_nothing(self.progress)),
         }
     }
 
     /// A part of the search under way is kept, where it is the first of its region.
-    fn found(
+    fn hear_found(
         &self,
         alloc: Global,
         epoch: Epoch,
@@ -425,14 +425,14 @@ impl Session {
             return Ok(change_nothing(self.progress));
         }
         match lacking(self.parts.as_slice(), region) {
-            Some(place) => self.keep(alloc, place, region, rows, notes),
+            Some(place) => self.keep_part(alloc, place, region, rows, notes),
             None => Ok(change_nothing(self.progress)),
         }
     }
 
     /// A part is kept; where it is the last, the search ends.
     #[inline(never)]
-    fn keep(
+    fn keep_part(
         &self,
         alloc: Global,
         place: usize,
@@ -452,7 +452,7 @@ impl Session {
             return ended(alloc, self.progress, Version(0), answer, notes);
         }
         let rows = rows.copy(alloc)?;
-        let part = Part {
+        let part = SearchPart {
             region,
             rows: Some(rows),
         };

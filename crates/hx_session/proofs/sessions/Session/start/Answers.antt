@@ -3,7 +3,7 @@ use Rattle.std.specs.List.{All}
 use Rattle.hx_model.specs.Types.{Space}
 use Rattle.hx_types.specs.Spaces.{Fits, IsAscending, IsConfigOf}
 use Rattle.hx_law_posts.proofs.Lemmas.{first-of_space}
-use Rattle.hx_session.specs.declared.parts.Part.{Part}
+use Rattle.hx_session.specs.declared.parts.SearchPart.{SearchPart}
 use Rattle.hx_session.specs.Changes.{part_seen}
 use Rattle.hx_session.proofs.Kept.{regions_of}
 use Rattle.hx_session.proofs.sessions.Session.start.Goals as goal
@@ -19,6 +19,6 @@ invariant_of-result c = record {
   in_order = record {
     within = omega arith;
     few = c.requires.few_calls;
-    ascend = subst (λ (ps : List Part). IsAscending (regions_of (map part_seen ps))) (sym c.new.ensures) tt;
+    ascend = subst (λ (ps : List SearchPart). IsAscending (regions_of (map part_seen ps))) (sym c.new.ensures) tt;
   };
 }

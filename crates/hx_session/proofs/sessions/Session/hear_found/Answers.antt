@@ -4,27 +4,27 @@ use Rattle.hx_model.specs.Types.{Config}
 use Rattle.hx_model.specs.SessionSteps.{SessionStep}
 use Rattle.hx_session.specs.Changes.{Makes}
 use Rattle.hx_session.proofs.Finding.{found_is, stays_makes, unfound_is}
-use Rattle.hx_session.proofs.sessions.Session.found.Goals as goal
+use Rattle.hx_session.proofs.sessions.Session.hear_found.Goals as goal
 
 pub returns-in-Some-clause-change : goal.returns-in-Some-clause-change
 returns-in-Some-clause-change c =
-    IfOk-weaker c.keep.result _ _
+    IfOk-weaker c.keep_part.result _ _
     (
     λ change e. subst (λ (step : SessionStep). Makes c.args.self.now.state step change)
     (found_is c.self.inside c.args.self.now c.args.epoch c.args.number c.args.region c.args.rows.now c.as_slice.result.now c.self.view_is c.as_slice.ensures
     (sym c.awaits.ensures ∙ c.if-not-awaits.false) (c.if-epoch-deref.false ∙ ap (λ (x : Config). x.epoch.0) c.deref.ensures) c.in-Some.ensures.some) e
     )
-    c.keep.ensures.change
+    c.keep_part.ensures.change
 
 pub returns-in-Some-clause-notes : goal.returns-in-Some-clause-notes
 returns-in-Some-clause-notes c =
-    on_ok_weaker c.keep.result
+    on_ok_weaker c.keep_part.result
     (
-    λ e. subst (λ (step : SessionStep). c.keep.new.notes ≡ c.args.notes.now ++ step.notes)
+    λ e. subst (λ (step : SessionStep). c.keep_part.new.notes ≡ c.args.notes.now ++ step.notes)
     (found_is c.self.inside c.args.self.now c.args.epoch c.args.number c.args.region c.args.rows.now c.as_slice.result.now c.self.view_is c.as_slice.ensures
     (sym c.awaits.ensures ∙ c.if-not-awaits.false) (c.if-epoch-deref.false ∙ ap (λ (x : Config). x.epoch.0) c.deref.ensures) c.in-Some.ensures.some) e
     )
-    c.keep.ensures.notes
+    c.keep_part.ensures.notes
 
 pub returns-in-None-clause-change : goal.returns-in-None-clause-change
 returns-in-None-clause-change c =
