@@ -39,7 +39,7 @@ impl AtWork {
         self.working.load(Ordering::SeqCst) == 0
     }
 
-    fn join(&self) {
+    fn enter(&self) {
         self.working.fetch_add(1, Ordering::SeqCst);
     }
 
@@ -80,7 +80,7 @@ impl Lull {
     /// The driver is at work again.
     fn end(&mut self, at_work: &AtWork) {
         if self.rounds >= ROUNDS_BEFORE_LULL {
-            at_work.join();
+            at_work.enter();
         }
         self.rounds = 0;
         self.calm = 0;
