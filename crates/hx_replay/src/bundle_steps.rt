@@ -21,14 +21,18 @@ pub fn take_steps(alloc: Global, bundle: &Bundle, cluster: &mut Cluster<'_>) -> 
 {
     let mut rest = bundle.steps.as_slice();
     'steps: while let Some((first, after)) = rest.split_first() {
-        take(alloc, cluster, first)?;
+        take_step_in_space(alloc, cluster, first)?;
         rest = after;
     }
     Ok(())
 }
 
 /// Takes a step in its space.
-fn take(alloc: Global, cluster: &mut Cluster<'_>, step: &BundleStep) -> Result<(), Stopped>
+fn take_step_in_space(
+    alloc: Global,
+    cluster: &mut Cluster<'_>,
+    step: &BundleStep,
+) -> Result<(), Stopped>
     requires { IsStepAt cluster.old.bundle step.now.space step.now.step }
     ensures bundle { cluster.new.bundle ≡ cluster.old.bundle }
     ensures takes { OnOk result (Steps cluster.old cluster.new step.now.space step.now.step) }

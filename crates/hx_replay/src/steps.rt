@@ -44,14 +44,14 @@ pub fn take_steps(alloc: Global, script: &Script, world: &mut World) -> Result<(
 {
     let mut rest = script.steps.as_slice();
     'steps: while let Some((first, after)) = rest.split_first() {
-        take(alloc, world, first.0, &first.1)?;
+        take_step(alloc, world, first.0, &first.1)?;
         rest = after;
     }
     Ok(())
 }
 
 /// Takes the step that stands on a line.
-fn take(alloc: Global, world: &mut World, line: u64, step: &Step) -> Result<(), Stopped>
+fn take_step(alloc: Global, world: &mut World, line: u64, step: &Step) -> Result<(), Stopped>
     requires { IsStepOf world.old.script step.now }
     ensures script { world.new.script ≡ world.old.script }
     ensures takes { OnOk result (Steps world.old.script (reverse world.old.trace) (reverse world.new.trace) step.now) }
