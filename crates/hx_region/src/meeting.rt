@@ -5,6 +5,7 @@ ghost use Rattle.hx_region.specs.Ranges.{AreThose, rows_from, rows_met};
 ghost use Rattle.hx_types.specs.Spaces.{ArePart, IsSpace};
 ghost use Rattle.hx_types.specs.Subspaces.{size_of};
 ghost use Rattle.hx_types.specs.Words.{below};
+ghost use Rattle.hx_types.specs.declared.limits.TheConstants.{MOST_REGIONS};
 ghost use Rattle.hx_model.specs.Types.{Axis};
 
 use crate::cell;
@@ -17,7 +18,7 @@ use std::alloc::Global;
 pub fn count_meeting(space: &Space, axes: &[Axis], terms: &[Term]) -> u32
     requires space { IsSpace space.now }
     requires parts { All (λ (a : Axis). ArePart a.parts) axes.now }
-    requires few { size_of axes.now ≤ 4096 }
+    requires few { size_of axes.now ≤ MOST_REGIONS }
     ensures { result ≡ length (rows_met space.now terms.now axes.now) }
 {
     let mut count = 1;
@@ -39,7 +40,7 @@ pub fn rows_meeting(
 ) -> Result<Vec<u32>, Memory>
     requires space { IsSpace space.now }
     requires parts { All (λ (a : Axis). ArePart a.parts) axes.now }
-    requires few { size_of axes.now ≤ 4096 }
+    requires few { size_of axes.now ≤ MOST_REGIONS }
     ensures { IfOk result (λ rows. rows.items ≡ rows_met space.now terms.now axes.now) }
 {
     let Some((axis, rest)) = axes.split_first() else {
@@ -62,7 +63,7 @@ fn rows_of_cells(
     rows_of_rest: &Vec<u32>,
 ) -> Result<Vec<u32>, Memory>
     requires cells { cells.first + cells.count ≤ 256 }
-    requires few { (cells.first + cells.count) * size ≤ 4096 }
+    requires few { (cells.first + cells.count) * size ≤ MOST_REGIONS }
     requires rows { All (λ row. row < size) rows_of_rest.now.items }
     ensures { IfOk result (λ rows. rows.items ≡ flat_map (λ place. rows_from size (cells.first + place) rows_of_rest.now.items) (below cells.count)) }
 {

@@ -5,6 +5,7 @@ ghost use Rattle.hx_model.specs.Regions.{allows, axis_cell, row_meets, row_numbe
 ghost use Rattle.hx_types.specs.Spaces.{ArePart, IsKind, IsSpace};
 ghost use Rattle.hx_types.specs.Subspaces.{kind_at, size_of};
 ghost use Rattle.hx_model.specs.Types.{Axis};
+ghost use Rattle.hx_types.specs.declared.limits.TheConstants.{MOST_REGIONS};
 ghost use Rattle.hx_types.specs.declared.values.Value.TheVariants as a_value;
 
 use crate::{cell, int_cell, text_cell};
@@ -13,7 +14,7 @@ use hx_types::{Axis, Kind, Object, Space, Term, Text};
 /// How many regions a subspace of these axes has.
 pub fn size(axes: &[Axis]) -> u32
     requires parts { All (λ (a : Axis). ArePart a.parts) axes.now }
-    requires few { size_of axes.now ≤ 4096 }
+    requires few { size_of axes.now ≤ MOST_REGIONS }
     ensures { result ≡ size_of axes.now }
 {
     let mut size = 1;
@@ -28,7 +29,7 @@ pub fn size(axes: &[Axis]) -> u32
 pub fn row(space: &Space, axes: &[Axis], key: &Text, object: &Object) -> u32
     requires space { IsSpace space.now }
     requires parts { All (λ (a : Axis). ArePart a.parts) axes.now }
-    requires few { size_of axes.now ≤ 4096 }
+    requires few { size_of axes.now ≤ MOST_REGIONS }
     ensures exact { result ≡ row_number space.now key.now object.now 0 axes.now }
     ensures within { result < size_of axes.now }
 {

@@ -1,6 +1,7 @@
 //! How a subspace cuts the values of some attributes.
 
 ghost use Rattle.std.specs.Prelude.{◌≡◌, ◌≤◌, ◌+◌, ◌*◌, IfOk, OnOk, length};
+ghost use Rattle.hx_types.specs.declared.limits.TheConstants.{MOST_REGIONS};
 ghost use Rattle.hx_script.specs.Readers.{Reads};
 ghost use Rattle.hx_script.specs.Axes.{has_axis, free_axis, parts, axis, next_axis, more_axes, subspace};
 
@@ -46,7 +47,7 @@ fn free_axis(space: &Space, axes: &Axes, line: &mut Line<'_>) -> Result<u32, Sto
 #[tactic(auto, unfolding(crate::specs::Axes::parts))]
 fn parts(regions: u32, size: u32, line: &mut Line<'_>) -> Result<u32, Stop>
     ensures reads { Reads (λ n. n) result line.new (parts regions size line.old) }
-    ensures within { IfOk result (λ n. regions + size * n ≤ 4096) }
+    ensures within { IfOk result (λ n. regions + size * n ≤ MOST_REGIONS) }
 {
     let parts = line.number_in(1, MOST_PARTS)?;
     let all = u64::from(regions) + u64::from(size) * u64::from(parts);
@@ -61,7 +62,7 @@ fn parts(regions: u32, size: u32, line: &mut Line<'_>) -> Result<u32, Stop>
 fn axis(space: &Space, regions: u32, draft: &mut AxesDraft, line: &mut Line<'_>) -> Result<(), Stop>
     requires few { length space.now.attributes ≤ 16 }
     ensures reads { Reads (λ _. draft.new) result line.new (axis space.now regions draft.old line.old) }
-    ensures within { OnOk result (regions + draft.new.size ≤ 4096) }
+    ensures within { OnOk result (regions + draft.new.size ≤ MOST_REGIONS) }
 {
     let attribute = free_axis(space, &draft.axes, line)?;
     let parts = parts(regions, draft.size, line)?;
@@ -80,7 +81,7 @@ fn next_axis(
 ) -> Result<(), Stop>
     requires few { length space.now.attributes ≤ 16 }
     ensures reads { Reads (λ _. draft.new) result line.new (next_axis space.now regions draft.old line.old) }
-    ensures within { OnOk result (regions + draft.new.size ≤ 4096) }
+    ensures within { OnOk result (regions + draft.new.size ≤ MOST_REGIONS) }
 {
     line.sign(b",")?;
     axis(space, regions, draft, line)
@@ -95,9 +96,9 @@ fn more_axes(
     line: &mut Line<'_>,
 ) -> Result<(), Stop>
     requires few { length space.now.attributes ≤ 16 }
-    requires room { regions + draft.old.size ≤ 4096 }
+    requires room { regions + draft.old.size ≤ MOST_REGIONS }
     ensures reads { Reads (λ _. draft.new) result line.new (more_axes space.now regions draft.old line.old) }
-    ensures within { OnOk result (regions + draft.new.size ≤ 4096) }
+    ensures within { OnOk result (regions + draft.new.size ≤ MOST_REGIONS) }
 {
     'axes: while !line.is_at(Until::End) {
         next_axis(space, regions, draft, line)?;
@@ -115,7 +116,7 @@ pub(crate) fn subspace(
 ) -> Result<AxesDraft, Stop>
     requires few { length space.now.attributes ≤ 16 }
     ensures reads { Reads (λ c. c) result line.new (subspace space.now regions line.old) }
-    ensures within { IfOk result (λ c. regions + c.size ≤ 4096) }
+    ensures within { IfOk result (λ c. regions + c.size ≤ MOST_REGIONS) }
 {
     let mut draft = AxesDraft {
         axes: Axes::new(alloc),
