@@ -7,6 +7,10 @@ use hx_types::Totals;
 
 /// The actors of a driver, with its ports, the totals of what it posted, and the first fault that a
 /// turn or a retry met.
+///
+/// [`Driver`](crate::Driver) owns it beside its fate, and lends both to each move, in place of
+/// having these fields itself. A fate is a `dyn` of any type, which a crew doesn't hold: so
+/// definitions and laws speak of crews whatever their fates are.
 pub struct Crew {
     pub desks: Vec<Desk>,
     pub out: Outbox,
