@@ -10,7 +10,8 @@ use crate::staying::{has_key, stays};
 use hx_types::{Memory, Row, Shared, insert_within};
 use std::alloc::Global;
 
-/// How many numbers stand before one, at which this row is, in the order of an attribute.
+/// How many numbers stand before one, at which this row is, in the order of an attribute. It is a
+/// loop of its own: in `partition_point` the test stays a call, which costs an index a quarter more.
 fn place_of(
     order: &[u32],
     rows: &[Option<Shared<Row>>],
@@ -21,7 +22,17 @@ fn place_of(
     requires { IsStrictlySortedBy (compare_at (rows_with id (Some row.now) (rows_at rows.now)) attribute) order.now }
     ensures { IsSplit (stands_before (rows_with id (Some row.now) (rows_at rows.now)) attribute id) result order.now }
 {
-    order.partition_point(|other| is_before(rows, attribute, *other, id, row))
+    let mut low = 0;
+    let mut high = order.len();
+    while low < high {
+        let middle = low + (high - low) / 2;
+        if is_before(rows, attribute, order[middle], id, row) {
+            low = middle + 1;
+        } else {
+            high = middle;
+        }
+    }
+    low
 }
 
 /// Puts the number of a row into the order of an attribute. There is room, so it takes no memory.
