@@ -79,12 +79,13 @@ impl<'a> Stretch<'a> {
     pub(crate) fn put_places(&self, places: &mut Vec<EntryPlace>) -> Result<(), Memory>
         ensures { OnOk result (places.new.items ≡ places.old.items ++ places_in self.now) }
     {
+        places.reserve((self.end - self.at) as usize)?;
         for at in self.at..self.end {
-            places.push(EntryPlace {
+            places.push_reserved(EntryPlace {
                 part: self.place,
                 at,
                 has_notes: self.part.has_notes(at as usize),
-            })?;
+            });
         }
         Ok(())
     }
