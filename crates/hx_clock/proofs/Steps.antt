@@ -168,7 +168,7 @@ acts slots id k part known count c e few cause s kept len at small =
 fits_count : (history : List Event) (c d : ℕ) (u : View) → ((n : ℕ) → u.count ≡ Some n → n ≡ d) → Fits history c u → Fits history d u
 fits_count history c d u num f = record { carried = f.carried; known = f.known; count = num }
 
-counts-some : (c : Option ℕ) (n : ℕ) → c ≡ Some n → counts c ≡ 1
+pub counts-some : (c : Option ℕ) (n : ℕ) → c ≡ Some n → counts c ≡ 1
 counts-some c n e = ap counts e
 
 -- no other view has a count
@@ -178,7 +178,7 @@ uncounted views id j v u m once at there other mine e =
     let b = counts-some u.count m e in
     omega arith
 
-one_lt-next : (k n : ℕ) → one (nat_lt k (n + 1)) ≡ one (eqb k n) + one (nat_lt k n)
+pub one_lt-next : (k n : ℕ) → one (nat_lt k (n + 1)) ≡ one (eqb k n) + one (nat_lt k n)
 one_lt-next k n = grind (arith, nat_tests)
 
 some-number : (n d : ℕ) → Some n ≡ Some d → n ≡ d
@@ -297,7 +297,7 @@ tells id v s kept at =
       },
     ))
 
-counts-either : (c d : Option ℕ) → counts c + counts d ≤ 1 → counts (either_count c d) ≡ counts c + counts d
+pub counts-either : (c d : Option ℕ) → counts c + counts d ≤ 1 → counts (either_count c d) ≡ counts c + counts d
 counts-either None d h = omega arith
 counts-either (Some n) d h = omega arith
 

@@ -1,5 +1,5 @@
 -- A crew before and after one of its actors had a turn.
-use Rattle.std.proofs.Common.{◌≡◌, ℕ, zero, suc, ◌+◌, ◌<◌, ◌≤◌, ◌⊎◌, ⊎_elim, inl, inr, Bool, true, false, List, [], ◌∷◌, ◌++◌, length, slice_get, slice_index_or, slice_set, Some, None, refl, ap, sym, subst, ◌∙◌, arith}
+use Rattle.std.proofs.Common.{◌≡◌, ℕ, zero, suc, ◌+◌, ◌<◌, ◌≤◌, ◌⊎◌, ⊎_elim, inl, inr, Bool, true, false, List, [], ◌∷◌, length, slice_get, slice_index_or, slice_set, Some, None, refl, ap, sym, subst, ◌∙◌, arith}
 use Rattle.std.specs.List.{AllByRecursion}
 use Rattle.std.proofs.lemmas.Option.{none-some, slice_get_within}
 use Rattle.atomic_table.specs.Seated.{TableId}
@@ -7,7 +7,7 @@ use Rattle.hx_types.specs.declared.ids.Actor.{Actor}
 use Rattle.hx_types.specs.declared.traces.Script.{Script}
 use Rattle.hx_types.specs.Words.{IsIn}
 use Rattle.hx_clock.specs.declared.parts.Stamped.{Stamped}
-use Rattle.hx_clock.proofs.Lemmas.{each_map}
+use Rattle.hx_clock.proofs.Lemmas.{each_map, get_before}
 use Rattle.hx_mail.specs.Boxes.{Boxed}
 use Rattle.hx_fate.specs.declared.fates.FateState.{FateState}
 use Rattle.hx_outbox.specs.Zipped.{Both}
@@ -140,11 +140,6 @@ crew-later-trans a b c h k = record {
 no-retry-refl : (d : Desk) → HasNoRetry d d
 no-retry-refl d n x le at = let within = slice_get_within d.part.items n x at in absurd (omega (arith, le, within))
 
-get-before : {A : Type 0} (xs ys : List A) (n : ℕ) → n < length xs → slice_get (xs ++ ys) n ≡ slice_get xs n
-get-before [] ys n lt = absurd (omega (arith, lt))
-get-before (x ∷ xs) ys zero lt = refl
-get-before (x ∷ xs) ys (suc n) lt = get-before xs ys n (omega (arith, lt))
-
 below-or-not : (i n : ℕ) → (i < n) ⊎ (n ≤ i)
 below-or-not i zero = inr (omega arith)
 below-or-not zero (suc n) = inl (omega arith)
@@ -153,7 +148,7 @@ below-or-not (suc i) (suc n) = ⊎_elim (λ (h : i < n). inl (omega (arith, h)))
 no-retry-trans : (d e f : Desk) → HasNoRetry d e → IsLater e f → HasNoRetry e f → HasNoRetry d f
 no-retry-trans d e f h later k n x le at =
     ⊎_elim
-    (λ (lt : n < length e.part.items). h n x le (sym (get-before e.part.items later.part.0 n lt) ∙ ap (λ (l : List Stamped). slice_get l n) later.part.1 ∙ at))
+    (λ (lt : n < length e.part.items). h n x le (sym (get_before e.part.items later.part.0 n lt) ∙ ap (λ (l : List Stamped). slice_get l n) later.part.1 ∙ at))
     (λ (ge : length e.part.items ≤ n). k n x ge at)
     (below-or-not n (length e.part.items))
 

@@ -2,10 +2,6 @@
 use Rattle.std.proofs.Common.{IfOk, OnOk, Result, Ok, Err}
 use Rattle.std.specs.Prelude.{MatchResult}
 
-pub ok-both : {T E : Type 0} (P Q R : T → Type 0) (r : Result T E) → ((x : T) → P x → Q x → R x) → IfOk r P → IfOk r Q → IfOk r R
-ok-both P Q R (Ok x) f h k = f x h k
-ok-both P Q R (Err e) f h k = tt
-
 pub match-map : {T E : Type 0} (P P' : T → Type 0) (Q Q' : E → Type 0) (r : Result T E) → ((x : T) → P x → P' x) → ((e : E) → Q e → Q' e) → MatchResult r P Q → MatchResult r P' Q'
 match-map P P' Q Q' (Ok x) f g h = f x h
 match-map P P' Q Q' (Err e) f g h = g e h

@@ -4,7 +4,7 @@ use Rattle.std.specs.Prelude.{nat_lt, slice_range, ⊤}
 use Rattle.std.specs.List.{AllByRecursion}
 use Rattle.std.proofs.lemmas.Bool.{cond_both, eq-eqb, eqb-true, ne_eqb}
 use Rattle.std.proofs.Math.Seq.{drop-nil}
-use Rattle.std.proofs.lemmas.List.{append-nil, append_assoc, length-append}
+use Rattle.std.proofs.lemmas.List.{append_assoc, length-append}
 use Rattle.std.specs.Option.{option_map}
 use Rattle.hx_types.specs.declared.ids.Stamp.{Stamp}
 use Rattle.hx_clock.proofs.Lemmas.{some_same}
@@ -292,12 +292,6 @@ place_more old places new place start at part p b pushed before from is here =
     let is_place : p ≡ place_at place (start + length (slice_range part start at)) x.0 = here ∙ (λ i. record { part = place; at = sym last i; has_notes = x.2 i }) in
     pushed ∙ (λ i. before i ++ is_place i ∷ []) ∙ append_assoc old (numbered (place_at place) start (slice_range part start at)) (place_at place (start + length (slice_range part start at)) x.0 ∷ [])
     ∙ ap (λ l. old ++ l) (sym (numbered_end (place_at place) start (slice_range part start at) x.0) ∙ ap (numbered (place_at place) start) (sym longer))
-
--- no place yet
-pub no_places : (old : List EntryPlace) (place start : ℕ) (part : List Stamped) → old ≡ old ++ numbered (place_at place) start (slice_range part start start)
-no_places old place start part =
-    let none : start - start ≡ 0 = omega arith in
-    sym (append-nil old) ∙ ap (λ n. old ++ numbered (place_at place) start (take n (drop start part))) (sym none)
 
 -- ---- what is merged
 

@@ -2,7 +2,6 @@
 use Rattle.std.proofs.Common.{◌≡◌, ℕ, zero, suc, ◌+◌, ◌/◌, ◌<◌, ◌≤◌, Bool, true, false, cond, List, length, slice_index_or, refl, ap, sym, ◌∙◌, subst, arith, eqb}
 use Rattle.std.specs.List.Sorted.{IsPartitionedBy}
 use Rattle.std.proofs.lemmas.Bool.{cond_both, cond-false, cond-true, eq-eqb, eqb-true, false_from_ne_true, false≢true}
-use Rattle.hx_index.specs.Invariant.{IsEnd}
 use Rattle.hx_index.specs.Looks.{HaveCounted, digits_of, digits_within, raised}
 
 -- the test passes below a place and not from another on
@@ -13,9 +12,6 @@ pub record IsBetween (p : ℕ → Bool) (order : List ℕ) (low high : ℕ) : Ty
   pub from : (i : ℕ) → high ≤ i → i < length order → p (slice_index_or order i 0) ≡ false
 
 module _ (p : ℕ → Bool) (order : List ℕ) where
-  pub between-all : IsBetween p order 0 (length order)
-  between-all = record { within = omega arith; ends = omega arith; before = λ i l. absurd (omega (arith, l)); from = λ i l m. absurd (omega (arith, l, m)) }
-
   module _ (parted : IsPartitionedBy p order) (low high middle : ℕ) (h : IsBetween p order low high) (l : low ≤ middle) (m : middle < high) where
     pub between-above : p (slice_index_or order middle 0) ≡ true → IsBetween p order (middle + 1) high
     between-above t = record {
@@ -32,14 +28,6 @@ module _ (p : ℕ → Bool) (order : List ℕ) where
       before = h.before;
       from = λ i b n. false_from_ne_true (p (slice_index_or order i 0)) (λ t. false≢true (sym f ∙ parted middle i 0 b n t));
     }
-
-  pub between-none : (low high : ℕ) → IsBetween p order low high → high ≤ low → IsEnd p order low
-  between-none low high h l =
-      let w = h.within in record {
-        within = (let e = h.ends in omega (arith, e, w));
-        before = h.before;
-        from = λ i b n. h.from i (omega (arith, b, l, w)) n;
-      }
 
 -- how deep the digits are sought doesn't matter
 half-below : (n f : ℕ) → n ≤ suc f → (n ≡ 0 → ⊥) → n / 2 ≤ f

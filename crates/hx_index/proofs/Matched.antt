@@ -17,7 +17,7 @@ pub if-ok : {A E : Type 0} {P Q : A → Type 0} (r : Result A E) → ((x : A) �
 if-ok (Ok x) f p = f x p
 if-ok (Err e) f p = tt
 
-stands-filter : (p : ℕ → Bool) (i : ℕ) (xs : List ℕ) → stands_in (filter p xs) i ≡ (p i && stands_in xs i)
+pub stands-filter : (p : ℕ → Bool) (i : ℕ) (xs : List ℕ) → stands_in (filter p xs) i ≡ (p i && stands_in xs i)
 stands-filter p i [] = by (p i)
   where
     by : (b : Bool) → false ≡ (b && false)

@@ -1,14 +1,14 @@
 -- The shortest run of the terms.
-use Rattle.std.proofs.Common.{◌≡◌, ℕ, zero, suc, ◌+◌, ◌-◌, ◌<◌, Bool, true, false, cond, List, [], ◌∷◌, length, take, drop, slice_range, get_or, min, Option, refl, ap, sym, ◌∙◌, arith, ltb}
+use Rattle.std.proofs.Common.{◌≡◌, ℕ, zero, suc, ◌+◌, ◌-◌, ◌<◌, Bool, true, false, cond, List, [], ◌∷◌, length, drop, get_or, min, Option, refl, ap, sym, ◌∙◌, arith, ltb}
 use Rattle.std.specs.List.{filter}
-use Rattle.std.proofs.lemmas.Bool.{and_parts, cond_both, cond-false, cond-true, ltb-true, false≢true, lt-ltb}
+use Rattle.std.proofs.lemmas.Bool.{and_parts, cond_both, cond-true, ltb-true, false≢true, lt-ltb}
 use Rattle.hx_model.specs.Types.{Row, Term}
 use Rattle.hx_types.specs.Spaces.{attribute_of}
 use Rattle.hx_index.specs.declared.searching.Span.{Span}
 use Rattle.hx_index.specs.Invariant.{IsSpan}
 use Rattle.hx_index.specs.Orders.{IndexState, order_of}
 use Rattle.hx_index.specs.Runs.{IsRun}
-use Rattle.hx_index.specs.Searches.{indexed_count, is_indexed, least_run, run_length}
+use Rattle.hx_index.specs.Searches.{is_indexed, least_run, run_length}
 use Rattle.hx_index.specs.Sides.{matches_at, meets_at}
 use Rattle.hx_index.proofs.Running.{filter-within, matches-meets, run-is, run-long}
 
@@ -23,16 +23,6 @@ min-is a b = cond_both (ltb a b) a b (λ x. min a b ≡ x) (λ t. let l = ltb-tr
 module _ (index : IndexState) (rows : ℕ → Option Row) (terms : List Term) (k : ℕ) (term : Term) (l : k < length terms) (is : term ≡ get_or terms k term) where
   next-is : drop k terms ≡ term ∷ drop (k + 1) terms
   next-is = drop-next terms k term l ∙ ap (λ (t : Term). t ∷ drop (k + 1) terms) (sym is)
-
-  -- a term without an order is passed over
-  pub least-over : (n : ℕ) → is_indexed index term ≡ false → least_run index rows n (drop k terms) ≡ least_run index rows n (drop (k + 1) terms)
-  least-over n f = ap (least_run index rows n) next-is ∙ ap (λ m. least_run index rows m (drop (k + 1) terms)) (cond-false (is_indexed index term) (min (run_length index rows term) n) n f)
-
-  pub count-over : is_indexed index term ≡ false → indexed_count index (drop k terms) ≡ indexed_count index (drop (k + 1) terms)
-  count-over f = ap (indexed_count index) next-is ∙ ap length (cond-false (is_indexed index term) (term ∷ filter (is_indexed index) (drop (k + 1) terms)) (filter (is_indexed index) (drop (k + 1) terms)) f)
-
-  pub count-more : is_indexed index term ≡ true → indexed_count index (drop k terms) ≡ indexed_count index (drop (k + 1) terms) + 1
-  count-more t = ap (indexed_count index) next-is ∙ ap length (cond-true (is_indexed index term) (term ∷ filter (is_indexed index) (drop (k + 1) terms)) (filter (is_indexed index) (drop (k + 1) terms)) t) ∙ (let e : suc (indexed_count index (drop (k + 1) terms)) ≡ indexed_count index (drop (k + 1) terms) + 1 = omega arith in e)
 
   module _ (first end : ℕ) (run : IsRun rows term (order_of index (attribute_of term)) first end) (t : is_indexed index term ≡ true) where
     pub least-next : (best : Span) (other : Span) → other.first ≡ first → other.end ≡ end → least_run index rows (best.end - best.first) (drop k terms) ≡ least_run index rows ((cond (ltb (other.end - other.first) (best.end - best.first)) other best).end - (cond (ltb (other.end - other.first) (best.end - best.first)) other best).first) (drop (k + 1) terms)
@@ -58,19 +48,3 @@ module _ (index : IndexState) (rows : ℕ → Option Row) (terms : List Term) (k
       ends = run.ends;
       all = filter-within (matches_at rows terms) (meets_at rows term) (matches-meets rows terms k term l is) (order_of index (attribute_of term)) ∙ ap (filter (matches_at rows terms)) (run-is rows term (order_of index (attribute_of term)) first end run);
     }
-
--- all of an order has all that match
-pub whole-span : (index : IndexState) (rows : ℕ → Option Row) (terms : List Term) (attribute : ℕ) → attribute < length index.orders → IsSpan index rows terms attribute 0 (length (order_of index attribute))
-whole-span index rows terms attribute l = record {
-  attribute_is = l;
-  within = omega arith;
-  ends = omega arith;
-  all = ap (filter (matches_at rows terms)) (sym (whole (order_of index attribute)));
-}
-  where
-    whole : (xs : List ℕ) → slice_range xs 0 (length xs) ≡ xs
-    whole xs = ap (λ n. take n xs) (let e : length xs - 0 ≡ length xs = omega arith in e) ∙ all xs
-      where
-        all : (ys : List ℕ) → take (length ys) ys ≡ ys
-        all [] = refl
-        all (y ∷ ys) = ap (λ (zs : List ℕ). y ∷ zs) (all ys)

@@ -1,5 +1,5 @@
 -- A block whose lines keep every clause is consistent.
-use Rattle.hx_law_lemmas.proofs.Lemmas.Vocabulary.{[], and_from, and_parts, Answer, ap, Bool, CallEnd, Caller, cond, EachOnce, false, false≢true, find}
+use Rattle.hx_law_lemmas.proofs.Lemmas.Vocabulary.{[], and_from, and_parts, Answer, ap, Bool, CallEnd, Caller, EachOnce, false, false≢true, find}
 use Rattle.hx_law_lemmas.proofs.Lemmas.Vocabulary.{FinishedSearch, IfSome, inl, inr, is_refused, IsBefore, IsEffect, IsIn, IsLegal, Item, key_of, keys_ascend}
 use Rattle.hx_law_lemmas.proofs.Lemmas.Vocabulary.{List, list_all, list_any, map, None, not, not-true, object_now, Op, Option, option_map, or_left, or_right}
 use Rattle.hx_law_lemmas.proofs.Lemmas.Vocabulary.{refl, reverse, Row, same_text, Search, slice_get, slice_get-map, Some, subst, suc, sym, take, text_below}
@@ -15,7 +15,7 @@ use Rattle.hx_audit.specs.Accounts.{IsAnsweredBy, IsCallBy, IsSearchTrueBy, IsTr
 use Rattle.hx_audit.specs.Clauses.{HasItem, IsEffectOfCall, IsInTime, IsKnown, IsRowOf, IsTrueAt, ended_before_begin, is_above, is_in_time, is_known, is_on}
 use Rattle.hx_audit.specs.Clauses.{is_refused_call, row_above}
 use Rattle.hx_audit.specs.Told.{account_of, call_at, end_told, item_told, items_at, op_told, same_caller, search_told}
-use Rattle.hx_audit.proofs.Lemmas.{one_caller, same_self, one_key}
+use Rattle.hx_audit.proofs.Lemmas.{one_caller, same_self, one_key, found_in}
 use Rattle.hx_law_audit.proofs.Along.{Along, along_all, along_each, along_legal, along_once, along_part}
 
 -- ---- lists
@@ -24,14 +24,6 @@ any_in : {A : Type 0} (p : A → Bool) (x : A) (xs : List A) → IsIn x xs → p
 any_in p x [] i t = absurd i
 any_in p x (y ∷ xs) (inl e) t = or_left (p y) (list_any p xs) (ap p (sym e) ∙ t)
 any_in p x (y ∷ xs) (inr i) t = or_right (p y) (list_any p xs) (any_in p x xs i t)
-
-pub found_in : {A : Type 0} (test : A → Bool) (xs : List A) (x : A) → find test xs ≡ Some x → IsIn x xs × (test x ≡ true)
-found_in test [] x e = absurd (cc)
-found_in {A} test (y ∷ xs) x e = by (test y) refl e (found_in test xs x)
-  where
-    by : (b : Bool) → test y ≡ b → cond b (Some y) (find test xs) ≡ Some x → (find test xs ≡ Some x → IsIn x xs × (test x ≡ true)) → IsIn x (y ∷ xs) × (test x ≡ true)
-    by true t q rest = let z : x ≡ y = cc in (inl z, ap test z ∙ t)
-    by false t q rest = let r = rest q in (inr r.0, r.1)
 
 take_map : {A B : Type 0} (f : A → B) (k : ℕ) (xs : List A) → take k (map f xs) ≡ map f (take k xs)
 take_map f zero xs = refl

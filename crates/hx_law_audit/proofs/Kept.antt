@@ -1,18 +1,18 @@
 -- What is consistent keeps every clause.
-use Rattle.hx_law_lemmas.proofs.Lemmas.Vocabulary.{[], All, All-head, All-tail, and_from, and_parts, Answer, ap, append_assoc, Bool, CallEnd, Caller}
-use Rattle.hx_law_lemmas.proofs.Lemmas.Vocabulary.{cond-false, cond-true, EachOnce, false, false_from_ne_true, false≢true, FinishedSearch, IfSome, inl, inr}
+use Rattle.hx_law_lemmas.proofs.Lemmas.Vocabulary.{[], All, All-head, All-tail, and_from, and_parts, Answer, ap, append_assoc, Bool, CallEnd}
+use Rattle.hx_law_lemmas.proofs.Lemmas.Vocabulary.{EachOnce, false, false_from_ne_true, false≢true, FinishedSearch, IfSome, inl, inr}
 use Rattle.hx_law_lemmas.proofs.Lemmas.Vocabulary.{is_doubt, is_refused, IsBefore, IsIn, IsLegal, Item, key_of, keys_ascend, List, list_all, list_any, map}
 use Rattle.hx_law_lemmas.proofs.Lemmas.Vocabulary.{None, not, not-false, not_from_false, Op, Option, option_map, or_cases, refl, reverse, reverse-append, Row}
 use Rattle.hx_law_lemmas.proofs.Lemmas.Vocabulary.{same_text, same_text_self, Search, slice_get, Some, subst, suc, sym, take, text_below, true, when_some, zero}
 use Rattle.hx_law_lemmas.proofs.Lemmas.Vocabulary.{ℕ, ◌&&◌, ◌++◌, ◌+◌, ◌∙◌, ◌∷◌, ◌≡◌, ◌≢◌, ◌⊎◌}
-use Rattle.hx_law_lemmas.proofs.Lemmas.{in-reverse, map-in}
+use Rattle.hx_law_lemmas.proofs.Lemmas.{in-reverse, map-in, in-slice_get}
 use Rattle.std.specs.Option.{is_some}
 use Rattle.hx_types.specs.declared.calls.Answer.TheVariants as an_answer
 use Rattle.hx_report_lines.specs.declared.blocks.Block.{Block}
 use Rattle.hx_report_lines.specs.declared.calls.CallLine.{CallLine}
 use Rattle.hx_report_lines.specs.declared.histories.HistoryLines.{HistoryLines}
 use Rattle.hx_report_lines.specs.declared.histories.ItemLine.{ItemLine}
-use Rattle.hx_report_lines.specs.Values.{AscendsFrom, IsBlock, IsCallOf, IsReportValue, ReportValue, caller_below, has_end}
+use Rattle.hx_report_lines.specs.Values.{IsBlock, IsCallOf, IsReportValue, ReportValue, has_end}
 use Rattle.hx_audit.specs.declared.verdicts.Clause.{Clause}
 use Rattle.hx_audit.specs.declared.verdicts.Clause.TheVariants as clauses
 use Rattle.hx_audit.specs.declared.verdicts.Verdict.TheVariants as verdicts
@@ -22,9 +22,9 @@ use Rattle.hx_audit.specs.Clauses.{is_refused_call, row_above, KeepsInCall, Keep
 use Rattle.hx_audit.specs.Told.{account_of, call_at, end_told, item_told, items_at, same_caller, search_told}
 use Rattle.hx_audit.specs.Verdicts.{IsVerdict, KeepsInPiece, Placed, block_from, block_lines, blocks_from, call_lines, calls_from, histories_from}
 use Rattle.hx_audit.specs.Verdicts.{history_lines, lines_of_calls, space_lines}
-use Rattle.hx_audit.proofs.Lemmas.{caller_differs, caller_trans, one_caller, same_self, faults, own_items}
+use Rattle.hx_audit.proofs.Lemmas.{one_caller, faults, own_items, found_in, own_call}
 use Rattle.hx_law_audit.proofs.Along.{Along}
-use Rattle.hx_law_audit.proofs.Consistent.{LinearLines, TimelyBy, Told, found_in, in_told}
+use Rattle.hx_law_audit.proofs.Consistent.{LinearLines, TimelyBy, Told, in_told}
 use Rattle.hx_law_audit.specs.Meaning.{IsConsistent}
 
 -- what holds along a history holds at each place
@@ -65,12 +65,6 @@ any_has p (y ∷ xs) t = elim (or_cases (p y) (list_any p xs) t) [
 
 to_told : (b : Block) (x : ItemLine) (xs : List ItemLine) → IsIn x xs → IsIn (item_told b.calls x) (Told b xs)
 to_told b x xs i = in-reverse (map (item_told b.calls) xs) (item_told b.calls x) (map-in (item_told b.calls) xs x i)
-
--- what stands at a place stands in the list
-in_place : {A : Type 0} (xs : List A) (k : ℕ) (x : A) → slice_get xs k ≡ Some x → IsIn x xs
-in_place [] k x e = absurd (cc)
-in_place (y ∷ xs) zero x e = let q : x ≡ y = cc in inl q
-in_place (y ∷ xs) (suc k) x e = inr (in_place xs k x e)
 
 -- ---- legal
 
@@ -185,16 +179,6 @@ in_time_kept b h timely k = by (slice_get h.items k) (at_places (item_told b.cal
 
 -- ---- missing
 
-above_in : (c : Caller) (calls : List CallLine) → AscendsFrom caller_below (Some c) (map (λ (l : CallLine). l.caller) calls) → (l : CallLine) → IsIn l calls → caller_below c l.caller ≡ true
-above_in c [] up l i = absurd i
-above_in c (x ∷ calls) up l (inl e) = ap (λ (y : CallLine). caller_below c y.caller) e ∙ up.0
-above_in c (x ∷ calls) up l (inr i) = caller_trans c x.caller l.caller up.0 (above_in x.caller calls up.1 l i)
-
-own_call : (last : Option Caller) (calls : List CallLine) → AscendsFrom caller_below last (map (λ (l : CallLine). l.caller) calls) → (l : CallLine) → IsIn l calls → call_at calls l.caller ≡ Some l
-own_call last [] up l i = absurd i
-own_call last (x ∷ calls) up l (inl e) = cond-true (same_caller x.caller l.caller) (Some x) (call_at calls l.caller) (same_self x.caller l.caller (ap (λ (y : CallLine). y.caller) (sym e))) ∙ ap Some (sym e)
-own_call last (x ∷ calls) up l (inr i) = cond-false (same_caller x.caller l.caller) (Some x) (call_at calls l.caller) (caller_differs x.caller l.caller (above_in x.caller calls up.1 l i)) ∙ own_call (Some x.caller) calls up.1 l i
-
 missing_kept : (b : Block) → IsBlock b → ((key : List ℕ) → IsLinearBy (account_of b) b.space key) → (l : CallLine) → IsIn l b.calls → HasItem b l
 missing_kept b valid linear l i key e k q fits =
     let at = own_call None b.calls valid.calls_ascend l i in
@@ -231,7 +215,7 @@ true_kept b l all k s e = by (slice_get s.rows k) refl (all s e)
   where
     by : (o : Option Row) → slice_get s.rows k ≡ o → IsSearchTrueBy (account_of b) s → IfSome o (IsRowOf (account_of b) s (row_above s.rows k))
     by None q t = tt
-    by (Some r) q t = record { true_row = t.rows r (in_place s.rows k r q); in_order = above_kept s.rows k r t.in_order q }
+    by (Some r) q t = record { true_row = t.rows r (in-slice_get s.rows k r q); in_order = above_kept s.rows k r t.in_order q }
 
 -- ---- all clauses
 

@@ -1,23 +1,18 @@
 -- Where the verdict is yes, the items of all keys have one order.
-use Rattle.hx_law_lemmas.proofs.Lemmas.Vocabulary.{[], Answer, ap, CallEnd, Caller, EachOnce, false, find, IsIn, Item, List, lt-ltb, ltb, map, None, Option}
-use Rattle.hx_law_lemmas.proofs.Lemmas.Vocabulary.{option_map, refl, reverse, same_text, Some, subst, sym, true, when_some, ℕ, ◌<◌, ◌∷◌, ◌≡◌, ◌≤◌}
+use Rattle.hx_law_lemmas.proofs.Lemmas.Vocabulary.{[], Answer, ap, CallEnd, Caller, false, find, IsIn, Item, List, lt-ltb, ltb, map, None, Option}
+use Rattle.hx_law_lemmas.proofs.Lemmas.Vocabulary.{option_map, refl, reverse, same_text, Some, subst, sym, true, when_some, ℕ, ◌<◌, ◌≡◌, ◌≤◌}
 use Rattle.hx_law_lemmas.proofs.Lemmas.{map-in}
-use Rattle.hx_law_order.specs.Order.{AreInTime, NoneTwice}
-use Rattle.hx_law_order.proofs.Lemmas.{in-time-of-different, histories_have}
+use Rattle.hx_law_order.specs.Order.{AreInTime}
+use Rattle.hx_law_order.proofs.Lemmas.{in-time-of-different, histories_have, once as none_twice}
 use Rattle.hx_report_lines.specs.declared.blocks.Block.{Block}
 use Rattle.hx_report_lines.specs.declared.calls.CallLine.{CallLine}
 use Rattle.hx_report_lines.specs.declared.histories.HistoryLines.{HistoryLines}
 use Rattle.hx_audit.specs.Accounts.{IsLinearBy, ended_before}
 use Rattle.hx_audit.specs.Told.{account_of, call_at, end_told, item_told, same_caller}
-use Rattle.hx_audit.proofs.Lemmas.{one_key}
+use Rattle.hx_audit.proofs.Lemmas.{one_key, found_in}
 use Rattle.hx_law_audit.specs.Meaning.{EndsFollow, YesMeansOneOrder, times_told}
-use Rattle.hx_law_audit.proofs.Consistent.{found_in, in_told}
+use Rattle.hx_law_audit.proofs.Consistent.{in_told}
 use Rattle.hx_law_audit.proofs.Meant.{yes_means}
-
--- items of different calls differ
-none_twice : (items : List Item) → EachOnce items → NoneTwice items
-none_twice [] o = tt
-none_twice (x ∷ older) o = ((λ i. o.0 x i refl), none_twice older o.1)
 
 -- a call that ended before a time is over by then
 is_over : (b : Block) (c : Caller) (e n : ℕ) → option_map (λ (z : CallEnd). z.entry) ((account_of b).end_of c) ≡ Some e → e < n → ended_before (account_of b) c n ≡ true

@@ -11,7 +11,7 @@ use Rattle.hx_types.specs.declared.calls.Answer.TheVariants as an_answer
 use Rattle.hx_types.specs.declared.traces.Note.TheVariants as a_note
 use Rattle.hx_lex.specs.Spelling.{IsText}
 use Rattle.hx_law_texts.specs.Sayable.{CallIsSayable, IsSayable, IsSayableScript}
-use Rattle.hx_law_lemmas.proofs.Lemmas.{all-in, all-of, in-append, in-flat, in-slice_get, in_left, in_right, fits-key, below-differs, EndedAt, begin_is}
+use Rattle.hx_law_lemmas.proofs.Lemmas.{all-in, all-of, in-append, in-flat, in_left, in_right, fits-key, below-differs, EndedAt, begin_is}
 use Rattle.hx_law_posts.proofs.Lemmas.{bounds}
 use Rattle.hx_law_searches.proofs.Lemmas.{runs_are_linear, runs_fit}
 use Rattle.hx_law_causes.proofs.Lemmas.{runs_have_causes}
@@ -23,6 +23,7 @@ use Rattle.hx_law_audit.proofs.RunNotes.{ended_began}
 use Rattle.hx_law_audit.proofs.RunObjects.{CanBeSaid, IsGood, effect_said, now_good, objects_good}
 use Rattle.hx_law_audit.proofs.RunTold.{told_effect}
 use Rattle.hx_law_audit.proofs.RunVersions.{items_low}
+use Rattle.hx_law_order.proofs.Lemmas.{in-numbered}
 
 -- ---- lists
 
@@ -60,10 +61,6 @@ few_keys (k ∷ rest) K up has =
 
 -- ---- the calls of a script
 
-some_in : {A : Type 0} (xs : List A) (n : ℕ) (x : A) → numbered xs n ≡ Some x → IsIn x xs
-some_in xs zero x e = absurd (cc)
-some_in xs (suc n) x e = in-slice_get xs n x e
-
 -- an operation stands among the calls of a session
 op_in_session : (script : Script) (c : Caller) (op : Op) → call_of script c ≡ Some op → (calls : List Op) × IsIn calls script.sessions × IsIn op calls
 op_in_session script c op e = by (numbered script.sessions c.session.0) refl e
@@ -74,7 +71,7 @@ op_in_session script c op e = by (numbered script.sessions c.session.0) refl e
 
     by : (o : Option (List Op)) → numbered script.sessions c.session.0 ≡ o → numbered (when_some o [] (λ (calls : List Op). calls)) c.number ≡ Some op → (calls : List Op) × IsIn calls script.sessions × IsIn op calls
     by None q z = absurd (none c.number z)
-    by (Some calls) q z = (calls, some_in script.sessions c.session.0 calls q, some_in calls c.number op z)
+    by (Some calls) q z = (calls, in-numbered script.sessions c.session.0 calls q, in-numbered calls c.number op z)
 
 call_has : (P : Op → Type 0) (script : Script) → All (λ (calls : List Op). All P calls) script.sessions → (c : Caller) (op : Op) → call_of script c ≡ Some op → P op
 call_has P script all c op e = let r = op_in_session script c op e in all-in P r.0 op (all-in (λ (calls : List Op). All P calls) script.sessions r.0 all r.1) r.2

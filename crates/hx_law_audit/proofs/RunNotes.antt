@@ -8,6 +8,7 @@ use Rattle.std.specs.Prelude.{slice_get}
 use Rattle.hx_types.specs.declared.traces.Note.TheVariants as a_note
 use Rattle.hx_law_lemmas.proofs.Lemmas.{get-below, any-in, in-append, in-flat, in-map, in-reverse, in_left, in_right, map-in, of-reverse, BeganAt, EndedAt}
 use Rattle.hx_law_lemmas.proofs.Lemmas.{of_session}
+use Rattle.hx_law_searches.proofs.Lemmas.{begin-number}
 
 abbrev said : Actor → Note → Noted
 said a n = record { actor = a; note = n }
@@ -38,10 +39,6 @@ ended_noted (x ∷ older) c v a n (inl b) =
     in_left (now x) (noted_in older) (said (Session c.session) (a_note.Ended c.number v a))
     (subst (λ (w : Actor). IsIn (said w (a_note.Ended c.number v a)) (now x)) b.0 (in_now x (a_note.Ended c.number v a) b.1))
 
-begin_number : (c : Caller) (n : Note) → is_begin_of c.number n ≡ true → n ≡ a_note.Began c.number
-begin_number c (a_note.Began k) e = let q = eqb-true k c.number e in ap a_note.Began q
-begin_number c other e = absurd (false≢true e)
-
 -- who was noted as begun began
 noted_began : (t : List Entry) (c : Caller) → has_begun c (noted_in t) ≡ true → (n : ℕ) × BeganAt t c n
 noted_began t c e = let r = any-in (λ (x : Noted). same_actor x.actor (Session c.session) && is_begin_of c.number x.note) (noted_in t) e in by t r.0 r.1 r.2
@@ -51,7 +48,7 @@ noted_began t c e = let r = any-in (λ (x : Noted). same_actor x.actor (Session 
     by (x ∷ older) m i e = elim (in-append (now x) (noted_in older) m i) [
       | inr j ↦ (let r = by older m j e in (r.0, inr r.1))
       | inl j ↦ (let p = and_parts (same_actor m.actor (Session c.session)) (is_begin_of c.number m.note) e in let q = now_in x m j in
-          (length older + 1, inl (sym q.0 ∙ of_session c.session m.actor p.0, subst (λ n. IsIn n x.notes) (begin_number c m.note p.1) q.1, refl)))
+          (length older + 1, inl (sym q.0 ∙ of_session c.session m.actor p.0, subst (λ n. IsIn n x.notes) (begin-number c m.note p.1) q.1, refl)))
     ]
 
 -- a note fits those before it
@@ -95,13 +92,6 @@ module _ (script : Script) (trace : List Entry) (fits : TraceFits script trace) 
       let f = fits_at script (noted_in trace) fits (said (Session c.session) (a_note.Ended c.number v a)) (ended_noted trace c v a n b) in
       let p = and_parts (when_some (call_of script c) false (λ (op : Op). ends_well op a) && has_begun c f.older) (not (has_ended c f.older)) f.fits in
       noted_began trace c (f.begun c (and_parts (when_some (call_of script c) false (λ (op : Op). ends_well op a)) (has_begun c f.older) p.0).1)
-
-  -- a search ends with rows or refused
-  pub ended_well : (c : Caller) (v : Version) (a : Answer) (n : ℕ) → EndedAt trace c v a n → when_some (call_of script c) false (λ (op : Op). ends_well op a) ≡ true
-  ended_well c v a n b =
-      let f = fits_at script (noted_in trace) fits (said (Session c.session) (a_note.Ended c.number v a)) (ended_noted trace c v a n b) in
-      let p = and_parts (when_some (call_of script c) false (λ (op : Op). ends_well op a) && has_begun c f.older) (not (has_ended c f.older)) f.fits in
-      (and_parts (when_some (call_of script c) false (λ (op : Op). ends_well op a)) (has_begun c f.older) p.0).0
 
 -- ---- the callers of a script
 

@@ -1,9 +1,9 @@
 -- Objects in legal histories belong to the space and can be said, where the operations do and can.
-use Rattle.hx_law_lemmas.proofs.Lemmas.Vocabulary.{[], All, and_from, and_parts, and_then, Answer, Assign, Atomic, Attribute, Bool, changed_to, cond_both, Cput}
+use Rattle.hx_law_lemmas.proofs.Lemmas.Vocabulary.{[], All, and_from, and_parts, Assign, Atomic, Attribute, Bool, changed_to, cond_both, Cput}
 use Rattle.hx_law_lemmas.proofs.Lemmas.Vocabulary.{default_of, defaults, Del, Edit, edit_of, edited_from, edited_value, EditKind, Effect, effect_of, Err, Fits}
 use Rattle.hx_law_lemmas.proofs.Lemmas.Vocabulary.{fits_64, FitsSigned, Get, inl, inr, int_le, IsIn, IsLegal, IsMaybeObjectOf, IsUtf8-append, IsUtf8-nil, Item}
 use Rattle.hx_law_lemmas.proofs.Lemmas.Vocabulary.{Kind, left_as, length, List, list_all, LONGEST_TEXT, ltb-true, nat_le, negsuc, None, object_now, Ok, Op}
-use Rattle.hx_law_lemmas.proofs.Lemmas.Vocabulary.{Option, pos, Put, refl, Result, slice_get, slice_set, Some, Space, subst, sym, tests_hold, true, Value, w64}
+use Rattle.hx_law_lemmas.proofs.Lemmas.Vocabulary.{Option, pos, Put, refl, slice_get, slice_set, Some, Space, subst, sym, tests_hold, true, Value, w64}
 use Rattle.hx_law_lemmas.proofs.Lemmas.Vocabulary.{written, ℕ, ℤ, ◌++◌, ◌+ℤ◌, ◌+◌, ◌-◌, ◌∷◌, ◌≡◌}
 use Rattle.hx_types.specs.declared.calls.Answer.TheVariants as an_answer
 use Rattle.hx_types.specs.declared.spaces.Kind.TheVariants as a_kind
@@ -11,7 +11,7 @@ use Rattle.hx_types.specs.declared.values.EditKind.TheVariants as an_edit
 use Rattle.hx_types.specs.declared.values.Value.TheVariants as a_value
 use Rattle.hx_lex.specs.Spelling.{IsText, is_plain}
 use Rattle.hx_law_texts.specs.Sayable.{BoundsAreSayable, CallIsSayable, IsSayable}
-use Rattle.hx_law_lemmas.proofs.Lemmas.{MadeWith, edited-both, all-in, all-of, in-slice_set, in-slice_get, in-map, when_some_both, effect-sound}
+use Rattle.hx_law_lemmas.proofs.Lemmas.{MadeWith, edited-both, all-in, all-of, in-slice_set, in-slice_get, in-map, when_some_both, effect-sound, and_then-made}
 
 -- what is there can be said
 abbrev pub CanBeSaid : Option (List Value) → Type 0
@@ -64,14 +64,10 @@ value_said an_edit.Max (a_value.Int v) (a_value.Int i) h k = cond_both (int_le v
 value_said an_edit.Max (a_value.Int v) (a_value.Text new) h k = h
 value_said an_edit.Max (a_value.Text old) by h k = h
 
-then_made : {A B : Type 0} (P : A → Type 0) (Q : B → Type 0) (made : Result A Answer) (f : A → Result B Answer) → MadeWith P made → ((x : A) → P x → MadeWith Q (f x)) → MadeWith Q (and_then made f)
-then_made P Q (Ok x) f h g = g x h
-then_made P Q (Err answer) f h g = h
-
 edits_said : (old object : List Value) (edits : List Edit) → All IsSayable old → All IsSayable object → ((e : Edit) → IsIn e edits → IsSayable e.value) → MadeWith (All IsSayable) (edited_from old object edits)
 edits_said old object [] h k f = k
 edits_said old object (e ∷ rest) h k f =
-    then_made IsSayable (All IsSayable) (edit_of old e) (λ (v : Value). edited_from old (slice_set object (e.attribute - 1) v) rest)
+    and_then-made IsSayable (All IsSayable) (edit_of old e) (λ (v : Value). edited_from old (slice_set object (e.attribute - 1) v) rest)
     (when_some_both (slice_get old (e.attribute - 1)) (Ok e.value) (λ (v : Value). edited_value e.what v e.value) (MadeWith IsSayable) (λ q. f e (inl refl))
     (λ v q. value_said e.what v e.value (all-in IsSayable old v h (in-slice_get old (e.attribute - 1) v q)) (f e (inl refl))))
     (λ v m. edits_said old (slice_set object (e.attribute - 1) v) rest h (set_said object (e.attribute - 1) v k m) (λ d i. f d (inr i)))

@@ -10,7 +10,7 @@ use Rattle.hx_types.specs.declared.calls.Answer.TheVariants as an_answer
 use Rattle.hx_types.specs.declared.messages.Message.TheVariants as a_message
 use Rattle.hx_types.specs.declared.traces.Note.TheVariants as a_note
 use Rattle.hx_law_lemmas.proofs.Lemmas.{AsksOf as Asks, SessionDoes, Starts, session-does, in-append, BeganAt, arrived}
-use Rattle.hx_law_epochs.proofs.Lemmas.{EpochsRun, IsKnown, Notes, epochs-run, keeps-entry, known-after, known-still}
+use Rattle.hx_law_epochs.proofs.Lemmas.{IsKnown, Notes, epochs-run, keeps-entry, known-after, known-still}
 use Rattle.hx_law_chains.proofs.Lemmas.{OfCoordinator, coordinator-plain, AnySnapshot, OfServer, server-plain, named}
 use Rattle.hx_law_searches.proofs.Lemmas.{step_is}
 use Rattle.hx_law_causes.proofs.Coordinating.{Answers, AsksFor, ByStep, Given, Spoken, caller_of, coordinated, spoken-map, to-session}
@@ -59,10 +59,6 @@ began-low (x ∷ older) c n (inl h) = (let e = h.2 in omega (arith, e))
 began-low (x ∷ older) c n (inr h) = (let l = began-low older c n h in omega (arith, l))
 
 module _ (script : Script) (valid : IsScript script) (older : List Entry) (before : Administers script older) (x : Entry) (run : IsRun script (x ∷ older)) where
-  -- what holds of epochs
-  kept : EpochsRun script older
-  kept = epochs-run script valid older run.1
-
   -- what the notes make of them
   notes : Notes script valid older (epochs-run script valid older run.1) (coordinator_of script (x ∷ older)).config x.notes
   notes = (keeps-entry script valid older (epochs-run script valid older run.1) x run.0).notes

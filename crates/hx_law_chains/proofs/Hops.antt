@@ -8,8 +8,8 @@ use Rattle.hx_types.specs.Words.{IsIn}
 use Rattle.hx_model.specs.Neighbours.{enters, enters_last, hop_at, last_member, member_after, member_before, next_of, place_number, preceding_place, prev_of}
 use Rattle.hx_model.specs.Neighbours.{region_at}
 use Rattle.hx_law_lemmas.proofs.Lemmas.{Apart, Differ, after-before, after-last, after-order, before-in, first-listed, head-order, in-listed, last-server}
-use Rattle.hx_law_lemmas.proofs.Lemmas.{number-is, region-is}
-use Rattle.hx_law_epochs.proofs.Lemmas.{HasPlace, index-below, next-across, next-within, place-at, prev-across, prev-within}
+use Rattle.hx_law_lemmas.proofs.Lemmas.{number-is, region-is, get-below}
+use Rattle.hx_law_epochs.proofs.Lemmas.{HasPlace, next-across, next-within, place-at, prev-across, prev-within}
 use Rattle.hx_law_epochs.specs.Epochs.{order}
 
 -- the hop from (g, s) to (h, y): to the next member of the region, or from its last member to the first one of the next place's region
@@ -83,7 +83,7 @@ module _ (c : Config) (places : List Place) (apart : Apart places) (differ : (g 
           let r : region_at places n ≡ q.region = ap (region_at places) (sym u) ∙ region-is places (place_number g places + 1) q f in
           inr (record {
             up = ap (λ (x : RegionId). place_number x places) r ∙ num;
-            has_place = subst (HasPlace places) (sym r) (subst (λ j. j < length places) (sym num) (index-below places (place_number g places + 1) q f));
+            has_place = subst (HasPlace places) (sym r) (subst (λ j. j < length places) (sym num) (get-below places (place_number g places + 1) q f));
             first_in = i;
             last = m;
             head = ap (head_of c) r ∙ h;

@@ -13,10 +13,10 @@ use Rattle.hx_law_threads.specs.Own.{own_entries}
 use Rattle.hx_law_threads.specs.Counting.{total_at}
 use Rattle.hx_law_threads.specs.Cuts.{first_entries, is_in_cut, is_retry, is_waiting, next_at, open_at, own_at, whole_of, Cut, HasCallUnderWay}
 use Rattle.hx_law_threads.specs.Pacing.{earlier, retries_at, IsPacedBy, RetriesFollow, WaitersRetry}
-use Rattle.hx_law_threads.proofs.Lemmas.{same_actor_is, same_as_itself, first_fewer, retriers_waited}
+use Rattle.hx_law_threads.proofs.Lemmas.{same_actor_is, same_as_itself, first_fewer, retriers_waited, count-own}
 use Rattle.hx_driver.specs.declared.desks.Desk.{Desk}
 use Rattle.hx_law_drivers.proofs.Lists.{bools_same}
-use Rattle.hx_law_drivers.proofs.Seen.{count_own, IsSeen}
+use Rattle.hx_law_drivers.proofs.Seen.{IsSeen}
 
 -- an entry keeps its number
 entry_low : (n : ℕ) (xs : List Entry) (y : Entry) → entry_at n xs ≡ Some y → n ≤ length xs
@@ -66,7 +66,7 @@ module _ (x : Entry) (trace : List Entry) where
   own_on : (cut : Cut) (a : Actor) → cut a ≤ entries_of a trace → own_at cut (x ∷ trace) a ≡ own_at cut trace a
   own_on cut a le =
       cond_both (same_actor x.actor a) (x ∷ own_entries a trace) (own_entries a trace) (λ l. first_entries (cut a) l ≡ own_at cut trace a)
-      (λ t. first_fewer (cut a) x (own_entries a trace) (omega (arith, le, count_own a trace))) (λ t. refl)
+      (λ t. first_fewer (cut a) x (own_entries a trace) (omega (arith, le, count-own a trace))) (λ t. refl)
 
   next_on : (cut : Cut) (a : Actor) (y : Entry) → next_at cut trace a ≡ Some y → next_at cut (x ∷ trace) a ≡ Some y
   next_on cut a y e =
@@ -111,7 +111,7 @@ module _ (x : Entry) (trace : List Entry) where
         let same : x ≡ y = cc in
         let r = due (ap is_retry same ∙ retry) in
         let here : r.0 a ≡ entries_of a trace = subst (λ b. r.0 b ≡ entries_of b trace) (same_actor_is x.actor a t) r.2 in
-        (r.0, r.1, omega (arith, here, count_own a trace, eqb-true (n + 1) (length (own_entries a trace) + 1) q)))
+        (r.0, r.1, omega (arith, here, count-own a trace, eqb-true (n + 1) (length (own_entries a trace) + 1) q)))
         (λ q s. h a n y s retry)) (λ t s. h a n y s retry) at
 
     earlier_in : (cuts : List Cut) (cut : Cut) → IsIn cut (earlier cuts) → IsIn cut cuts

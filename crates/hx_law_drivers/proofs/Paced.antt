@@ -15,7 +15,7 @@ use Rattle.hx_law_threads.specs.Cuts.{is_idle_actor, is_retry, is_waiting, open_
 use Rattle.hx_law_threads.specs.Laws.{entry_in, IsReadInPart}
 use Rattle.hx_law_threads.specs.Pacing.{earlier, AreRepeatedAtMost, IsPacedBy, IsPaced, IsPacedToEnd, WaitersRetry}
 use Rattle.hx_law_threads.specs.PartPacing.{past_at, PartsFollow, TellPace}
-use Rattle.hx_law_threads.proofs.Lemmas.{in_map, parts_tell, read_in_parts, retriers_waited, merged_run}
+use Rattle.hx_law_threads.proofs.Lemmas.{in_map, parts_tell, read_in_parts, retriers_waited, merged_run, count-own}
 use Rattle.hx_machine.specs.Machines.{has_ended}
 use Rattle.hx_mail.specs.declared.views.Sent.{Sent}
 use Rattle.hx_mail.specs.Boxes.{Boxed}
@@ -35,7 +35,7 @@ use Rattle.hx_law_drivers.proofs.Lists.{bools_same, both_and, both_back, both_in
 use Rattle.hx_law_drivers.proofs.Desks.{actors_later, actors_of_parts, all_parts, crew_self, entries_of_desk, have_cut, later_desks, lost_before, AreCalm, AreLater}
 use Rattle.hx_law_drivers.proofs.Courses.{cuts_are, cuts_later, cuts_rise, cuts_since, earlier_retry, retries_follow, start_later, waiters_retry, RetriesNext}
 use Rattle.hx_law_drivers.proofs.Longer.{named_on, paced_on, seen_on}
-use Rattle.hx_law_drivers.proofs.Seen.{count_own, found_before, length_past, past_is_before, seen_before, seen_now, IsSeen}
+use Rattle.hx_law_drivers.proofs.Seen.{found_before, length_past, past_is_before, seen_before, seen_now, IsSeen}
 use Rattle.hx_law_drivers.proofs.Opens.{few_open}
 use Rattle.hx_law_drivers.proofs.Repeats.{repeats_few, repeats_on}
 
@@ -198,7 +198,7 @@ module _ (script : Script) (clock : TableId) (boxes : List Boxed) (w : ℕ) wher
             let m = each_in IsMoment run.cuts k.0 moments k.1 in
             let made = merged_run script (parts_of now) merged own_parts whole is in
             let own : own_entries d.actor trace ≡ past_of d.part.items = each_in (λ (p : ActorPart). own_entries p.actor trace ≡ past_of p.part) (parts_of now) (part_of d) made.own (in_map part_of (desks_of now) d is_desk) in
-            let count : entries_of x.actor trace ≡ length d.part.items = ap (λ a. entries_of a trace) actor ∙ count_own d.actor trace ∙ ap length own ∙ length_past d.part.items in
+            let count : entries_of x.actor trace ≡ length d.part.items = ap (λ a. entries_of a trace) actor ∙ count-own d.actor trace ∙ ap length own ∙ length_past d.part.items in
             (cut_of k.0, in_map cut_of run.cuts k.0 k.1, ap (cut_of k.0) (actor ∙ k.2.2) ∙ entries_of_desk (desks_of k.0) k.2.0 m.actors.apart k.2.1 ∙ k.2.3 ∙ sym count)
 
         pub paced_further : (is_retry x ≡ true → IsDue run.cuts d) → IsPaced script (x ∷ trace) (lost_by now) (doubled_by now)

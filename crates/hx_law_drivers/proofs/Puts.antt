@@ -1,8 +1,7 @@
 -- What drivers put are posts that their actors made, each at most twice.
-use Rattle.std.proofs.Common.{◌≡◌, ℕ, zero, suc, ◌+◌, ◌*◌, ◌≤◌, inl, inr, Bool, true, false, cond, eqb, List, [], ◌∷◌, map, length, Some, refl, ap, sym, subst, ◌∙◌, arith}
+use Rattle.std.proofs.Common.{◌≡◌, ℕ, zero, suc, ◌*◌, ◌≤◌, inl, inr, List, [], ◌∷◌, map, ap, sym, subst, ◌∙◌, arith}
 use Rattle.std.specs.Prelude.{reverse}
 use Rattle.std.specs.List.{AllByRecursion}
-use Rattle.std.proofs.lemmas.Bool.{cond_both, eqb-true, eq-eqb, true≢false}
 use Rattle.atomic_table.specs.Seated.{TableId}
 use Rattle.hx_model.specs.Types.{Actor, Entry, PostId, Script}
 use Rattle.hx_types.specs.Words.{IsIn}
@@ -15,7 +14,8 @@ use Rattle.hx_clock.proofs.Lemmas.{each_in}
 use Rattle.hx_law_threads.specs.Own.{past_of, IsOwn}
 use Rattle.hx_law_threads.specs.Merged.{parts_in, ActorPart, AreWholeParts, IsMerged}
 use Rattle.hx_law_threads.specs.Cuts.{posted_at, times_named, whole_of}
-use Rattle.hx_law_threads.proofs.Lemmas.{in_map, in_permuted, in_reverse, are_counted, counted_below, entries, length-entries, AreCounted, past_is, named_once}
+use Rattle.hx_law_threads.proofs.Lemmas.{in_map, in_permuted, in_reverse, are_counted, past_is, named_once}
+use Rattle.hx_law_threads.proofs.Lemmas.{entry_found, times_total}
 use Rattle.hx_mail.specs.declared.views.Mailed.{Mailed}
 use Rattle.hx_mail.specs.Boxes.{Boxed}
 use Rattle.hx_outbox.specs.Offers.{put_weight, IsFair, Offer}
@@ -32,18 +32,6 @@ use Rattle.hx_law_drivers.proofs.Opens.{outs_least, put_counts}
 use Rattle.hx_law_drivers.proofs.Paced.{own_parts}
 use Rattle.hx_law_drivers.proofs.Seen.{by_name, made_in_part, seen_now, seen_posted}
 
--- the entry of a stamp has the next number
-entry_numbered : (ms : List Stamped) (z : Stamped) (n : ℕ) → AreCounted ms → IsIn z ms → n ≡ z.stamp.0 + 1 → entry_at n (entries ms) ≡ Some z.entry
-entry_numbered [] z n c i e = absurd i
-entry_numbered (x ∷ ms) z n c (inl s) e =
-    cond_both (eqb n (length (entries ms) + 1)) (Some x.entry) (entry_at n (entries ms)) (λ o. o ≡ Some z.entry)
-    (λ t. ap (λ (y : Stamped). Some y.entry) (sym s))
-    (λ t. absurd (true≢false (sym (eq-eqb n (length (entries ms) + 1) (omega (arith, e, ap (λ (y : Stamped). y.stamp.0) s, c.0, length-entries ms))) ∙ t)))
-entry_numbered (x ∷ ms) z n c (inr i) e =
-    cond_both (eqb n (length (entries ms) + 1)) (Some x.entry) (entry_at n (entries ms)) (λ o. o ≡ Some z.entry)
-    (λ t. absurd (omega (arith, eqb-true n (length (entries ms) + 1) t, e, counted_below ms z c.1 i, length-entries ms)))
-    (λ t. entry_numbered ms z n c.1 i e)
-
 -- an entry of an actor's part is the actor's
 own_actor : (script : Script) (a : Actor) (xs : List Entry) (x : Entry) → IsOwn script a xs → IsIn x xs → x.actor ≡ a
 own_actor script a [] x o i = absurd i
@@ -52,14 +40,6 @@ own_actor script a (y ∷ xs) x o (inr i) = own_actor script a xs x o.1 i
 
 pub part_actor : (script : Script) (a : Actor) (part : List Stamped) (z : Stamped) → IsOwn script a (entries_before part) → IsIn z part → z.entry.actor ≡ a
 part_actor script a part z o i = own_actor script a (entries_before part) z.entry o (in_map (λ (x : Stamped). x.entry) (reverse part) z (in_reverse part z i))
-
-times_total : (id : PostId) (ids : List PostId) → times_named id ids ≡ total (λ (x : PostId). one (same_name x id)) ids
-times_total id [] = refl
-times_total id (x ∷ ids) = by (same_name x id) (times_total id ids)
-  where
-    by : (b : Bool) → times_named id ids ≡ total (λ (y : PostId). one (same_name y id)) ids → cond b (times_named id ids + 1) (times_named id ids) ≡ one b + total (λ (y : PostId). one (same_name y id)) ids
-    by true e = omega (arith, e)
-    by false e = omega (arith, e)
 
 -- what was put weighs at most twice what was offered
 put_most : (h : Mailed → ℕ) (os : List Offer) → AllByRecursion IsFair os → put_weight h os ≤ 2 * total (λ (o : Offer). h o.mailed) os
@@ -100,7 +80,7 @@ module _ (script : Script) (clock : TableId) (boxes : List Boxed) (w : ℕ) (sta
         entry = z.0.entry;
         actor = part_actor script e.0.actor e.0.part.items z.0 desk.own z.1;
         made = ap (entry_at m.id.entry) (past_is merged)
-            ∙ entry_numbered (reverse merged) z.0 m.id.entry (are_counted (parts_in (parts_of now)) merged whole is) (in_reverse merged z.0 (in_merged c i e.0 e.1 z.0 z.1)) (sym z.2.0);
+            ∙ entry_found (reverse merged) z.0 m.id.entry (are_counted (parts_in (parts_of now)) merged whole is) (in_reverse merged z.0 (in_merged c i e.0 e.1 z.0 z.1)) (sym z.2.0);
         post = z.2.1;
       }
 

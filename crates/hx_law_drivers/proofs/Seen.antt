@@ -1,5 +1,5 @@
 -- What the trace of merged parts shows of the crews at a moment.
-use Rattle.std.proofs.Common.{◌≡◌, ℕ, suc, ◌+◌, inl, inr, ⊎_elim, Bool, true, false, cond, List, [], ◌∷◌, map, take, length, Some, slice_get, refl, ap, sym, ◌∙◌, arith}
+use Rattle.std.proofs.Common.{◌≡◌, ℕ, suc, ◌+◌, inl, inr, ⊎_elim, List, [], ◌∷◌, map, take, length, Some, slice_get, refl, ap, sym, ◌∙◌, arith}
 use Rattle.std.specs.List.{IsDistinct}
 use Rattle.std.proofs.lemmas.List.{length-reverse}
 use Rattle.hx_model.specs.Types.{Actor, Deliver, Entry, Halt, Input, Post, PostId, Script, Tick}
@@ -16,7 +16,7 @@ use Rattle.hx_law_threads.specs.Cuts.{delivered_at, delivered_by, own_at, posted
 use Rattle.hx_law_threads.specs.Counting.{total_at, total_over, weight_delivered, weight_made}
 use Rattle.hx_law_threads.specs.Laws.{IsReadInPart}
 use Rattle.hx_law_threads.proofs.Lemmas.{in_append, in_map, map_reverse, whole_adds_up, read_in_parts, first_all, merged_run, posts_found, cuts_add_up}
-use Rattle.hx_law_threads.proofs.Lemmas.{posts_weigh}
+use Rattle.hx_law_threads.proofs.Lemmas.{posts_weigh, count-own}
 use Rattle.hx_mail.specs.declared.views.Mailed.{Mailed}
 use Rattle.hx_outbox.specs.Offers.{named}
 use Rattle.hx_outbox.specs.Zipped.{Both}
@@ -110,14 +110,6 @@ made_in_part (x ∷ part) m i =
     (x, inl refl, (sym r.1, ap (slice_get x.entry.outputs) at ∙ r.3)))
     (λ (j : IsIn m (made_by part)). let r = made_in_part part m j in (r.0, inr r.1, r.2)) (in_append (named (x.stamp.0 + 1) 0 x.entry.outputs) (made_by part) m i)
 
-pub count_own : (a : Actor) (trace : List Entry) → entries_of a trace ≡ length (own_entries a trace)
-count_own a [] = refl
-count_own a (x ∷ trace) = by (same_actor x.actor a) (count_own a trace)
-  where
-    by : (b : Bool) → entries_of a trace ≡ length (own_entries a trace) → cond b (entries_of a trace + 1) (entries_of a trace) ≡ length (cond b (x ∷ own_entries a trace) (own_entries a trace))
-    by true e = omega (arith, e)
-    by false e = e
-
 module _ (script : Script) (now : List Crew) (merged : List Stamped) (o : AreOwnParts script (parts_of now)) (w : AreWholeParts (parts_in (parts_of now))) (m : IsMerged (parts_in (parts_of now)) merged) where
   own_are : HasOwnParts (parts_of now) (past_of merged)
   own_are = (merged_run script (parts_of now) merged o w m).own
@@ -141,7 +133,7 @@ module _ (script : Script) (now : List Crew) (merged : List Stamped) (o : AreOwn
   seen_now = record {
     sums = λ f. whole_adds_up script (parts_of now) merged o w m f ∙ total_of_map part_of (λ (p : ActorPart). total_over f p.part) (desks_of now);
     own = λ d i.
-        first_all (entries_of d.actor (past_of merged)) (own_entries d.actor (past_of merged)) (omega (arith, count_own d.actor (past_of merged)))
+        first_all (entries_of d.actor (past_of merged)) (own_entries d.actor (past_of merged)) (omega (arith, count-own d.actor (past_of merged)))
         ∙ each_in (λ (p : ActorPart). own_entries p.actor (past_of merged) ≡ past_of p.part) (parts_of now) (part_of d) own_are (in_map part_of (desks_of now) d i);
   }
 

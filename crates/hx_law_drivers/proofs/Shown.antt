@@ -9,7 +9,7 @@ use Rattle.hx_clock.proofs.Lemmas.{each_all, each_in}
 use Rattle.hx_law_threads.specs.Feeding.{IsFed, IsFedBy}
 use Rattle.hx_law_threads.specs.Own.{own_entries, past_of}
 use Rattle.hx_law_threads.specs.Merged.{parts_in, ActorPart, AreWholeParts, IsMerged}
-use Rattle.hx_law_threads.proofs.Lemmas.{in_map, in_reverse, of_map, merged_run, of_parts}
+use Rattle.hx_law_threads.proofs.Lemmas.{in_map, in_reverse, of_map, merged_run, of_parts, count-own}
 use Rattle.hx_mail.specs.Boxes.{Boxed}
 use Rattle.hx_driver.specs.declared.desks.Desk.{Desk}
 use Rattle.hx_driver.specs.declared.crews.Crew.{Crew}
@@ -18,7 +18,7 @@ use Rattle.hx_law_drivers.specs.Crews.{desks_of, part_of, parts_of}
 use Rattle.hx_law_drivers.specs.Laws.{HaveRun, ShowsDesks}
 use Rattle.hx_law_drivers.proofs.Lists.{of_flat}
 use Rattle.hx_law_drivers.proofs.Paced.{own_parts}
-use Rattle.hx_law_drivers.proofs.Seen.{count_own, length_past}
+use Rattle.hx_law_drivers.proofs.Seen.{length_past}
 
 fed_in : (script : Script) (xs : List Stamped) (z : Stamped) → IsFed script xs → IsIn z xs → IsFedBy script z.stamp.0 z.entry.actor z.entry.input
 fed_in script [] z h i = absurd i
@@ -52,5 +52,5 @@ module _ (script : Script) (clock : TableId) (boxes : List Boxed) (w : ℕ) (sta
         run = made.run;
         no_halts = each_all (λ (x : Entry). x.input ≢ Halt) (past_of merged) no_halts;
         own = own;
-        counts = λ d i. count_own d.actor (past_of merged) ∙ ap length (own d i) ∙ length_past d.part.items;
+        counts = λ d i. count-own d.actor (past_of merged) ∙ ap length (own d i) ∙ length_past d.part.items;
       }

@@ -7,9 +7,9 @@ pub use Rattle.hx_law_epochs.proofs.Headline.{found-installed, installed-found}
 pub use Rattle.hx_law_epochs.proofs.Makers.{ready-follows, ready-orderly, ready-ready, with-follows, with-orderly, with-ready}
 pub use Rattle.hx_law_epochs.proofs.Makers.{without-follows, without-leaves, without-orderly, without-ready}
 pub use Rattle.hx_law_epochs.proofs.Members.{server-member}
-pub use Rattle.hx_law_epochs.proofs.Neighbours.{leader-first, leader-stands, next-is, next-none, previous-is, previous-none}
+pub use Rattle.hx_law_epochs.proofs.Neighbours.{leader-first, leader-stands, next-is, next-none, previous-none}
 pub use Rattle.hx_law_epochs.proofs.Next.{Grown, IsOrderly, MayJoin, any-of, appended-here, config_with-grown, joiner, judged-may, renumbered}
-pub use Rattle.hx_law_epochs.proofs.Positions.{Adjacent, HasPlace, PrecedesInChain, adjacent-within, index-below, index-some, next-across}
+pub use Rattle.hx_law_epochs.proofs.Positions.{Adjacent, HasPlace, PrecedesInChain, adjacent-within, index-some, next-across}
 pub use Rattle.hx_law_epochs.proofs.Positions.{next-within, number-placed, number-region, place-at, placed-number, prev-across, prev-within}
 pub use Rattle.hx_law_epochs.proofs.Positions.{stands-cases, stands-irreflexive, stands-trans}
 pub use Rattle.hx_law_epochs.proofs.Replicas.{Shaped, Takes, installed-is, replica_for-is}

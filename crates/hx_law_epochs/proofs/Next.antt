@@ -4,7 +4,7 @@ use Rattle.hx_law_lemmas.proofs.Lemmas.Vocabulary.{eq-eqb, false, false≢true, 
 use Rattle.hx_law_lemmas.proofs.Lemmas.Vocabulary.{Member, members_of, next_config, None, not, Option, refl, RegionId, same_server, server_in, ServerId}
 use Rattle.hx_law_lemmas.proofs.Lemmas.Vocabulary.{slice_get, slice_set, Some, subst, suc, sym, true, when_some, zero, ℕ, ◌&&◌, ◌++◌, ◌||◌, ◌∙◌, ◌∷◌, ◌≡◌, ◌⊎◌}
 use Rattle.hx_types.specs.declared.calls.Answer.TheVariants as an_answer
-use Rattle.hx_law_lemmas.proofs.Lemmas.{in_right, Differ, server-in}
+use Rattle.hx_law_lemmas.proofs.Lemmas.{Differ, server-in}
 
 -- a server that joins a region
 abbrev pub joiner : ServerId → Member
@@ -76,10 +76,6 @@ appended-here c s g l = by (slice_get c.regions g.0) refl l
 -- and those of another region
 appended-other : (c : Config) (s : ServerId) (g h : RegionId) → (h.0 ≡ g.0 → ⊥) → members_of (config_with c s g) h ≡ members_of c h
 appended-other c s g h n = ap (λ (o : Option (List Member)). when_some o [] (λ (xs : List Member). xs)) (set-other c.regions g.0 h.0 (members_of c g ++ joiner s ∷ []) n)
-
--- a list to which a member that isn't ready was appended has one
-joins-there : (ms : List Member) (s : ServerId) → any_joining (ms ++ joiner s ∷ []) ≡ true
-joins-there ms s = any-of (λ (m : Member). not m.ready) (ms ++ joiner s ∷ []) (joiner s) (in_right ms (joiner s ∷ []) (joiner s) (inl refl)) refl
 
 -- where nothing speaks against it, the server may join
 pub judged-may : (c : Config) (s : ServerId) (g : RegionId) → judged c s g ≡ None → MayJoin c s g

@@ -38,7 +38,7 @@ map-ascends f k (s ∷ rest) h =
     (subst (λ (x : List ℕ). AllByRecursion (λ (t : KeyState). text_below x t.base.key ≡ true) (map f rest)) (sym (k s)) (map-below f k s.base.key rest h.0), map-ascends f k rest h.1)
 
 -- the slots of a snapshot
-from-key : (b : Bool) (k : Kept) → (state_from b k).base.key ≡ k.key
+pub from-key : (b : Bool) (k : Kept) → (state_from b k).base.key ≡ k.key
 from-key true k = refl
 from-key false k = refl
 

@@ -119,10 +119,6 @@ slot-moved g (Acknowledge v) s h f = record { descends = h.descends; floor = h.f
 slot-moved g (Commit u) s h f = record { descends = h.descends; floor = f.1; early = h.early }
 slot-moved g Forget s h f = record { descends = h.descends; floor = h.floor; early = tt }
 
-pub slot-moved_all : (g : RegionId) (ms : List Move) (s : KeyState) → IsSlotOf g s → AllFit g s ms → IsSlotOf g (moved_all ms s)
-slot-moved_all g [] s h f = h
-slot-moved_all g (m ∷ ms) s h f = slot-moved_all g ms (moved m s) (slot-moved g m s h f.0) f.1
-
 -- slots that are alike stay so by the same moves
 pub alike-moved_all : (g : RegionId) (ms : List Move) (s t : KeyState) → AreAlike g s t → AllFit g s ms → AllFit g t ms → AreAlike g (moved_all ms s) (moved_all ms t)
 alike-moved_all g [] s t e a b = e

@@ -19,7 +19,7 @@ all-pass : (test : List ℕ → Bool) (ks : List Kept) → list_all test (map (�
 all-pass test [] e = tt
 all-pass test (k ∷ ks) e = let p = and_parts (test k.key) (list_all test (map (λ (x : Kept). x.key) ks)) e in (p.0, all-pass test ks p.1)
 
-keys-pass : (ks : List Kept) → keys_ascend (map (λ (k : Kept). k.key) ks) ≡ true → KeptsAscend ks
+pub keys-pass : (ks : List Kept) → keys_ascend (map (λ (k : Kept). k.key) ks) ≡ true → KeptsAscend ks
 keys-pass [] e = tt
 keys-pass (k ∷ ks) e =
     let p = and_parts (list_all (text_below k.key) (map (λ (x : Kept). x.key) ks)) (keys_ascend (map (λ (x : Kept). x.key) ks)) e in

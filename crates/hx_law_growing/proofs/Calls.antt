@@ -26,13 +26,13 @@ get-set_elsewhere (x ∷ xs) zero (suc j) y ne = refl
 get-set_elsewhere (x ∷ xs) (suc i) zero y ne = refl
 get-set_elsewhere (x ∷ xs) (suc i) (suc j) y ne = get-set_elsewhere xs i j y (λ e. ne (ap suc e))
 
-length-set : {A : Type 0} (xs : List A) (i : ℕ) (y : A) → length (set xs i y) ≡ length xs
+pub length-set : {A : Type 0} (xs : List A) (i : ℕ) (y : A) → length (set xs i y) ≡ length xs
 length-set [] i y = refl
 length-set (x ∷ xs) zero y = refl
 length-set (x ∷ xs) (suc i) y = ap suc (length-set xs i y)
 
 -- an item, or another where the list ends before its place
-get-or : {A : Type 0} (xs : List A) (i : ℕ) (none : A) → when_some (slice_get xs i) none (λ (x : A). x) ≡ get_or xs i none
+pub get-or : {A : Type 0} (xs : List A) (i : ℕ) (none : A) → when_some (slice_get xs i) none (λ (x : A). x) ≡ get_or xs i none
 get-or [] i none = refl
 get-or (x ∷ xs) zero none = refl
 get-or (x ∷ xs) (suc i) none = get-or xs i none

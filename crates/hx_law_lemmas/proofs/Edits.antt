@@ -21,7 +21,7 @@ abbrev pub MadeWith : {A : Type 0} → (A → Type 0) → Result A Answer → Ty
 MadeWith P (Ok x) = P x
 MadeWith P (Err answer) = IsFailure answer
 
-and_then-made : {A B : Type 0} (P : A → Type 0) (Q : B → Type 0) (made : Result A Answer) (f : A → Result B Answer) → MadeWith P made
+pub and_then-made : {A B : Type 0} (P : A → Type 0) (Q : B → Type 0) (made : Result A Answer) (f : A → Result B Answer) → MadeWith P made
     → ((x : A) → P x → MadeWith Q (f x)) → MadeWith Q (and_then made f)
 and_then-made P Q (Ok x) f h g = g x h
 and_then-made P Q (Err answer) f h g = h

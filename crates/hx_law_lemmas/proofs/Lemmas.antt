@@ -8,14 +8,14 @@ pub use Rattle.hx_law_lemmas.proofs.Chains.{mod-apart, server-other, server-same
 pub use Rattle.hx_law_lemmas.proofs.CoordinatorCases.{call_by, coordinator-cases}
 pub use Rattle.hx_law_lemmas.proofs.Cuts.{More, length-upto, more_cut, more_same, version-there}
 pub use Rattle.hx_law_lemmas.proofs.Decisions.{decides}
-pub use Rattle.hx_law_lemmas.proofs.Edits.{MadeWith, atomic-both, edited-both}
+pub use Rattle.hx_law_lemmas.proofs.Edits.{MadeWith, atomic-both, edited-both, and_then-made}
 pub use Rattle.hx_law_lemmas.proofs.Effects.{effect-done, effect-same, effect_well, get-of, get_effect, get_leaves}
 pub use Rattle.hx_law_lemmas.proofs.FactLines.{caller-once, line-made, line-numbered, line-sorted, line-upto, update-at}
 pub use Rattle.hx_law_lemmas.proofs.FirstMembers.{all-ready, head-some, first-listed, last-some}
 pub use Rattle.hx_law_lemmas.proofs.FoundRows.{TouchedBy, filter-in, found-row}
 pub use Rattle.hx_law_lemmas.proofs.Gets.{GetEnd, GetNote, entry_got, entry_short, gets-in, in-gets}
-pub use Rattle.hx_law_lemmas.proofs.Hearing.{installed-found, replica_for-alive, replica_for-found}
-pub use Rattle.hx_law_lemmas.proofs.HeldUpdates.{AllKnown, Held, Known, accepting-known, acknowledged-known, offered-known, resumed-known}
+pub use Rattle.hx_law_lemmas.proofs.Hearing.{installed-found, replica_for-found}
+pub use Rattle.hx_law_lemmas.proofs.HeldUpdates.{AllKnown, Held, Known, accepting-known, acknowledged-known, offered-known}
 pub use Rattle.hx_law_lemmas.proofs.Joins.{IsCovered, merged-ascends, merged-covers, merged-in, part_rows, row_key}
 pub use Rattle.hx_law_lemmas.proofs.KnownUpdates.{AllKnown as AllKnownInLine, Held as HeldInLine, Known as KnownInLine}
 pub use Rattle.hx_law_lemmas.proofs.KnownUpdates.{accepting-known as accepting-known-in_line, acknowledged-known as acknowledged-known-in_line}
@@ -24,7 +24,7 @@ pub use Rattle.hx_law_lemmas.proofs.KnownUpdates.{marks-known as marks-known-in_
 pub use Rattle.hx_law_lemmas.proofs.KnownUpdates.{with_commits-known as with_commits-known-in_line}
 pub use Rattle.hx_law_lemmas.proofs.Lawful.{Law, Lawful, at_server, at_server-map, at_session, at_session-map, lawful-steady}
 pub use Rattle.hx_law_lemmas.proofs.Leader.{IsNewer, decide-decided, slot_of}
-pub use Rattle.hx_law_lemmas.proofs.LeaderLines.{follows-line, kept-line, pending-in, top-line}
+pub use Rattle.hx_law_lemmas.proofs.LeaderLines.{kept-line, pending-in, top-line}
 pub use Rattle.hx_law_lemmas.proofs.Lines.{Sorted, in-only, in-top, in-upto, in-upto_from, numbered-sorted, only, only-in, only-sorted, same_version, top-least}
 pub use Rattle.hx_law_lemmas.proofs.Lines.{top-numbered, upto-low, upto-sorted, upto_all, upto_next, upto_upto}
 pub use Rattle.hx_law_lemmas.proofs.Lists.{Pairwise, all-in, all-of, any-in, before-first, differ-append, in-append, in-below, in-filter, in-find, in-flat}

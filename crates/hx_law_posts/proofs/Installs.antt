@@ -18,7 +18,7 @@ use Rattle.hx_law_posts.proofs.Servers.{DoesWell, IsSoundReplica, IsSoundServer,
 use Rattle.hx_law_posts.proofs.Snapshots.{map-ascends, ready-sound, snap-sound}
 
 -- what a slot does when it goes on in another configuration is known
-resumed-known : (context : SlotContext) (t : KeyState) → AllKnown (together [] t) (resumed context t)
+pub resumed-known : (context : SlotContext) (t : KeyState) → AllKnown (together [] t) (resumed context t)
 resumed-known context t =
     with_commits-known (together [] t) t (Forget ∷ tail_acks context (pending_of t)) (held-together [] t)
     (λ m i. elim i [ inl e ↦ subst (Known (together [] t)) (sym e) tt | inr j ↦ marks-known (together [] t) context (pending_of t) m j ])

@@ -11,3 +11,4 @@ pub use Rattle.hx_law_posts.proofs.Servers.{IsSoundReplica, IsSoundServer, Relie
 pub use Rattle.hx_law_posts.proofs.SessionSteps.{IsOwn, own-up, session-good}
 pub use Rattle.hx_law_posts.proofs.SlotPosts.{any-of}
 pub use Rattle.hx_law_posts.proofs.Slots.{IsSoundSlot, held-together, together, top-small}
+pub use Rattle.hx_law_posts.proofs.Installs.{resumed-known}

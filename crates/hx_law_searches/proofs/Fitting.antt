@@ -20,12 +20,6 @@ use Rattle.hx_law_searches.proofs.Items as items
 use Rattle.hx_law_searches.proofs.SessionEnds.{NotesFit, SearchEnds, notes-fit}
 use Rattle.hx_law_searches.proofs.Times.{not_again}
 
--- a test with a false first part
-none : (a b : Bool) → (a ≡ true → b ≡ true → ⊥) → a && b ≡ false
-none true true f = absurd (f refl refl)
-none true false f = refl
-none false b f = refl
-
 -- ---- what is assigned
 
 -- a key that an operation names is the one asked for
@@ -83,7 +77,7 @@ now-in x m i =
     (ap (λ (y : Noted). y.actor) r.2, subst (λ n. IsIn n x.notes) (sym (ap (λ (y : Noted). y.note) r.2)) (of-reverse x.notes r.0 r.1))
 
 -- a begin that is noted began
-begin-number : (c : Caller) (n : Note) → is_begin_of c.number n ≡ true → n ≡ a_note.Began c.number
+pub begin-number : (c : Caller) (n : Note) → is_begin_of c.number n ≡ true → n ≡ a_note.Began c.number
 begin-number c (a_note.Began k) e = let q = eqb-true k c.number e in ap a_note.Began q
 begin-number c other e = absurd (false≢true e)
 

@@ -10,12 +10,12 @@ use Rattle.hx_law_lemmas.proofs.Lemmas.Vocabulary.{upto, Value, Version, was_ref
 use Rattle.hx_types.specs.declared.traces.Note.TheVariants as a_note
 use Rattle.hx_law_lemmas.proofs.Lemmas.{get-of, get_effect, get_leaves, Pairwise, in-append, in-flat_map, in-provided, in_left, in_right, pairwise-append}
 use Rattle.hx_law_lemmas.proofs.Lemmas.{stands_before, numbered-within as in-below, upto_past, GetEnd, GetNote, entry_got, entry_short, gets-in, in-gets}
-use Rattle.hx_law_lemmas.proofs.Lemmas.{began_notes, end_notes, BeganAt, EndedAt, began_at, begin_is, ended_at, Sorted, numbered-sorted, upto_all, upto_upto}
+use Rattle.hx_law_lemmas.proofs.Lemmas.{began_notes, end_notes, BeganAt, EndedAt, began_at, begin_is, ended_at, upto_all, upto_upto}
 use Rattle.hx_law_lemmas.proofs.Lemmas.{caller-once, line-numbered, update-at, all_notes}
 use Rattle.hx_law_searches.proofs.Calls.{Calls, LaterThan, NoCall}
 use Rattle.hx_law_searches.proofs.CallsKept.{calls_kept, turn_is}
 use Rattle.hx_law_searches.proofs.Times.{begins_first, ended_unique, first_of, not_again}
-use Rattle.hx_law_searches.proofs.Writes.{Write, Writes, in-not_refused, not_refused-in, not_refused-sorted, object-after, writes}
+use Rattle.hx_law_searches.proofs.Writes.{Write, Writes, in-not_refused, not_refused-in, object-after, writes}
 
 -- the item of an update and its operation
 abbrev pub write_of : Update → Op → Item
@@ -89,10 +89,6 @@ module _ (script : Script) (facts : Facts script) (whole : List Entry) (run : Is
   -- the line is lawful
   lawful : IsLine script key line
   lawful = facts.lines whole run key
-
-  -- they are sorted
-  sorted : Sorted ws
-  sorted = not_refused-sorted line (numbered-sorted line (line-numbered script key line lawful))
 
   -- what a reply to an ended call told
   pub ended-told : (c : Caller) (v : Version) (a : Answer) (n : ℕ) (op : Op) → EndedAt whole c v a n → call_of script c ≡ Some op → key_of op ≡ Some key

@@ -1,7 +1,7 @@
 -- A trace at earlier moments: its begins, ends and posts.
-use Rattle.hx_law_lemmas.proofs.Lemmas.Vocabulary.{[], Answer, ap, arith, Caller, Entry, inl, inr, IsIn, IsPartOf, IsRun, length, List, Post, posts_of, refl}
+use Rattle.hx_law_lemmas.proofs.Lemmas.Vocabulary.{[], Answer, ap, arith, Caller, Entry, inl, inr, IsPartOf, IsRun, length, List, refl}
 use Rattle.hx_law_lemmas.proofs.Lemmas.Vocabulary.{Script, subst, sym, Version, ℕ, ◌∷◌, ◌≡◌, ◌≤◌}
-use Rattle.hx_law_lemmas.proofs.Lemmas.{in-append, BeganAt, EndedAt}
+use Rattle.hx_law_lemmas.proofs.Lemmas.{BeganAt, EndedAt}
 
 -- a part of a run is a run
 pub part-run : (script : Script) (s t : List Entry) → IsPartOf s t → IsRun script t → IsRun script s
@@ -40,18 +40,3 @@ ended-part s [] p c v a n e l = absurd e
 ended-part s (x ∷ older) (inl p) c v a n e l = subst (λ (k : List Entry). EndedAt k c v a n) (sym p) e
 ended-part s (x ∷ older) (inr p) c v a n (inl e) l = absurd (let b = part-length s older p in omega (arith, b, l, e.2))
 ended-part s (x ∷ older) (inr p) c v a n (inr e) l = ended-part s older p c v a n e l
-
--- the entry that posted a post
-pub record PostedBy (t : List Entry) (p : Post) : Type 0 where
-  pub entry : Entry
-  pub older : List Entry
-  pub part : IsPartOf (entry ∷ older) t
-  pub posted : IsIn p entry.outputs
-
--- each post has one
-pub posted-by : (t : List Entry) (p : Post) → IsIn p (posts_of t) → PostedBy t p
-posted-by [] p i = absurd i
-posted-by (x ∷ older) p i = elim (in-append x.outputs (posts_of older) p i) [
-  | inl j ↦ record { entry = x; older = older; part = inl refl; posted = j }
-  | inr j ↦ (let r = posted-by older p j in record { entry = r.entry; older = r.older; part = inr r.part; posted = r.posted })
-]

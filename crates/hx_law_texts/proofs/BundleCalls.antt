@@ -39,9 +39,6 @@ rest_toks s (Atomic key edits) = Text key ∷ edits_toks s edits
 two_parts : (q t : List ℕ) → (codes " " ++ q ++ t) ++ [] ≡ 32 ∷ (q ++ (t ++ []))
 two_parts q t = simp append_assoc
 
-one_part : (q : List ℕ) → (codes " " ++ q) ++ [] ≡ 32 ∷ (q ++ [])
-one_part q = refl
-
 cput_parts : (q i t e u : List ℕ) → (codes " " ++ q ++ i ++ t ++ e ++ u) ++ [] ≡ 32 ∷ (q ++ (i ++ (t ++ (e ++ (u ++ [])))))
 cput_parts q i t e u = simp append_assoc
 

@@ -160,10 +160,6 @@ cut_reads n at s spaces front regions (x ∷ left) rest a here is next =
     (line_parts (codes "subspace") (codes " ") (axis_text s x) (flat_map (next_axis_text s) left) (codes "\n") rest) (subspace_says s x left is.left.each)
     (head_toks (n + 1) s.servers s.tolerate spaces (cut_draft at s front regions) (cut_draft sections.Subspaces s (front ++ (x ∷ left) ∷ []) (regions + size_of (x ∷ left))) headings.Subspace (codes "subspace") (axis_toks s x (more_toks s left)) refl (λ y. refl) (cut_again at s front regions x left here is)) next
 
-may_cut_to : (at : Section) (xs : List (List Axis)) → MayCut at → MayCut (cut_to at xs)
-may_cut_to at [] here = here
-may_cut_to at (x ∷ xs) here = inr refl
-
 cuts_read : (more : List (List Axis)) (n : ℕ) (at : Section) (s : Space) (spaces : List Draft) (front : List (List Axis)) (regions : ℕ) (rest : List ℕ) (a : Bundle) → MayCut at → IsSpace s → front ++ more ≡ s.subspaces → regions + sizes_sum more ≤ 4096
     → ReadsAll (n + length more) (at_spaces stages.Spaces s.servers s.tolerate (spaces ++ cut_draft (cut_to at more) s s.subspaces (regions + sizes_sum more) ∷ [])) rest a → ReadsAll n (at_spaces stages.Spaces s.servers s.tolerate (spaces ++ cut_draft at s front regions ∷ [])) (flat_map (subspace_text s) more ++ rest) a
 cuts_read [] n at s spaces front regions rest a here is split room next =

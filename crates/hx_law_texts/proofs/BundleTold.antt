@@ -1,10 +1,10 @@
 -- A bundle that is read can be said.
-use Rattle.hx_law_texts.proofs.Vocabulary.{[], All, All-cons, All-map, All-nil, All-push, All-set, All-weaker, all_at, ap, Attribute, Bool, BoundsAreSayable}
+use Rattle.hx_law_texts.proofs.Vocabulary.{[], All, All-cons, All-map, All-nil, All-push, All-set, All-weaker, all_at, Attribute, Bool, BoundsAreSayable}
 use Rattle.hx_law_texts.proofs.Vocabulary.{Bundle, bundle_line_of, bundle_line_of_toks, bundle_of, BundleDraft, BundleSection, BundleStep, CallIsSayable}
 use Rattle.hx_law_texts.proofs.Vocabulary.{CallWord, cond, Deliver, Draft, empty_bundle_draft, Err, false, Halt, have_keys, Heading, heading_line}
 use Rattle.hx_law_texts.proofs.Vocabulary.{in_space, is_space, IsSayableBundle, IsSayableScript, Keyword, keyword_of, length, Limit, lines_of}
 use Rattle.hx_law_texts.proofs.Vocabulary.{List, list_any, map, min, named_draft, nat_le, nat_lt, None, not, Ok, ok_is, on_ok_ok, Op, Option, Order}
-use Rattle.hx_law_texts.proofs.Vocabulary.{PostIsSayable, push_to_last, Reader, Reason, refl, Result, Script, script_of, script_so_far, ScriptError, Section}
+use Rattle.hx_law_texts.proofs.Vocabulary.{PostIsSayable, push_to_last, Reader, refl, Result, Script, script_of, script_so_far, ScriptError, Section}
 use Rattle.hx_law_texts.proofs.Vocabulary.{slice_get, slice_set, Some, Space, spaces_line, Step, StepIsSayable, StepWord, subst, Tick, Tok, tokens_of}
 use Rattle.hx_law_texts.proofs.Vocabulary.{toks_from, true, Twice, version_of, with_session, ℕ, ◌++◌, ◌+◌, ◌-◌, ◌==◌, ◌∷◌, ◌≡◌, ◌≤◌}
 use Rattle.hx_script.specs.declared.bundle_draft.BundleSection.TheVariants as stages
@@ -18,7 +18,7 @@ use Rattle.hx_script.specs.BundleGrammar.{second_hx_line, space_call_line, space
 use Rattle.hx_script.specs.BundleTexts.{at_number, bundle_by, bundle_may_end, bundle_so_far, first_space_step, one_space, read_bundle_lines}
 use Rattle.hx_script.specs.BundleTexts.{read_first, read_second}
 use Rattle.hx_script.specs.Grammar.{attribute_line, call_line, int_attribute, key_line, string_attribute, subspace_line}
-use Rattle.hx_script.proofs.Lemmas.{then_ok}
+use Rattle.hx_script.proofs.Lemmas.{then_ok, number_ok}
 use Rattle.hx_law_texts.proofs.Told.{AllTold, Any, Tells, tells_check, tells_end, tells_give, tells_judged, tells_number_in, tells_refuse, tells_then}
 use Rattle.hx_law_texts.proofs.Told.{tells_word}
 use Rattle.hx_law_texts.proofs.ToldCalls.{tells_call, tells_named, tells_step}
@@ -207,13 +207,6 @@ so_far_said b so = record {
 ends : (n : ℕ) (b : BundleDraft) (may : Bool) (a : Bundle) → AllSaid b → cond may (Ok (bundle_so_far b)) (Err (errors.Refused n Order)) ≡ Ok a → IsSayableBundle a
 ends n b true a so e = subst IsSayableBundle (bundle_is (bundle_so_far b) a e) (so_far_said b so)
 ends n b false a so e = absurd cc
-
-number_ok : {A : Type 0} (n : ℕ) (r : Result A Reason) (x : A) → at_number n r ≡ Ok x → r ≡ Ok x
-number_ok n (Ok y) x e = ap Ok (good y x e)
-  where
-    good : {A : Type 0} (y x : A) → at_number n (Ok y) ≡ Ok x → y ≡ x
-    good y x e = cc
-number_ok n (Err r) x e = absurd cc
 
 lines_told : (ls : List (List ℕ)) (n : ℕ) (b : BundleDraft) (a : Bundle) → AllSaid b → read_bundle_lines n b ls ≡ Ok a → IsSayableBundle a
 unfolding read_bundle_lines

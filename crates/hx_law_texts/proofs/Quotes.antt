@@ -9,15 +9,15 @@ use Rattle.std.specs.Str.Lossy.{utf8_valid_len}
 use Rattle.std.specs.Char.{IsScalar, encode_utf8}
 use Rattle.std.specs.Str as strings
 use Rattle.std.proofs.lemmas.Bool.{le-ltb, cases_lt}
-use Rattle.std.proofs.lemmas.Bool.Decides.{nat_tests}
 use Rattle.std.proofs.lemmas.List.{take_all, drop-drop}
 use Rattle.std.proofs.lemmas.List.Concat.{flat_map-append}
-use Rattle.std.proofs.lemmas.Str.{IsUtf8-append, IsUtf8-nil, IsUtf8-encode, encode_ascii, inside_one, utf8_valid_len-IsUtf8}
+use Rattle.std.proofs.lemmas.Str.{IsUtf8-append, IsUtf8-nil, IsUtf8-encode, encode_ascii, utf8_valid_len-IsUtf8}
 use lib.Utf8.{scalar}
 use Rattle.hx_lex.specs.declared.token.TokenKind.TheVariants as kinds
 use Rattle.hx_lex.specs.Pieces.{piece_at}
 use Rattle.hx_lex.specs.Quotes.{inside_len, content, followed_by, inside_at, text_at}
 use Rattle.hx_lex.specs.Spelling.{is_plain}
+use Rattle.hx_lex.proofs.Lemmas.{high_bytes, ascii}
 use Rattle.hx_print.specs.Printing.{escape, quoted}
 use Rattle.hx_law_texts.proofs.Says.{Says, IsClean, says, says_piece, both_clean, on_line}
 
@@ -65,9 +65,6 @@ content_escaped at (b ∷ bs) plain =
     ∙ ap (followed_by b) (content_escaped (at + length (escape b)) bs (and_right (is_plain b) (list_all is_plain bs) plain))
 
 -- escaping keeps UTF-8
-ascii : (n : ℕ) → n < 128 → IsUtf8 (n ∷ [])
-ascii n lt = subst IsUtf8 (encode_ascii n lt) (IsUtf8-encode n (grind (arith, nat_tests)))
-
 escape_by_utf8 : (p q r s : Bool) (b : ℕ) → b < 128 → IsUtf8 (by_tests p q r s b)
 escape_by_utf8 true q r s b lt = IsUtf8-append (92 ∷ []) (34 ∷ []) (ascii 92 (lit< tt)) (ascii 34 (lit< tt))
 escape_by_utf8 false true r s b lt = IsUtf8-append (92 ∷ []) (92 ∷ []) (ascii 92 (lit< tt)) (ascii 92 (lit< tt))
@@ -83,13 +80,6 @@ high_fixed [] high = refl
 high_fixed (b ∷ bs) high =
     let le : 128 ≤ b = high 0 (omega arith) in
     flat_map-cons escape b bs ∙ rw (high_not b 34 le (lit< tt), high_not b 92 le (lit< tt), high_not b 10 le (lit< tt), high_not b 9 le (lit< tt)) (ap (λ r. b ∷ r) (high_fixed bs (λ k lt. high (suc k) (omega arith))))
-
-high_bytes : (c k : ℕ) → 128 ≤ c → k < length (encode_utf8 c) → 128 ≤ get_or (encode_utf8 c) k 0
-high_bytes c k le lt =
-    elim (cases_lt (get_or (encode_utf8 c) k 0) 128) [
-      | inl low ↦ absurd (let e = inside_one c [] (encode_utf8 c) k (sym (append-nil (encode_utf8 c))) lt low in omega (arith, e))
-      | inr high ↦ high
-    ]
 
 char_utf8 : (c : ℕ) → IsScalar c → IsUtf8 (flat_map escape (encode_utf8 c))
 char_utf8 c is =

@@ -36,16 +36,6 @@ map_reverse f [] = refl
 map_reverse f (x ∷ xs) =
     ap (map f) (reverse_cons x xs) ∙ map_append f (reverse xs) (x ∷ []) ∙ ap (λ l. l ++ f x ∷ []) (map_reverse f xs) ∙ sym (reverse_cons (f x) (map f xs))
 
-pub in_map : {A B : Type 0} (f : A → B) (xs : List A) (z : A) → IsIn z xs → IsIn (f z) (map f xs)
-in_map f [] z i = absurd i
-in_map f (x ∷ xs) z (inl e) = inl (ap f e)
-in_map f (x ∷ xs) z (inr i) = inr (in_map f xs z i)
-
-pub of_map : {A B : Type 0} (f : A → B) (xs : List A) (y : B) → IsIn y (map f xs) → (x : A) × IsIn x xs × (y ≡ f x)
-of_map f [] y i = absurd i
-of_map f (x ∷ xs) y (inl e) = (x, inl refl, e)
-of_map f (x ∷ xs) y (inr i) = let r = of_map f xs y i in (r.0, inr r.1, r.2)
-
 pub of_filter : {A : Type 0} (test : A → Bool) (xs : List A) (z : A) → IsIn z (filter test xs) → IsIn z xs × (test z ≡ true)
 of_filter test [] z = λ i. absurd i
 of_filter test (x ∷ xs) z =

@@ -45,7 +45,7 @@ open_lost script cut trace offers all =
     let nothing : total (λ (o : Offer). o.times * one (test o.post)) offers ≡ 0 = sym came ∙ none_weighs (λ (id : PostId). one (test id)) (delivered_at cut trace) (λ id i. ap one (none id i)) in
     subst (λ n. n ≤ put_times 0 offers) (sym (all.offered (λ (id : PostId). one (test id)))) (lost_offers test offers nothing))
 
-times_total : (id : PostId) (ids : List PostId) → times_named id ids ≡ total (λ (x : PostId). one (same_name x id)) ids
+pub times_total : (id : PostId) (ids : List PostId) → times_named id ids ≡ total (λ (x : PostId). one (same_name x id)) ids
 times_total id [] = refl
 times_total id (x ∷ ids) = by (same_name x id) (times_total id ids)
   where

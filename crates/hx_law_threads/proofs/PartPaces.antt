@@ -27,7 +27,7 @@ some_entry : (n : ℕ) (ms : List Stamped) (x : Entry) → entry_at n (entries m
 some_entry n [] x e = absurd (cc)
 some_entry n (z ∷ ms) x e = (z, inl refl)
 
-count-own : (a : Actor) (trace : List Entry) → entries_of a trace ≡ length (own_entries a trace)
+pub count-own : (a : Actor) (trace : List Entry) → entries_of a trace ≡ length (own_entries a trace)
 count-own a [] = refl
 count-own a (x ∷ trace) = by (same_actor x.actor a) (count-own a trace)
   where

@@ -27,7 +27,7 @@ counted_below (x ∷ ms) z c (inl e) = omega (arith, ap (λ (y : Stamped). y.sta
 counted_below (x ∷ ms) z c (inr i) = let r = counted_below ms z c.1 i in omega (arith, r)
 
 -- the entry of a stamp has the next number
-entry_found : (ms : List Stamped) (z : Stamped) (n : ℕ) → AreCounted ms → IsIn z ms → n ≡ z.stamp.0 + 1 → entry_at n (entries ms) ≡ Some z.entry
+pub entry_found : (ms : List Stamped) (z : Stamped) (n : ℕ) → AreCounted ms → IsIn z ms → n ≡ z.stamp.0 + 1 → entry_at n (entries ms) ≡ Some z.entry
 entry_found [] z n c i e = absurd i
 entry_found (x ∷ ms) z n c (inl s) e =
     cond_both (eqb n (length (entries ms) + 1)) (Some x.entry) (entry_at n (entries ms)) (λ o. o ≡ Some z.entry)
@@ -69,7 +69,7 @@ length-stamps : (ms : List Stamped) → length (stamps_of ms) ≡ length ms
 length-stamps [] = refl
 length-stamps (x ∷ ms) = omega (arith, length-stamps ms)
 
-length-below : (n : ℕ) → length (below n) ≡ n
+pub length-below : (n : ℕ) → length (below n) ≡ n
 length-below zero = refl
 length-below (suc n) = omega (arith, length-append (below n) (n ∷ []), length-below n)
 

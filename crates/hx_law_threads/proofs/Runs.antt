@@ -4,6 +4,7 @@ use Rattle.hx_law_lemmas.proofs.Lemmas.Vocabulary.{[], Actor, AllByRecursion, ap
 use Rattle.hx_law_lemmas.proofs.Lemmas.Vocabulary.{inl, Input, inr, is_actor, IsIn, IsPermutation-sym, IsRun, IsStep, IsStrictlyIncreasing, List, made_of, map}
 use Rattle.hx_law_lemmas.proofs.Lemmas.Vocabulary.{MayTake, Post, post_named, PostId, refl, reverse, same_actor, Script, Some, subst, sym, Tick, true}
 use Rattle.hx_law_lemmas.proofs.Lemmas.Vocabulary.{true≢false, ℕ, ∥∥₁_elim, ∥∥₁_map, ⊎_elim, ◌<◌, ◌∙◌, ◌∷◌, ◌≡◌, ◌≤◌}
+use Rattle.hx_law_lemmas.proofs.Lemmas.{map-in, in-map}
 use Rattle.hx_clock.specs.declared.parts.Stamped.{Stamped}
 use Rattle.hx_clock.specs.Parts.{all_of, stamps_of, DeliveryMeets, InputMeets, IsPostedBefore, Posted}
 use Rattle.hx_clock.proofs.Lemmas.{each_all, each_in, in_left, in_right, meets_more}
@@ -12,7 +13,7 @@ use Rattle.hx_law_threads.specs.Merged.{actors_in, parts_in, ActorPart, AreOwnPa
 use Rattle.hx_law_threads.specs.Laws.{IsRunOfParts}
 use Rattle.hx_law_threads.proofs.Actors.{same_actor_is, same_as_itself}
 use Rattle.hx_law_threads.proofs.States.{halted_own, made_own}
-use Rattle.hx_law_threads.proofs.Lists.{falls, filter_falls, in_append, in_filter, in_map, in_permuted, in_reverse, map_reverse, of_filter, of_map, of_reverse}
+use Rattle.hx_law_threads.proofs.Lists.{falls, filter_falls, in_append, in_filter, in_permuted, in_reverse, map_reverse, of_filter, of_reverse}
 use Rattle.hx_law_threads.proofs.Lists.{same_falling}
 use Rattle.hx_law_threads.proofs.Sets.{posts_set}
 use Rattle.hx_law_threads.proofs.Places.{are_counted, counted_below, entries, post_found, AreCounted}
@@ -109,7 +110,7 @@ by_actor script a (x ∷ ms) z o (inr i) = by_actor script a ms z o.1 i
 
 apart : (r q : ActorPart) (whole : List ActorPart) → AllByRecursion (λ a. same_actor r.actor a ≡ false) (actors_in whole) → IsIn q whole → r.actor ≡ q.actor → ⊥
 apart r q whole d j e =
-    true≢false (sym (ap (same_actor r.actor) (sym e) ∙ same_as_itself r.actor) ∙ each_in (λ a. same_actor r.actor a ≡ false) (actors_in whole) q.actor d (in_map (λ (o : ActorPart). o.actor) whole q j))
+    true≢false (sym (ap (same_actor r.actor) (sym e) ∙ same_as_itself r.actor) ∙ each_in (λ a. same_actor r.actor a ≡ false) (actors_in whole) q.actor d (map-in (λ (o : ActorPart). o.actor) whole q j))
 
 -- each actor has one part
 one_part : (whole : List ActorPart) (p q : ActorPart) → IsDistinct same_actor (actors_in whole) → IsIn p whole → IsIn q whole → p.actor ≡ q.actor → p ≡ q
@@ -138,7 +139,7 @@ module _ (script : Script) (whole : List ActorPart) (merged : List Stamped) (o :
       same_falling (λ (x : Stamped). x.stamp.0) (mine p.actor (reverse merged)) (reverse p.part)
       (filter_falls (λ (x : Stamped). x.stamp.0) (λ (x : Stamped). same_actor x.entry.actor p.actor) (reverse merged) (falls (λ (x : Stamped). x.stamp.0) merged m.by_stamp))
       (falls (λ (x : Stamped). x.stamp.0) p.part
-      (each_in (λ part. IsStrictlyIncreasing (stamps_of part)) (parts_in whole) p.part w.causal.ascend (in_map (λ (q : ActorPart). q.part) whole p i)))
+      (each_in (λ part. IsStrictlyIncreasing (stamps_of part)) (parts_in whole) p.part w.causal.ascend (map-in (λ (q : ActorPart). q.part) whole p i)))
       (λ z j.
       let f = of_filter (λ (x : Stamped). same_actor x.entry.actor p.actor) (reverse merged) z j in
       let a = in_all whole z (back z f.0) in
@@ -175,7 +176,7 @@ module _ (script : Script) (whole : List ActorPart) (merged : List Stamped) (o :
 pub of_parts : (parts : List (List Stamped)) (merged : List Stamped) → IsMerged parts merged → (x : Entry) → IsIn x (past_of merged)
     → (z : Stamped) × IsIn z (all_of parts) × (x ≡ z.entry)
 of_parts parts merged m x i =
-    let r = of_map (λ (z : Stamped). z.entry) merged x (of_reverse (map (λ (z : Stamped). z.entry) merged) x i) in
+    let r = in-map (λ (z : Stamped). z.entry) merged x (of_reverse (map (λ (z : Stamped). z.entry) merged) x i) in
     (r.0, in_permuted merged (all_of parts) r.0 (IsPermutation-sym _ _ m.all) r.1, r.2)
 
 -- its posts are found by their names

@@ -3,6 +3,7 @@ use Rattle.std.specs.List.{IsDistinct}
 use Rattle.hx_law_lemmas.proofs.Lemmas.Vocabulary.{[], Actor, ap, arith, Bool, cond, cond_both, entries_of, Entry, false, inl, inr, IsIn, le-ltb, length}
 use Rattle.hx_law_lemmas.proofs.Lemmas.Vocabulary.{length-append, List, lt-ltb, ltb-false, ltb-true, nat_lt, refl, reverse, same_actor, Script, subst, suc, sym}
 use Rattle.hx_law_lemmas.proofs.Lemmas.Vocabulary.{take, true, true≢false, zero, ℕ, ◌++◌, ◌+◌, ◌∙◌, ◌∷◌, ◌≡◌}
+use Rattle.hx_law_lemmas.proofs.Lemmas.{map-in}
 use Rattle.hx_clock.specs.declared.parts.Stamped.{Stamped}
 use Rattle.hx_clock.specs.Views.{total}
 use Rattle.hx_clock.proofs.Lemmas.{each_in}
@@ -11,7 +12,7 @@ use Rattle.hx_law_threads.specs.Merged.{actors_in, parts_in, ActorPart, AreOwnPa
 use Rattle.hx_law_threads.specs.Cuts.{Cut}
 use Rattle.hx_law_threads.specs.Counting.{total_at, total_of_parts, total_over}
 use Rattle.hx_law_threads.proofs.Actors.{same_actor_is, same_as_itself}
-use Rattle.hx_law_threads.proofs.Lists.{in_map, reverse_cons}
+use Rattle.hx_law_threads.proofs.Lists.{reverse_cons}
 use Rattle.hx_law_threads.proofs.Places.{are_counted, entries, length-entries, AreCounted}
 use Rattle.hx_law_threads.proofs.Runs.{all_steps, mine, mine_is, past_is, AreSteps}
 
@@ -59,11 +60,11 @@ total_more g h w [] p d i more left right = absurd i
 total_more g h w (q ∷ whole) p d (inl e) more left right =
     let rest : total g whole ≡ total h whole =
     total_same g h whole
-    (λ r j. left r (inr j) (ap (λ (z : ActorPart). same_actor z.actor r.actor) e ∙ each_in (λ a. same_actor q.actor a ≡ false) (actors_in whole) r.actor d.0 (in_map (λ (z : ActorPart). z.actor) whole r j))) in
+    (λ r j. left r (inr j) (ap (λ (z : ActorPart). same_actor z.actor r.actor) e ∙ each_in (λ a. same_actor q.actor a ≡ false) (actors_in whole) r.actor d.0 (map-in (λ (z : ActorPart). z.actor) whole r j))) in
     let here : g q ≡ h q + w = subst (λ z. g z ≡ h z + w) e more in
     omega (arith, rest, here)
 total_more g h w (q ∷ whole) p d (inr i) more left right =
-    let here : g q ≡ h q = right q (inl refl) (each_in (λ a. same_actor q.actor a ≡ false) (actors_in whole) p.actor d.0 (in_map (λ (z : ActorPart). z.actor) whole p i)) in
+    let here : g q ≡ h q = right q (inl refl) (each_in (λ a. same_actor q.actor a ≡ false) (actors_in whole) p.actor d.0 (map-in (λ (z : ActorPart). z.actor) whole p i)) in
     let rest = total_more g h w whole p d.1 i more (λ r j. left r (inr j)) (λ r j. right r (inr j)) in
     omega (arith, rest, here)
 

@@ -38,7 +38,7 @@ pub after_ok : (front t : List ℕ) (read : Result (List ℕ) LexError) → afte
 after_ok front t (Ok u) e = (u, refl, sym (ok_is (front ++ u) t e))
 after_ok front t (Err d) e = absurd cc
 
-ascii : (n : ℕ) → n < 128 → IsUtf8 (n ∷ [])
+pub ascii : (n : ℕ) → n < 128 → IsUtf8 (n ∷ [])
 ascii n lt = subst IsUtf8 (encode_ascii n lt) (IsUtf8-encode n (grind (arith, nat_tests)))
 
 -- the bytes of a character that isn't ASCII stand for themselves
@@ -58,7 +58,7 @@ high_content (b ∷ bs) rest at high =
     after_more b bs (Ok u) = refl
     after_more b bs (Err d) = refl
 
-high_bytes : (c k : ℕ) → 128 ≤ c → k < length (encode_utf8 c) → 128 ≤ get_or (encode_utf8 c) k 0
+pub high_bytes : (c k : ℕ) → 128 ≤ c → k < length (encode_utf8 c) → 128 ≤ get_or (encode_utf8 c) k 0
 high_bytes c k le lt =
     elim (cases_lt (get_or (encode_utf8 c) k 0) 128) [
       | inl low ↦ absurd (let e = inside_one c [] (encode_utf8 c) k (sym (append-nil (encode_utf8 c))) lt low in omega (arith, e))

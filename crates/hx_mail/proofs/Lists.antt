@@ -1,12 +1,11 @@
 -- The lists of what was put and taken under names.
 use Rattle.std.proofs.Common.{◌≡◌, ◌≢◌, ℕ, ◌<◌, ◌≤◌, inl, inr, ⊎_elim, Bool, true, false, cond, eqb, List, [], ◌∷◌, ◌++◌, map, refl, ap, sym, subst, ◌∙◌, arith, append-nil}
-use Rattle.std.specs.Prelude.{nat_lt}
-use Rattle.std.proofs.lemmas.Bool.{ltb-true}
 use Rattle.std.proofs.lemmas.Bool.Decides.{eqb_tells, nat_tests}
 use Rattle.hx_mail.specs.declared.views.Mailed.{Mailed}
 use Rattle.std.specs.List.{AllByRecursion}
 use Rattle.hx_types.specs.Words.{IsIn}
 use Rattle.hx_clock.specs.Views.{one}
+use Rattle.hx_clock.proofs.Lemmas.{one-not, one-same}
 use Rattle.hx_mail.specs.declared.views.PortLists.{PortLists}
 use Rattle.hx_mail.specs.declared.views.Sent.{Sent}
 use Rattle.hx_mail.specs.Ports.{lists_of, put_by, times, put_in, take_in}
@@ -19,23 +18,6 @@ map-snoc f (y ∷ xs) x = ap (λ w. f y ∷ w) (map-snoc f xs x)
 pub each_under : {A B : Type 0} (P : B → Type 0) (Q : A → Type 0) (f : A → B) (xs : List A) → ((x : A) → IsIn x xs → Q x → P (f x)) → AllByRecursion Q xs → AllByRecursion P (map f xs)
 each_under P Q f [] g h = tt
 each_under P Q f (x ∷ xs) g h = (g x (inl refl) h.0, each_under P Q f xs (λ y i. g y (inr i)) h.1)
-
-one-not : (k j : ℕ) → k ≢ j → one (eqb k j) ≡ 0
-one-not k j n = ⊎_elim (λ (h : (eqb k j ≡ true) × (k ≡ j)). absurd (n h.1)) (λ (h : (eqb k j ≡ false) × (k ≢ j)). ap one h.0) (eqb_tells k j)
-
-pub one-same : (k j : ℕ) → k ≡ j → one (eqb k j) ≡ 1
-one-same k j e = ⊎_elim (λ (h : (eqb k j ≡ true) × (k ≡ j)). ap one h.0) (λ (h : (eqb k j ≡ false) × (k ≢ j)). absurd (h.1 e)) (eqb_tells k j)
-
-one_lt-case : (b : Bool) (k n : ℕ) → nat_lt k n ≡ b → 1 ≤ one b → k < n
-one_lt-case true k n e h = ltb-true k n e
-one_lt-case false k n e h = absurd (omega arith)
-
-pub one-lt : (k n : ℕ) → 1 ≤ one (nat_lt k n) → k < n
-one-lt k n h = one_lt-case (nat_lt k n) k n refl h
-
-pub one-le : (b : Bool) → one b ≤ 1
-one-le true = omega arith
-one-le false = omega arith
 
 put-case : (c : Bool) (p : Mailed) (R S d : List Mailed) → R ≡ S ++ d → cond c (p ∷ R) R ≡ cond c (p ∷ S) S ++ d
 put-case c p R S d e = elim c as (λ c. cond c (p ∷ R) R ≡ cond c (p ∷ S) S ++ d) [ true ↦ ap (λ w. p ∷ w) e | false ↦ e ]

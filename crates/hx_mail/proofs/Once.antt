@@ -7,13 +7,12 @@ use Rattle.crossbeam_queue.specs.Fifo.{Learns}
 use Rattle.hx_mail.specs.declared.views.Mailed.{Mailed}
 use Rattle.std.specs.List.{AllByRecursion}
 use Rattle.hx_clock.specs.Views.{one}
-use Rattle.hx_clock.proofs.Lemmas.{each_map, total-at}
+use Rattle.hx_clock.proofs.Lemmas.{each_map, total-at, one-le, one-same}
 use Rattle.hx_mail.specs.declared.views.PortLists.{PortLists}
 use Rattle.hx_mail.specs.declared.views.PortView.{PortView}
 use Rattle.hx_mail.specs.declared.views.Sent.{Sent}
 use Rattle.hx_mail.specs.Ports.{sent, sent_of, put_by, times, IsOnce, all_put, all_taken}
 use Rattle.hx_mail.specs.Rule.{TakenBy, taken_by, Fits, IsKept}
-use Rattle.hx_mail.proofs.Lists.{one-same, one-le}
 
 module _ {A B : Type 0} (key : A → ℕ) (val : A → B) where
   -- the values of one key

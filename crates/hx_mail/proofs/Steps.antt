@@ -10,7 +10,8 @@ use Rattle.std.specs.List.{AllByRecursion}
 use Rattle.hx_types.specs.Words.{IsIn}
 use Rattle.hx_clock.specs.Views.{either_count, one, total}
 use Rattle.hx_clock.specs.Rule.{counts}
-use Rattle.hx_clock.proofs.Lemmas.{each_in, each_append, each_map, total-append, total-set, total-at, total-two, all_set, all_snoc}
+use Rattle.hx_clock.proofs.Lemmas.{each_in, each_append, each_map, total-append, total-set, total-at, total-two, all_set, all_snoc, one-le, one-lt, one_lt-next}
+use Rattle.hx_clock.proofs.Lemmas.{counts-some, counts-either}
 use Rattle.hx_mail.specs.declared.envelopes.Letter.{Letter}
 use Rattle.hx_mail.specs.declared.views.PortLists.{PortLists}
 use Rattle.hx_mail.specs.declared.views.BoxNames.{BoxNames}
@@ -19,7 +20,7 @@ use Rattle.hx_mail.specs.declared.views.Sent.{Sent}
 use Rattle.hx_mail.specs.Ports.{mailed_of, sent_of, port, spent_port, first_port, put_by, times, put_in, take_in, after_put, after_take, splitting, split_off, joined_port, CarriesAll, TookAlone, IsInOrder}
 use Rattle.hx_mail.specs.Boxes.{IsFor}
 use Rattle.hx_mail.specs.Rule.{TakenBy, taken_under, taken_by, Fits, IsKept}
-use Rattle.hx_mail.proofs.Lists.{map-snoc, each_under, one-lt, one-le, put_by-append, put-other, taken-other, put-none, taken-none, times-in, lists-of, put_in-name, put_in-taken, take_in-name, take_in-put, put_in-put, take_in-taken, times-map, taken_in, all_by}
+use Rattle.hx_mail.proofs.Lists.{map-snoc, each_under, put_by-append, put-other, taken-other, put-none, taken-none, times-in, lists-of, put_in-name, put_in-taken, take_in-name, take_in-put, put_in-put, take_in-taken, times-map, taken_in, all_by}
 
 -- another port doesn't carry the name
 apart : (views : List PortView) (c : ℕ) (id j : ℕ) (v u : PortView) (k : ℕ) → total (λ v. times k v.lists) views ≡ one (nat_lt k c) → get_elem? views id ≡ some v → get_elem? views j ≡ some u → j ≢ id → 1 ≤ times k v.lists
@@ -28,9 +29,6 @@ apart views c id j v u k once at there other mine b i e =
     let a = total-two (λ v. times k v.lists) views id j v u at there other in
     let d = times-in k u.lists b i (sym e) in
     let f = one-le (nat_lt k c) in absurd (omega arith)
-
-counts-some : (c : Option ℕ) (n : ℕ) → c ≡ Some n → counts c ≡ 1
-counts-some c n e = ap counts e
 
 uncounted : (views : List PortView) (id j : ℕ) (v u : PortView) (m : ℕ) → total (λ v. counts v.splits) views ≡ 1 → get_elem? views id ≡ some v → get_elem? views j ≡ some u → j ≢ id → counts v.splits ≡ 1 → ¬ (u.splits ≡ Some m)
 uncounted views id j v u m once at there other mine e =
@@ -134,9 +132,6 @@ takes id v mine x items views kept at =
       },
       (refl, λ n e. (kept.sound n (f.named n e)).0),
     )
-
-one_lt-next : (k n : ℕ) → one (nat_lt k (n + 1)) ≡ one (eqb k n) + one (nat_lt k n)
-one_lt-next k n = grind (arith, nat_tests)
 
 no-number : (n m : ℕ) (a b : Option BoxNames) → None ≡ Some n → (n + 1 ≡ m) × (a ≡ b)
 no-number n m a b e = absurd cc
@@ -242,10 +237,6 @@ binds id own n lists given m is items views kept at =
             named = λ k e. absurd (not_none k (sym none ∙ g.named k e));
           }));
     }
-
-counts-either : (c d : Option ℕ) → counts c + counts d ≤ 1 → counts (either_count c d) ≡ counts c + counts d
-counts-either None d h = omega arith
-counts-either (Some n) d h = omega arith
 
 times-append : (k : ℕ) (xs ys : List PortLists) → times k (xs ++ ys) ≡ times k xs + times k ys
 times-append k xs ys = total-append (λ b. one (eqb k b.name)) xs ys

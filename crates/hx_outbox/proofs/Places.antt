@@ -9,7 +9,7 @@ use Rattle.hx_types.specs.Posts.{ActorExists}
 use Rattle.hx_mail.specs.declared.envelopes.Envelope.{Envelope}
 use Rattle.hx_mail.specs.declared.views.BoxNames.{BoxNames}
 use Rattle.hx_mail.specs.Boxes.{Boxed, IsAddressed}
-use Rattle.hx_outbox.specs.Places.{names_for, place_of, AreBoxes, Exists}
+use Rattle.hx_outbox.specs.Places.{place_of, AreBoxes, Exists}
 use Rattle.hx_outbox.specs.Outboxes.{IsGood}
 
 -- whether an actor exists doesn't depend on a bound of numbers
@@ -22,9 +22,6 @@ pub place-below : (script : Script) (a : Actor) → Exists script a → place_of
 place-below script Coordinator h = omega arith
 place-below script (Server s) h = let a = h.1 in omega (arith, a)
 place-below script (Session u) h = let a = h.1 in omega (arith, a)
-
-pub box-at : (script : Script) (clock : TableId) (boxes : List Boxed) (a : Actor) (box : Boxed) → AreBoxes script clock boxes → Exists script a → box ≡ slice_index_or boxes (place_of script.space a) box → box.names ≡ names_for script clock a
-box-at script clock boxes a box h x e = h.each a x box e
 
 pub good-exists : (script : Script) (clock : TableId) (e : Envelope) → IsGood script clock e → Exists script e.post.to
 good-exists script clock e h = exists-any script.space (length script.sessions) (e.id.entry + 1) 0 e.post.to h.1.to

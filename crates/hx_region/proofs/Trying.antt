@@ -1,97 +1,20 @@
 -- Subspaces tried one after another, those with the fewest regions first.
-use Rattle.std.proofs.Common.{◌≡◌, ℕ, zero, suc, ◌+◌, ◌^◌, ◌<◌, ◌≤◌, Bool, true, false, cond, ltb, ◌⊎◌, inl, inr, List, [], ◌∷◌, ◌++◌, length, get_or, set, Option, None, Some, is_some, refl, sym, ap, ◌∙◌, subst, arith}
+use Rattle.std.proofs.Common.{◌≡◌, ℕ, zero, suc, ◌+◌, ◌^◌, ◌<◌, false, cond, inl, inr, List, [], ◌∷◌, ◌++◌, length, get_or, Option, None, Some, is_some, refl, sym, ap, ◌∙◌, subst, arith}
 use Rattle.std.specs.List.{sum_by}
-use Rattle.std.proofs.lemmas.Bool.{cases_eq, cases_lt, cases_order}
-use Rattle.std.proofs.lemmas.Bool.Decides.{nat_tests}
-use Rattle.std.proofs.lemmas.List.{get_or-map, get_or-set_other, get_or-set_same, get_or_append_left, get_or_push, length-map, length-set, length_push}
+use Rattle.std.proofs.lemmas.Bool.{cases_order}
+use Rattle.std.proofs.lemmas.List.{get_or-map, get_or_append_left, get_or_push, length-map, length_push}
 use Rattle.hx_model.specs.Types.{Config, RegionId, Space, Term}
 use Rattle.hx_types.specs.declared.outcomes.Planned.TheVariants as a_plan
 use Rattle.hx_types.specs.Words.{below}
 use Rattle.hx_model.specs.Planning.{QueryRegions, any_lost, lowest_lost, plan_of, query_regions}
 use Rattle.hx_region.specs.Spans.{subspace_count}
-use Rattle.hx_region.specs.Counts.{AreCounts, IsCountOf, IsFewest, IsNoWorse, better_of, query_counts}
+use Rattle.hx_region.specs.Counts.{AreCounts, IsCountOf, IsFewest, IsNoWorse, query_counts}
 use Rattle.hx_region.specs.Plans.{query_size}
 use Rattle.hx_region.specs.declared.candidates.Candidate.{Candidate}
 use Rattle.hx_region.proofs.Listing.{clash}
 use Rattle.hx_region.proofs.Planned.{IsBest, best, best_of, planned}
 
--- ---- the fewest of some counts
-
--- a number up to n is n or below it
-upto : (t n : ℕ) → t < n + 1 → (t < n) ⊎ (t ≡ n)
-upto t n l = elim (cases_order t n) [
-  | inl e ↦ inr e
-  | inr (inl h) ↦ inl h
-  | inr (inr h) ↦ absurd (omega (arith, h, l))
-]
-
--- one more count is compared
-pub fewest_more : (counts : List (Option ℕ)) (n : ℕ) (best : Option Candidate) (count : Option ℕ) → count ≡ get_or counts n None → IsFewest counts n best → IsFewest counts (n + 1) (better_of best n count)
-fewest_more counts n None None e h = λ t l. elim (upto t n l) [ inl m ↦ h t m | inr p ↦ subst (λ k. get_or counts k None ≡ None) (sym p) (sym e) ]
-fewest_more counts n (Some best) None e h = (
-  omega (arith, h.0),
-  h.1,
-  λ t m l k. elim (upto t n l) [
-    | inl o ↦ h.2 t m o k
-    | inr p ↦ absurd (let q : get_or counts t None ≡ None = subst (λ k. get_or counts k None ≡ None) (sym p) (sym e) in cc)
-  ],
-)
-fewest_more counts n None (Some count) e h = (
-  omega arith,
-  sym e,
-  λ t m l k. elim (upto t n l) [
-    | inl o ↦ absurd (let q = h t o in cc)
-    | inr p ↦ here t m p k
-  ],
-)
-  where
-    here : (t m : ℕ) → t ≡ n → get_or counts t None ≡ Some m → IsNoWorse count n m t
-    here t m p k = (let same : get_or counts t None ≡ Some count = subst (λ k. get_or counts k None ≡ Some count) (sym p) (sym e) in let q : count ≡ m = cc in inr (q, omega (arith, p)))
-fewest_more counts n (Some best) (Some count) e h = by (ltb best.count count) refl
-  where
-    at_end : (t m : ℕ) → t ≡ n → get_or counts t None ≡ Some m → count ≡ m
-    at_end t m p k = (let same : get_or counts t None ≡ Some count = subst (λ k. get_or counts k None ≡ Some count) (sym p) (sym e) in cc)
-
-    less : (a b : ℕ) → ltb a b ≡ true → a < b
-    less a b p = grind (arith, nat_tests, p)
-
-    no_less : (a b : ℕ) → ltb a b ≡ false → b ≤ a
-    no_less a b p = grind (arith, nat_tests, p)
-
-    chain : (a b c s t : ℕ) → a ≤ b → t < n → IsNoWorse b s c t → IsNoWorse a n c t
-    chain a b c s t l o (inl p) = inl (omega (arith, l, p))
-    chain a b c s t l o (inr p) = elim (cases_lt a c) [ inl r ↦ inl r | inr r ↦ inr (omega (arith, l, p.0, r), omega (arith, o)) ]
-
-    by : (b : Bool) → ltb best.count count ≡ b → IsFewest counts (n + 1) (cond b (Some best) (Some (record { subspace = n; count = count })))
-    by true g = (
-      omega (arith, h.0),
-      h.1,
-      λ t m l k. elim (upto t n l) [
-        | inl o ↦ h.2 t m o k
-        | inr p ↦ inl (let q = at_end t m p k in let r = less best.count count g in omega (arith, q, r))
-      ],
-    )
-    by false g = (
-      omega arith,
-      sym e,
-      λ t m l k. elim (upto t n l) [
-        | inl o ↦ chain count best.count m best.subspace t (no_less best.count count g) o (h.2 t m o k)
-        | inr p ↦ inr (at_end t m p k, omega (arith, p))
-      ],
-    )
-
 -- ---- what the counts tell of the candidates
-
--- a subspace with a lost region has no count any more
-pub counts_tried : (config : Config) (f : ℕ → QueryRegions) (n : ℕ) (counts : List (Option ℕ)) (s : ℕ) → AreCounts config f n counts → s < n → any_lost config (f s).regions ≡ true → AreCounts config f n (set counts s None)
-counts_tried config f n counts s h l lost = record {
-  count = length-set counts s None ∙ h.count;
-  each = λ t m. elim (cases_eq t s) [
-    | inl e ↦ subst (λ k. IsCountOf config (f k) (get_or (set counts s None) k None)) (sym e)
-        (subst (IsCountOf config (f s)) (sym (get_or-set_same counts s None None (let c = h.count in omega (arith, c, l)))) lost)
-    | inr e ↦ subst (IsCountOf config (f t)) (sym (get_or-set_other counts s t None None e)) (h.each t m)
-  ];
-}
 
 -- the best of those that are left is the best of all
 pub best_left : (config : Config) (f : ℕ → QueryRegions) (n : ℕ) (counts : List (Option ℕ)) (c : Candidate) → AreCounts config f n counts → IsFewest counts n (Some c) → any_lost config (f c.subspace).regions ≡ false

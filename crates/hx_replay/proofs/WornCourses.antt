@@ -31,11 +31,6 @@ some_same x y e = cc
 none_some : {A : Type 0} (x : A) → None ≡ Some x → ⊥
 none_some x e = absurd (cc)
 
-count_at : (k : ℕ) (a : Actor) (runs : List WorldState) (r : WorldState) → slice_get runs k ≡ Some r → count k a runs ≡ made_by a r
-count_at k a [] r at = absurd (none_some r at)
-count_at zero a (x ∷ rest) r at = ap (made_by a) (some_same x r at)
-count_at (suc k) a (x ∷ rest) r at = count_at k a rest r at
-
 -- the space of an entry has one more, or as many, and the others have as many
 set_grows : (j k : ℕ) (a : Actor) (runs : List WorldState) (r new : WorldState) → slice_get runs j ≡ Some r → made_by a r ≤ made_by a new → count k a runs ≤ count k a (slice_set runs j new)
 set_grows j k a [] r new at more = absurd (none_some r at)

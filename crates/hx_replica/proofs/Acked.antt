@@ -3,21 +3,14 @@ use Rattle.std.proofs.Common.{◌≡◌, ℕ, ◌+◌, ◌≤◌, true, false, n
 use Rattle.std.specs.List.{filter, find, flat_map, list_any, slice_get}
 use Rattle.std.proofs.lemmas.Bool.{cond-false, cond-true, eq-eqb, eqb-true, false≢true, le-ltb}
 use Rattle.std.proofs.lemmas.Option.{same_Some}
-use Rattle.std.proofs.lemmas.List.{drop_all}
-use Rattle.hx_model.specs.Types.{Post, Update, Version}
+use Rattle.hx_model.specs.Types.{Post, Update}
 use Rattle.hx_types.specs.declared.outcomes.Acked.TheVariants as an_ack
 use Rattle.hx_types.specs.Words.{provided}
-use Rattle.hx_model.specs.ServerSteps.{SlotContext as ModelContext, ack_step, accepting, move_posts, with_commits}
-use Rattle.hx_model.specs.Slots.{Acknowledge, Commit, KeyState, Move, ack_answer, commits, is_pending, moved, offered, pending_of, settled, waits_below}
+use Rattle.hx_model.specs.ServerSteps.{SlotContext as ModelContext, ack_step, move_posts}
+use Rattle.hx_model.specs.Slots.{Acknowledge, Commit, KeyState, ack_answer, commits, is_pending, moved, pending_of, settled, waits_below}
 use Rattle.hx_slot.specs.States.{committed_count}
-use Rattle.hx_store.specs.Stores.{accepted}
-use Rattle.hx_replica.specs.Outputs.{AreEnds, told_of}
+use Rattle.hx_replica.specs.Outputs.{told_of}
 use Rattle.hx_replica.proofs.Walking.{drop_at}
-
--- the moves of an accepted update are the step's
-pub accepted_moves : (context : ModelContext) (s : KeyState) (u : Update) (tail_versions : List Version) → AreEnds context s u tail_versions
-    → accepted context.region s u tail_versions ≡ accepting context s (offered context.region s u)
-accepted_moves context s u tail_versions a = ap (λ (ms : List Move). with_commits s (offered context.region s u ++ ms)) a.ends_are
 
 -- commits take the lowest pending updates, as many as they are
 pub told_first : (context : ModelContext) (acked : List ℕ) (us : List Update) → flat_map (told_of context) (take (length (commits acked us)) us) ≡ flat_map (move_posts context) (commits acked us)
@@ -69,10 +62,6 @@ found_at v us i u at is before = sym (cond-true (has_number v u) (Some u) (find 
 pub found_later : (v : ℕ) (us : List Update) (i : ℕ) (u : Update) → slice_get us i ≡ Some u → has_number v u ≡ false
     → find (has_number v) (drop i us) ≡ find (has_number v) us → find (has_number v) (drop (i + 1) us) ≡ find (has_number v) us
 found_later v us i u at out before = sym (cond-false (has_number v u) (Some u) (find (has_number v) (drop (i + 1) us)) out) ∙ sym (ap (find (has_number v)) (drop_at us i u at)) ∙ before
-
--- there is none
-pub found_none : (v : ℕ) (us : List Update) (i : ℕ) → length us ≤ i → find (has_number v) (drop i us) ≡ find (has_number v) us → None ≡ find (has_number v) us
-found_none v us i l before = ap (find (has_number v)) (sym (drop_all i us l)) ∙ before
 
 -- an update that is found is the one that is looked at, of that number
 found_one : (v : ℕ) (u x : Update) (b : Bool) → cond b (Some x) None ≡ Some u → (b ≡ true) × (x ≡ u)

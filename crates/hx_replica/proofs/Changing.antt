@@ -128,12 +128,6 @@ module _ (space : Space) (rs : List Replica) (place : ℕ) (y : Replica) (store 
   pub reserved_rooms : store.rooms ≡ y.store.rooms → rooms_of (set rs place put) ≡ rooms_of rs
   reserved_rooms rooms = map_stays (λ (r : Replica). r.store.rooms) rs place put (rooms ∙ ap (λ (r : Replica). r.store.rooms) here)
 
-  pub state_is : (key : List ℕ) → store.marks ≡ y.store.marks → state_at store key ≡ state_in space (view_of put) key
-  state_is key marks = ap (λ (b : Bool). state_among b key store.states) (marks ∙ held.marks)
-
-  pub state_same : (key : List ℕ) → store.marks ≡ y.store.marks → store.states ≡ y.store.states → state_at store key ≡ state_in space (view_of y) key
-  state_same key marks states = state_is key marks ∙ ap (λ (states : List KeyState). state_among (is_key_region space y.region) key states) states
-
   pub put_there : {A : Type 0} (f : Replica → A) → slice_get (map f (set rs place put)) place ≡ Some (f put)
   put_there f = set_there f rs place put within
 

@@ -84,10 +84,6 @@ view_there i v number y seen l is =
     ∙ slice_get-get_or (views_of i.replicas.items) number (view_of y) (let n = length-map i.replicas.items view_of in omega (arith, n))
     ∙ ap (λ (z : ReplicaState). Some z) (get_or-map view_of i.replicas.items number y (view_of y) l ∙ ap view_of (sym is))
 
--- the slot of the key at a place
-pub slot_state : (i : Inside) (y : Replica) (key : List ℕ) (place : ℕ) (state : KeyState) → IsReplicaIn i.space y → key_at y.store place ≡ key → state ≡ state_at y.store (key_at y.store place) → state ≡ state_in i.space (view_of y) key
-slot_state i y key place state holds k e = e ∙ ap (state_at y.store) k ∙ ap (λ (b : Bool). state_among b key y.store.states) holds.marks
-
 -- its room
 pub placed_at : (i : Inside) (v : ServerValue) (number : ℕ) (key : List ℕ) (n place : ℕ) (y : Replica) → value_of i ≡ v → number < length i.replicas.items → y ≡ get_or i.replicas.items number y → HasRoomAt number key n v place
     → IsRoomFor y.store key n place

@@ -9,14 +9,13 @@ use Rattle.std.proofs.lemmas.List.Elements.{All-weaker, recursion_from_All}
 use Rattle.hx_model.specs.Types.{Kept, Post, RegionId, Update, Version}
 use Rattle.hx_types.specs.Subspaces.{is_key_region}
 use Rattle.hx_types.specs.Words.{same_text}
-use Rattle.hx_model.proofs.Lemmas.{base-moved_all, others_stay}
+use Rattle.hx_model.proofs.Lemmas.{base-moved_all, others_stay, moved_all-++}
 use Rattle.hx_model.specs.ServerSteps.{Slots, SlotContext as ModelContext, accepting, tail_acks, join_keys, join_slot, move_posts, offered_all, passed_on, resumed, state_from}
 use Rattle.hx_model.specs.Slots.{Acknowledge, Commit, Forget, Hold, KeyState, Move, Take, follows, moved, moved_all, new_state, offered, pending_above, pending_of, settled, state_among, taken, top_above, top_of, turns, with_state}
 use Rattle.hx_law_folds.specs.Folding.{Descends, IsLater, IsSlotOf, folded}
 use Rattle.hx_law_folds.proofs.Lemmas.{bare-folded, bare-from, AllFit, all-filter, later-of, offered_all-fit, when_some_both, among-key, folded-among}
 use Rattle.hx_law_folds.proofs.Lemmas.{folded-new, folded-with}
 use Rattle.hx_store.specs.Stores.{acknowledging}
-use Rattle.hx_store.proofs.Lemmas.{moved_all_append}
 use Rattle.hx_replica.specs.Installing.{CanCome, IsFresh, TextsAscend, joined_slots, joining, of_key, own_offer}
 use Rattle.hx_replica.proofs.Asking.{state_marks}
 use Rattle.hx_replica.proofs.Changing.{marks_stay, with_marked}
@@ -123,7 +122,7 @@ one_offer g s after u us e =
     by true =
         let x : KeyState = moved_all (offered g s u) s in
         ap (λ (b : Kept). moved_all (offered_all g x (of_key b.key us)) x) (base-moved_all (offered g s u) s)
-        ∙ sym (moved_all_append (offered g s u) (offered_all g x (of_key s.base.key us)) s)
+        ∙ sym (moved_all-++ (offered g s u) (offered_all g x (of_key s.base.key us)) s)
     by false = refl
 
 -- acknowledgements and commits don't look at early updates
@@ -160,7 +159,7 @@ module _ (context : ModelContext) (us : List Update) (s x : KeyState) (fresh : I
   pending_are = ap pending_of is ∙ took.pending ∙ ap (λ (l : List Update). l ++ taken ms) (ap (pending_above s.floor) fresh.accepted)
 
   marked : moved_all marks x ≡ moved_all (ms ++ marks) s
-  marked = ap (moved_all marks) is ∙ sym (moved_all_append ms marks s)
+  marked = ap (moved_all marks) is ∙ sym (moved_all-++ ms marks s)
 
   -- its state afterwards
   pub joined_state : (tail_versions : List Version) (next : KeyState) → acknowledging tail_versions ≡ tail_acks context (pending_of x) → next ≡ folded g (moved_all (acknowledging tail_versions ++ settled (moved_all (acknowledging tail_versions) x)) x)
@@ -169,9 +168,9 @@ module _ (context : ModelContext) (us : List Update) (s x : KeyState) (fresh : I
       n ∙ ap (λ (l : List Move). folded g (moved_all (l ++ settled (moved_all l x)) x)) (e ∙ ap (tail_acks context) pending_are)
       ∙ ap (folded g)
       (
-      moved_all_append marks (settled (moved_all marks x)) x
+      moved_all-++ marks (settled (moved_all marks x)) x
       ∙ ap (λ (y : KeyState). moved_all (settled y) y) marked
-      ∙ sym (moved_all_append (ms ++ marks) (settled (moved_all (ms ++ marks) s)) s)
+      ∙ sym (moved_all-++ (ms ++ marks) (settled (moved_all (ms ++ marks) s)) s)
       )
 
   -- and all that is posted of it

@@ -12,13 +12,13 @@ use Rattle.hx_types.specs.Configs.{lists}
 use Rattle.hx_types.specs.Spaces.{IsAscending}
 use Rattle.hx_types.specs.Subspaces.{is_key_region}
 use Rattle.hx_types.specs.Words.{list_of, provided, same_region, same_text, text_below, when_some}
-use Rattle.hx_model.proofs.Lemmas.{same_text_self}
+use Rattle.hx_model.proofs.Lemmas.{same_text_self, moved_all-++}
 use Rattle.hx_model.specs.Neighbours.{is_end}
 use Rattle.hx_model.specs.ServerSteps.{Replica as ReplicaState, SlotContext as ModelContext, tail_acks, is_active, listed_regions, next_at, replica_of, replica_or_new, resumed, with_replica}
 use Rattle.hx_model.specs.Slots.{Forget, KeyState, Move, is_pending, moved, moved_all, pending_of, settled, with_state}
 use Rattle.hx_law_folds.specs.Folding.{KeysAscend, folded}
 use Rattle.hx_store.specs.Stores.{StoreState, acknowledging, after_step, has_slot, key_at, settled_at, state_at}
-use Rattle.hx_store.proofs.Lemmas.{at-within, moved_all_append, moved_all_parts}
+use Rattle.hx_store.proofs.Lemmas.{at-within, moved_all_parts, all-at}
 use Rattle.hx_replica.specs.declared.replicas.Replica.{Replica}
 use Rattle.hx_replica.specs.Adopting.{IsPendingAt, changed_at, lean_adopted, lean_replica, marked_end}
 use Rattle.hx_replica.specs.Outputs.{tail_version}
@@ -31,7 +31,7 @@ use Rattle.hx_replica.proofs.Offers.{acknowledging_append, marks_pending}
 use Rattle.hx_replica.proofs.Planning.{IsFound, found_nowhere, found_there}
 use Rattle.hx_replica.proofs.Resumed.{marks_of_ends}
 use Rattle.hx_replica.proofs.Starting.{numbers_ascend}
-use Rattle.hx_replica.proofs.Walking.{each_at, flat_more, lower_differs, not_above}
+use Rattle.hx_replica.proofs.Walking.{flat_more, lower_differs, not_above}
 
 -- one change after another
 pub changed_twice : (f g : KeyState → KeyState) (i : ℕ) (xs : List KeyState) → changed_at f i (changed_at g i xs) ≡ changed_at (λ (s : KeyState). f (g s)) i xs
@@ -62,7 +62,7 @@ put_at f k (x ∷ xs) zero t a e =
     cond-true (same_text x.base.key (f t).base.key) _ _ (ap (same_text x.base.key) (k t ∙ ap (λ (s : KeyState). s.base.key) (sym same)) ∙ same_text_self x.base.key)
     ∙ ap (λ (s : KeyState). f s ∷ xs) (sym same)
 put_at f k (x ∷ xs) (suc i) t a e =
-    let below : text_below x.base.key (f t).base.key ≡ true = ap (text_below x.base.key) (k t) ∙ each_at (λ (s : KeyState). text_below x.base.key s.base.key ≡ true) xs i t a.0 e in
+    let below : text_below x.base.key (f t).base.key ≡ true = ap (text_below x.base.key) (k t) ∙ all-at (λ (s : KeyState). text_below x.base.key s.base.key ≡ true) xs i t a.0 e in
     cond-false (same_text x.base.key (f t).base.key) _ _ (lower_differs x.base.key (f t).base.key below)
     ∙ cond-false (text_below (f t).base.key x.base.key) _ _ (not_above x.base.key (f t).base.key below)
     ∙ ap (λ l. x ∷ l) (put_at f k xs i t a.1 e)
@@ -136,7 +136,7 @@ one_marked context k i xs l =
         let at = at-within us k l in
         ap (λ (ps : List Update). moved_all (acknowledging (when_some (slice_get ps k) [] (tail_version context))) before) (marks_pending tail_versions s)
         ∙ ap (λ (o : Option Update). moved_all (acknowledging (when_some o [] (tail_version context))) before) at.1
-        ∙ sym (moved_all_append (acknowledging tail_versions) (acknowledging (tail_version context at.0)) s)
+        ∙ sym (moved_all-++ (acknowledging tail_versions) (acknowledging (tail_version context at.0)) s)
         ∙ ap (λ (ms : List Move). moved_all ms s) (sym (acknowledging_append tail_versions (tail_version context at.0)))
         ∙ ap (λ (vs : List Version). moved_all (acknowledging vs) s) (flat_more (tail_version context) us k at.0 tail_versions (tail_versions ++ tail_version context at.0) [] at.1 refl refl)
 
@@ -215,7 +215,7 @@ gone_on context g i a b c d at first second third =
     one s =
         let ms = tail_acks context (pending_of s) in
         let x : KeyState = moved Forget s in
-        ap (folded context.region) (sym (moved_all_append ms (settled (moved_all ms x)) x))
+        ap (folded context.region) (sym (moved_all-++ ms (settled (moved_all ms x)) x))
 
 pub adopted_marks : (context : ModelContext) (active : Bool) (s : KeyState) → (lean_adopted context active s).marks ≡ s.marks
 adopted_marks context true s = (moved_all_parts (resumed context s) s).1
@@ -371,7 +371,3 @@ module _ (space : Space) (config : Config) (server : ServerId) where
       by : (xs : List Replica) → AllByRecursion (IsReplicaIn space) (xs ++ r ∷ []) → IsReplicaIn space r
       by [] h = h.0
       by (x ∷ xs) h = by xs h.1
-
-  pub all_kept : (views : List ReplicaState) (old next : List Replica) → IsKeeping space config server views old next → old ≡ [] → views_of next ≡ map (λ (g : RegionId). lean_replica space (standing config server) (replica_or_new views g)) (listed_regions config server)
-  all_kept views old next so e =
-      so.becomes ∙ ap (λ (vs : List ReplicaState). map (made vs) (listed_regions config server)) (sym (so.all ∙ ap (λ (rs : List Replica). views_of rs ++ so.taken) e))

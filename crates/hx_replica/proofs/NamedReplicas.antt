@@ -6,21 +6,15 @@ use Rattle.hx_types.specs.Configs.{joiner_for, lists_joining}
 use Rattle.hx_types.specs.Posted.{sessions_marked}
 use Rattle.hx_types.specs.Subspaces.{is_key_region}
 use Rattle.hx_types.specs.Words.{IsIn, same_text}
-use Rattle.hx_model.specs.ServerSteps.{Replica, ServerState, Slots, SlotContext, accepting, adopted_posts, tail_acks, installed_slots, is_active, join_keys, join_slot, keys_of, leader_doubts, move_posts, offered_all, passed_on, pending_posts, ready_post, replica_tick, resumed, resumed_posts, snap_posts, snap_to, context_of, state_from}
-use Rattle.hx_model.specs.Slots.{Forget, KeyState, kept_of, moved_all, pending_of, pending_of_all, snapshot_of, state_among}
-use Rattle.hx_law_lemmas.proofs.Lemmas.{AllKnownInLine as AllKnown, KnownInLine as IsMoveKnown, accepting-known-in_line as accepting-known}
-use Rattle.hx_law_lemmas.proofs.Lemmas.{marks-known-in_line as marks-known, with_commits-known-in_line as with_commits-known, in-append, in-filter, in-flat_map}
+use Rattle.hx_model.specs.ServerSteps.{Replica, ServerState, Slots, SlotContext, accepting, adopted_posts, installed_slots, is_active, join_keys, join_slot, keys_of, leader_doubts, move_posts, offered_all, passed_on, pending_posts, ready_post, replica_tick, resumed, resumed_posts, snap_posts, snap_to, context_of, state_from}
+use Rattle.hx_model.specs.Slots.{KeyState, kept_of, moved_all, pending_of, pending_of_all, snapshot_of, state_among}
+use Rattle.hx_law_lemmas.proofs.Lemmas.{accepting-known-in_line as accepting-known}
+use Rattle.hx_law_lemmas.proofs.Lemmas.{in-append, in-filter, in-flat_map}
 use Rattle.hx_law_lemmas.proofs.Lemmas.{in-map, in_left, in-with_state}
-use Rattle.hx_law_posts.proofs.Lemmas.{offered_all-known, held-together, together}
+use Rattle.hx_law_posts.proofs.Lemmas.{offered_all-known, held-together, together, resumed-known}
 use Rattle.hx_replica.proofs.NamedMembers.{IsMaybeKnown, KnowsMembers, joiner-known}
 use Rattle.hx_replica.proofs.NamedSlots.{AreGood, KnowsCaller, KnowsSlot, among-known, both-good, each-good, kept-known, moved-known, moves-good, none-good, one-good, pending-good, pending-known, provided-good, together-known}
 use Rattle.hx_replica.proofs.NamedSteps.{leader-good}
-
--- the moves of a slot that goes on in another configuration are of updates that it holds
-resumed-known : (context : SlotContext) (t : KeyState) → AllKnown (together [] t) (resumed context t)
-resumed-known context t =
-    with_commits-known (together [] t) t (Forget ∷ tail_acks context (pending_of t)) (held-together [] t)
-    (λ m i. elim i [ inl e ↦ subst (IsMoveKnown (together [] t)) (sym e) tt | inr j ↦ marks-known (together [] t) context (pending_of t) m j ])
 
 module _ (Known : Actor → Type 0) where
   -- whom the state of a server names is known

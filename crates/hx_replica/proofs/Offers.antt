@@ -15,8 +15,8 @@ use Rattle.hx_types.specs.Words.{provided, same_region, when_some}
 use Rattle.hx_model.specs.Neighbours.{is_end, place_number}
 use Rattle.hx_model.specs.ServerSteps.{SlotContext as ModelContext, tail_acks, move_posts, next_at, passed_on}
 use Rattle.hx_model.specs.Slots.{Acknowledge, Commit, Hold, KeyState, Move, Take, commits, follows, moved, moved_all, offered, pending_above, pending_of, place_in, settled, taken, top_of, turns}
+use Rattle.hx_model.proofs.Lemmas.{moved_all-++}
 use Rattle.hx_store.specs.Stores.{ArePending, acknowledging}
-use Rattle.hx_store.proofs.Lemmas.{moved_all_append}
 use Rattle.hx_replica.specs.Outputs.{AreEnds, IsNew, accepting_posts, tail_version, seen, settled_among, settles, told_of}
 
 -- the place in a region is that of its number
@@ -249,7 +249,7 @@ acceptance context s u bs line tail_versions posts top took new ended lined post
     let marked : acknowledging tail_versions ≡ tail_acks context (taken moves) = ap acknowledging ended ∙ ends_marked context bs ∙ ap (tail_acks context) took in
     let pending : pending_of after ≡ pending_of s ++ seen bs = offer.pending above ∙ ap (λ (us : List Update). pending_of s ++ us) (sym took) in
     let all = moved_all (acknowledging tail_versions) after in
-    let now : moved_all (moves ++ tail_acks context (taken moves)) s ≡ all = ap (λ ms. moved_all (moves ++ ms) s) (sym marked) ∙ moved_all_append moves (acknowledging tail_versions) s in
+    let now : moved_all (moves ++ tail_acks context (taken moves)) s ≡ all = ap (λ ms. moved_all (moves ++ ms) s) (sym marked) ∙ moved_all-++ moves (acknowledging tail_versions) s in
     let settle : settled all ≡ commits all.acked (seen line) = ap (commits all.acked) (marks_pending tail_versions after ∙ pending ∙ sym lined) in
     let told = told_commits context s.acked all.acked tail_versions (λ v. marks_acked tail_versions after v ∙ ap (λ (acked : List ℕ). settles acked tail_versions v) offer.acked) line in
     record {
@@ -276,15 +276,7 @@ acceptance context s u bs line tail_versions posts top took new ended lined post
         ∙ ap (λ (ps : List Post). ps ++ flat_map (move_posts context) rest)
         (flat_map-append (move_posts context) (offered context.region s u) (tail_acks context (taken (offered context.region s u))) ∙ ap (λ (ps : List Post). flat_map (move_posts context) (offered context.region s u) ++ ps) (no_end_posts context (taken (offered context.region s u))) ∙ append-nil _)
 
--- a slot that holds no other update, and one whose turn hasn't come
-pub held_alone : (context : ModelContext) (s : KeyState) (u : Update) → top_of s < u.version.0 → pending_of s ≡ []
-    → follows context.region (top_of s) u ≡ false → IsAccepted context s u [] []
-held_alone context s u top pending out =
-    acceptance context s u [] [] [] [] top
-    (sym (ap taken (offered_is context context.region s u top ∙ ap (offer_by context.region s u) out)))
-    (All-nil (IsNew context.region s.floor)) refl (sym (ap (λ (us : List Update). us ++ []) pending)) refl
-
--- and one whose turn has come
+-- a slot that holds no other update, and one whose turn has come
 pub taken_alone : (context : ModelContext) (s : KeyState) (b : Bor Update) (tail_versions : List Version) → top_of s < b.now.version.0 → pending_of s ≡ []
     → s.early ≡ [] → IsNew context.region s.floor b
     → follows context.region (top_of s) b.now ≡ true → tail_versions ≡ tail_version context b.now

@@ -35,11 +35,6 @@ all_ordered zero (r ∷ rs) l = absurd (omega (arith, l))
 all_ordered (suc n) [] l = refl
 all_ordered (suc n) (r ∷ rs) l = ap (λ zs. in_order r ∷ zs) (all_ordered n rs (omega (arith, l)))
 
-pub upto_length : (n : ℕ) (rs : List Replica) → length (ordered_upto n rs) ≡ length rs
-upto_length zero rs = refl
-upto_length (suc n) [] = refl
-upto_length (suc n) (r ∷ rs) = ap suc (upto_length n rs)
-
 -- what doesn't depend on the order stays
 stay : {A : Type 0} (f : Replica → A) → ((r : Replica) → f (in_order r) ≡ f r) → (rs : List Replica) → map f (map in_order rs) ≡ map f rs
 stay f same [] = refl

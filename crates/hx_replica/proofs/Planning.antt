@@ -42,11 +42,6 @@ found_nowhere (Some r) e = absurd cc
 pub running_step : (v : ServerValue) (input : Input) → v.state.halted ≡ false → server_step v.space v.state input ≡ input_step v.space v.state input
 running_step v input running = cond-false v.state.halted (unmoved v.state) (input_step v.space v.state input) running
 
--- and gets a message
-pub message_taken : (v : ServerValue) (id : PostId) (from : Actor) (m : Message) → CanTake v.space v.state (Deliver id from m)
-    → server_step v.space v.state (Deliver id from m) ≡ message_step v.space v.state from m
-message_taken v id from m can = running_step v (Deliver id from m) can.running
-
 -- after a step that leaves a server without a past as it was
 pub stays : (v : ServerValue) (step : ServerStep) → folded_server v.state ≡ v.state → step.state ≡ v.state → folded_server step.state ≡ v.state
 stays v step bare e = ap folded_server e ∙ bare

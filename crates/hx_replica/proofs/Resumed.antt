@@ -11,9 +11,9 @@ use Rattle.hx_model.specs.Leading.{StuckAt, stuck_among}
 use Rattle.hx_model.specs.Neighbours.{is_end}
 use Rattle.hx_model.specs.ServerSteps.{SlotContext as ModelContext, doubt_in, doubts_from, tail_acks, leader_doubts, move_posts, next_at, passed_on, resumed, resumed_posts}
 use Rattle.hx_model.specs.Slots.{Acknowledge, Forget, KeyState, Move, commits, moved, moved_all, pending_of, settled}
+use Rattle.hx_model.proofs.Lemmas.{moved_all-++}
 use Rattle.hx_law_folds.specs.Folding.{Descends, IsSlotOf}
 use Rattle.hx_store.specs.Stores.{ArePending, acknowledging}
-use Rattle.hx_store.proofs.Lemmas.{moved_all_append}
 use Rattle.hx_replica.specs.Adopting.{IsCarriedOn, doubt_of, doubts_among, doubts_on}
 use Rattle.hx_replica.specs.Outputs.{tail_version, ended_count, told_of}
 use Rattle.hx_replica.proofs.Acked.{told_first}
@@ -117,7 +117,7 @@ left_pending context s tail_versions is marked =
     ap pending_of
     (
     ap (λ (ms : List Move). moved_all (ms ++ settled (moved_all ms fresh)) fresh) (sym marked)
-    ∙ moved_all_append (acknowledging tail_versions) (settled all) fresh
+    ∙ moved_all-++ (acknowledging tail_versions) (settled all) fresh
     ∙ ap (λ (l : List Update). moved_all (commits all.acked l) all) pending
     )
     ∙ commits_left s.base.floor.0 all.acked us all (subst (Descends s.base.floor.0) (sym (marks_accepted tail_versions fresh)) is.descends) pending

@@ -155,6 +155,3 @@ kept_next all left rest next after r h e k = record {
   split = h.split ∙ ap (λ (l : List Replica). l ++ h.done) e ∙ append_assoc rest (r ∷ []) h.done;
   kept = one_kept r h.done next after k h.kept;
 }
-
-pub kept_last : (all next : List Replica) → AreKeptSoFar all [] next → AllKept all next
-kept_last all next h = subst (λ (rs : List Replica). AllKept rs next) (sym h.split) h.kept

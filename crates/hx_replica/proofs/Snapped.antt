@@ -1,21 +1,20 @@
 -- What a server makes that gets a snapshot.
 use Rattle.std.proofs.Common.{◌≡◌, ℕ, ◌+◌, ◌≤◌, Bool, Box, Global, true, false, not, cond, List, [], ◌∷◌, ◌++◌, map, get_or, Option, None, Some, refl, ap, append_assoc, sym, ◌∙◌, subst}
 use Rattle.std.specs.Prelude.{IsTrue}
-use Rattle.std.specs.List.{AllByRecursion, list_all, slice_get}
+use Rattle.std.specs.List.{AllByRecursion, slice_get}
 use Rattle.std.specs.Option.{option_map}
-use Rattle.std.proofs.lemmas.Bool.{and_parts, cond-true, cond-false}
+use Rattle.std.proofs.lemmas.Bool.{cond-true, cond-false}
 use Rattle.std.proofs.lemmas.List.Elements.{All-weaker}
 use Rattle.hx_model.specs.Types.{Actor, Config, Epoch, Kept, Mark, Message, Post, RegionId, Row, Space, Touch, Update}
 use Rattle.hx_types.specs.declared.messages.Message.TheVariants as a_message
-use Rattle.hx_types.specs.Posts.{Bounds, IsSoundKept, IsSoundMessage, IsSoundUpdate, has_place_in, keys_ascend}
+use Rattle.hx_types.specs.Posts.{Bounds, IsSoundKept, IsSoundMessage, IsSoundUpdate, has_place_in}
 use Rattle.hx_types.specs.Spaces.{IsAnswerOf, IsMaybeRowUpTo, IsRegionOf, IsConfigOf}
 use Rattle.hx_types.specs.Subspaces.{is_key_region}
-use Rattle.hx_types.specs.Words.{text_below}
 use Rattle.hx_model.specs.Hearing.{hears_snap}
 use Rattle.hx_model.specs.ServerSteps.{Replica as ReplicaState, ServerState, ServerStep, Slots, context_of, installed_slots, keys_of, ready_post, replica_for, replica_of, saying, snapped, state_from, unmoved, with_replica, with_slots}
 use Rattle.hx_model.specs.Slots.{KeyState}
-use Rattle.hx_law_folds.specs.Folding.{KeptsAscend, folded, folded_replica, folded_server}
-use Rattle.hx_law_folds.proofs.Lemmas.{with-replica-folded}
+use Rattle.hx_law_folds.specs.Folding.{folded, folded_replica, folded_server}
+use Rattle.hx_law_folds.proofs.Lemmas.{with-replica-folded, keys-pass}
 use Rattle.hx_slot.specs.States.{IsOrderly, IsRowUpTo}
 use Rattle.hx_store.specs.Stores.{StoreState}
 use Rattle.hx_replica.specs.declared.prepared.Change.TheVariants as a_change
@@ -32,16 +31,6 @@ use Rattle.hx_replica.proofs.Hearing.{found_region, replica_for_found}
 use Rattle.hx_replica.proofs.Joined.{from_marked, joined_marked}
 use Rattle.hx_replica.proofs.Planning.{found_there}
 
-all_pass : (test : List ℕ → Bool) (ks : List Kept) → list_all test (map (λ (k : Kept). k.key) ks) ≡ true → AllByRecursion (λ (k : Kept). test k.key ≡ true) ks
-all_pass test [] e = tt
-all_pass test (k ∷ ks) e = let p = and_parts (test k.key) (list_all test (map (λ (x : Kept). x.key) ks)) e in (p.0, all_pass test ks p.1)
-
-kepts_ascend : (ks : List Kept) → keys_ascend (map (λ (k : Kept). k.key) ks) ≡ true → KeptsAscend ks
-kepts_ascend [] e = tt
-kepts_ascend (k ∷ ks) e =
-    let p = and_parts (list_all (text_below k.key) (map (λ (x : Kept). x.key) ks)) (keys_ascend (map (λ (x : Kept). x.key) ks)) e in
-    (all_pass (text_below k.key) ks p.0, kepts_ascend ks p.1)
-
 row_up_to : (space : Space) (floor : ℕ) (o : Option Row) → IsMaybeRowUpTo space floor o → IsRowUpTo floor o
 row_up_to space floor None h = tt
 row_up_to space floor (Some r) h = h.1
@@ -57,7 +46,7 @@ orderly_kept b k h = record {
 
 sound_snapshot : (b : Bounds) (epoch : Epoch) (g : RegionId) (snapshot : List Kept) (pending : List Update) → IsSoundMessage b (a_message.Snap epoch g snapshot pending) → IsSnapshot g snapshot pending
 sound_snapshot b epoch g snapshot pending h = record {
-  ascend = kepts_ascend snapshot h.3;
+  ascend = keys-pass snapshot h.3;
   orderly = All-weaker (IsSoundKept b) IsOrderly (orderly_kept b) snapshot h.2;
   coming = All-weaker (λ (u : Update). IsSoundUpdate b u × IsTrue (has_place_in g u.places)) (CanCome g)
       (λ (u : Update) (p : IsSoundUpdate b u × IsTrue (has_place_in g u.places)). record { placed = placed g u.places p.1; few = p.0.of_space.few; after = p.0.of_space.after }) pending h.4;

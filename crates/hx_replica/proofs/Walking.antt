@@ -1,6 +1,6 @@
 -- The slots of a store one after another, and those that are made of them.
-use Rattle.std.proofs.Common.{◌≡◌, ℕ, zero, suc, ◌+◌, ◌<◌, true, false, List, [], ◌∷◌, ◌++◌, drop, take, length, None, Some, add-one, ap, sym, ◌∙◌, append_assoc, append-nil, subst, arith}
-use Rattle.std.specs.List.{AllByRecursion, flat_map, slice_get}
+use Rattle.std.proofs.Common.{◌≡◌, ℕ, zero, suc, ◌+◌, ◌<◌, true, false, List, [], ◌∷◌, ◌++◌, drop, take, length, None, Some, add-one, ap, sym, ◌∙◌, append_assoc, append-nil, arith}
+use Rattle.std.specs.List.{flat_map, slice_get}
 use Rattle.std.proofs.lemmas.Bool.{false_from_ne_true, false≢true}
 use Rattle.std.proofs.lemmas.Grind.{flat_map-append}
 use Rattle.std.proofs.lemmas.Option.{same_Some}
@@ -39,8 +39,3 @@ not_above a b e = false_from_ne_true (text_below b a) (λ f. not_below_itself a 
 
 pub lower_differs : (a b : List ℕ) → text_below a b ≡ true → same_text a b ≡ false
 lower_differs a b e = false_from_ne_true (same_text a b) (λ s. not_below_itself a (ap (text_below a) (eq_of_same_text a b s) ∙ e))
-
-pub each_at : {A : Type 0} (P : A → Type 0) (xs : List A) (i : ℕ) (x : A) → AllByRecursion P xs → slice_get xs i ≡ Some x → P x
-each_at P [] i x h e = absurd cc
-each_at P (y ∷ ys) zero x h e = subst P (same_Some y x e) h.0
-each_at P (y ∷ ys) (suc i) x h e = each_at P ys i x h.1 e

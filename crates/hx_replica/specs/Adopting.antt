@@ -5,12 +5,12 @@ use Rattle.hx_model.specs.Types.{Config, Post, RegionId, Space, Update, Version}
 use Rattle.hx_types.specs.Configs.{leads}
 use Rattle.hx_types.specs.Words.{provided, when_some}
 use Rattle.hx_model.specs.Leading.{StuckAt, stuck_among}
-use Rattle.hx_model.specs.ServerSteps.{Replica as ReplicaState, ServerState, SlotContext as ModelContext, doubt_in, tail_acks, is_active, listed_regions, move_posts, passed_on, ready_post, replica_or_new, resumed, resumed_posts, snap_posts, context_of}
+use Rattle.hx_model.specs.ServerSteps.{Replica as ReplicaState, ServerState, SlotContext as ModelContext, doubt_in, tail_acks, is_active, listed_regions, move_posts, passed_on, replica_or_new, resumed, context_of}
 use Rattle.hx_model.specs.Slots.{Forget, KeyState, is_pending, moved, moved_all, pending_of}
 use Rattle.hx_law_folds.specs.Folding.{folded}
 use Rattle.hx_store.specs.Stores.{ArePending, acknowledging}
 use Rattle.hx_replica.specs.Outputs.{tail_version}
-use Rattle.hx_replica.specs.Ticking.{kept_here, standing}
+use Rattle.hx_replica.specs.Ticking.{standing}
 
 -- the caller of an update from a version on is told of a lost region
 abbrev pub doubt_of : ModelContext → Version → RegionId → Update → List Post
@@ -29,11 +29,6 @@ pub record IsCarriedOn (context : ModelContext) (s : KeyState) (old new : List P
   pub posts : new ≡ old ++ (flat_map (passed_on context) (pending_of s) ++ flat_map (move_posts context) (resumed context s))
   pub ends_are : acknowledging tail_versions ≡ tail_acks context (pending_of s)
   pub pending : ArePending s tail_versions
-
--- what a replica that goes on posts
-abbrev pub kept_posts : ModelContext → List KeyState → List Post
-kept_posts context states =
-    snap_posts (standing context.config context.server) (kept_here context.region states) ++ flat_map (resumed_posts context) states ++ ready_post (standing context.config context.server) context.region
 
 -- a slot when a configuration is adopted, without its past
 abbrev pub lean_adopted : ModelContext → Bool → KeyState → KeyState

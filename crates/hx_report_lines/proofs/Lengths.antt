@@ -9,7 +9,7 @@ use Rattle.std.specs.Str.{IsUtf8, bytes_eq, is_utf8}
 pub prefix_le : (p : ℕ → Bool) (bs : List ℕ) → prefix_len p bs ≤ length bs
 prefix_le p bs = omega (arith, length-prefix_len p bs, length-take (prefix_len p bs) bs)
 
-and_false : (b : Bool) → (b && false) ≡ false
+pub and_false : (b : Bool) → (b && false) ≡ false
 and_false true = refl
 and_false false = refl
 

@@ -23,10 +23,7 @@ use Rattle.hx_law_texts.proofs.Lemmas.{a_name, decimal_digits, text_says, IsClea
 use Rattle.hx_report_lines.specs.declared.cursor.Place.{Place}
 use Rattle.hx_report_lines.specs.declared.cursor.Place.TheVariants.{Outside, Inside, Escaped}
 use Rattle.hx_report_lines.specs.Readers.{is_outside, next_place, outside_from}
-
-and_off : (a : Bool) → (a && false) ≡ false
-and_off true = refl
-and_off false = refl
+use Rattle.hx_report_lines.proofs.Lengths.{and_false}
 
 not_so : (a : Bool) → not a ≡ true → a ≡ false
 not_so true h = absurd cc
@@ -53,7 +50,7 @@ one_line_of (b ∷ w) h =
 inside_step : (stop b : ℕ) (place : Place) (bs : List ℕ) → is_outside place ≡ false → outside_from stop place (b ∷ bs) ≡ suc (outside_from stop (next_place place b) bs)
 inside_step stop b place bs h =
     let more : ℕ = suc (outside_from stop (next_place place b) bs) in
-    ap (λ t. cond (eqb b stop && t) 0 more) h ∙ ap (λ t. cond t 0 more) (and_off (eqb b stop))
+    ap (λ t. cond (eqb b stop && t) 0 more) h ∙ ap (λ t. cond t 0 more) (and_false (eqb b stop))
 
 abbrev by_tests : Bool → Bool → Bool → Bool → ℕ → List ℕ
 by_tests p q r s b = cond p (codes "\\\"") (cond q (codes "\\\\") (cond r (codes "\\n") (cond s (codes "\\t") (b ∷ []))))

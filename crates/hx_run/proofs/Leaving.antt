@@ -15,7 +15,7 @@ use Rattle.hx_types.specs.declared.traces.Script.{Script}
 use Rattle.hx_types.specs.Words.{below, same_actor, IsIn}
 use Rattle.hx_clock.specs.Views.{total, Owns}
 use Rattle.hx_clock.proofs.Lemmas.{each_all, each_append, each_in, each_map, in_left, in_right}
-use Rattle.hx_law_threads.proofs.Lemmas.{in_map, in_permuted, of_below, of_map}
+use Rattle.hx_law_threads.proofs.Lemmas.{in_map, in_permuted, of_below, of_map, length-below}
 use Rattle.hx_mail.specs.declared.views.BoxNames.{BoxNames}
 use Rattle.hx_mail.specs.declared.views.Mailed.{Mailed}
 use Rattle.hx_mail.specs.declared.views.PortLists.{PortLists}
@@ -56,10 +56,6 @@ map-map g f (x ∷ xs) = ap (λ l. g (f x) ∷ l) (map-map g f xs)
 pub total-map : {A B : Type 0} (h : B → ℕ) (f : A → B) (xs : List A) → total h (map f xs) ≡ total (λ x. h (f x)) xs
 total-map h f [] = refl
 total-map h f (x ∷ xs) = omega (arith, total-map h f xs)
-
-pub length-below : (n : ℕ) → length (below n) ≡ n
-length-below zero = refl
-length-below (suc n) = omega (arith, length-append (below n) (n ∷ []), length-below n)
 
 in-below : (n k : ℕ) → k < n → IsIn k (below n)
 in-below zero k lt = absurd (omega (arith, lt))

@@ -9,7 +9,7 @@ use Rattle.hx_types.specs.Words.{below, IsIn}
 use Rattle.hx_model.specs.Runs.{entry_at}
 use Rattle.hx_clock.proofs.Lemmas.{each_all, each_in, get-front}
 use Rattle.hx_law_threads.specs.Cuts.{times_named}
-use Rattle.hx_law_threads.proofs.Lemmas.{reverse_snoc}
+use Rattle.hx_law_threads.proofs.Lemmas.{reverse_snoc, length-below}
 use Rattle.hx_mail.specs.declared.views.Mailed.{Mailed}
 use Rattle.hx_mail.specs.declared.views.PortLists.{PortLists}
 use Rattle.hx_outbox.specs.Places.{place_of}
@@ -22,7 +22,6 @@ use Rattle.hx_run.specs.Closed.{HasPut}
 use Rattle.hx_run.specs.Ran.{is_dealt, ArePostsFor, IsPostFor}
 use Rattle.hx_run.proofs.Counted.{AreDealtFrom}
 use Rattle.hx_run.proofs.Courses.{below-or-not, get-some}
-use Rattle.hx_run.proofs.Leaving.{length-below}
 use Rattle.hx_run.proofs.Zipped.{some-same}
 
 -- ---- items at their places

@@ -25,7 +25,7 @@ use Rattle.hx_law_threads.specs.Own.{own_entries, past_of, IsOwn}
 use Rattle.hx_law_threads.specs.Merged.{parts_in, ActorPart, AreOwnParts, AreWholeParts, IsMerged}
 use Rattle.hx_law_threads.specs.Laws.{IsRunOfParts}
 use Rattle.hx_law_threads.specs.Pacing.{IsPaced, IsPacedToEnd}
-use Rattle.hx_law_threads.proofs.Lemmas.{same_actor_is, in_append, in_permuted, in_map, in_reverse, of_map, reverse_cons, reverse_snoc, merged_run}
+use Rattle.hx_law_threads.proofs.Lemmas.{same_actor_is, in_append, in_permuted, in_map, in_reverse, of_map, reverse_cons, reverse_snoc, merged_run, count-own}
 use Rattle.hx_law_threads.specs.Feeding.{IsFed, IsFedBy}
 use Rattle.hx_mail.specs.declared.views.Sent.{Sent}
 use Rattle.hx_mail.specs.Boxes.{Boxed, Ported}
@@ -103,14 +103,6 @@ told-flat : (a : Actor) (part : List Stamped) → ((z : Stamped) → IsIn z part
 told-flat a [] h = refl
 told-flat a (x ∷ part) h =
     ap (λ b. told_by b x.entry.input ++ flat_map (λ (y : Entry). told_by a y.input) (map (λ (y : Stamped). y.entry) part)) (sym (h x (inl refl))) ∙ ap (λ l. told_by x.entry.actor x.entry.input ++ l) (told-flat a part (λ z i. h z (inr i)))
-
-count-own : (a : Actor) (xs : List Entry) → entries_of a xs ≡ length (own_entries a xs)
-count-own a [] = refl
-count-own a (x ∷ xs) = by (same_actor x.actor a) (count-own a xs)
-  where
-    by : (b : Bool) → entries_of a xs ≡ length (own_entries a xs) → cond b (entries_of a xs + 1) (entries_of a xs) ≡ length (cond b (x ∷ own_entries a xs) (own_entries a xs))
-    by true e = omega (arith, e)
-    by false e = e
 
 -- who is no actor of the script makes no entry
 no-others : (script : Script) (a : Actor) → is_actor script a ≡ false → (xs : List Entry) → IsRun script xs → entries_of a xs ≡ 0

@@ -113,14 +113,6 @@ module _ {D C : Type 0} where
       right [] vs k = k
       right (u ∷ us) vs k = inr (right us vs k)
 
-  pub flat-each : (f : D → List C) (P : C → Type 0) (xs : List D) → AllByRecursion P (flat_map f xs) → AllByRecursion (λ d. AllByRecursion P (f d)) xs
-  flat-each f P [] h = tt
-  flat-each f P (x ∷ xs) h = let r = parts (f x) (flat_map f xs) h in (r.0, flat-each f P xs r.1)
-    where
-      parts : (us vs : List C) → AllByRecursion P (us ++ vs) → AllByRecursion P us × AllByRecursion P vs
-      parts [] vs k = (tt, k)
-      parts (u ∷ us) vs k = let r = parts us vs k.1 in ((k.0, r.0), r.1)
-
   -- after a change at one place
   pub both-put-map : (f : D → C) (R : C → C → Type 0) → ((x : C) → R x x) → (xs : List D) (i : ℕ) (d y : D) → R (f (slice_index_or xs i d)) (f y) → Both R (map f xs) (map f (slice_set xs i y))
   both-put-map f R same [] i d y r = tt

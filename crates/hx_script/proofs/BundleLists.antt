@@ -75,7 +75,7 @@ placed_map f P R (x ∷ xs) h g (suc k) = placed_map f (λ j. P (suc j)) (λ j. 
 
 -- ---- turns
 
-self_test : (n : ℕ) (t : Bool) → eqb n n ≡ t → eqb n n ≡ true
+pub self_test : (n : ℕ) (t : Bool) → eqb n n ≡ t → eqb n n ≡ true
 self_test n true e = e
 self_test n false e = absurd (eqb-false n n e refl)
 

@@ -125,7 +125,7 @@ pub then_ok : {A B : Type 0} (r : Result A ScriptError) (f : A → Result B Scri
 then_ok (Ok x) f y e = (x, refl, e)
 then_ok (Err r) f y e = absurd cc
 
-number_ok : {A : Type 0} (n : ℕ) (r : Result A Reason) (x : A) → at_number n r ≡ Ok x → r ≡ Ok x
+pub number_ok : {A : Type 0} (n : ℕ) (r : Result A Reason) (x : A) → at_number n r ≡ Ok x → r ≡ Ok x
 number_ok n (Ok y) x e = ap Ok (good y x e)
   where
     good : {A : Type 0} (y x : A) → at_number n (Ok y) ≡ Ok x → y ≡ x

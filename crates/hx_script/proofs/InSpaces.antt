@@ -1,13 +1,7 @@
 -- Lines of one space among several, and all drafts together.
-use Rattle.std.proofs.Common.{◌≡◌, ℕ, zero, suc, ◌+◌, ◌<◌, ◌≤◌, List, [], ◌∷◌, length, map, get_or, set, Some, refl, sym, ap, ◌∙◌, arith, add-one}
-use Rattle.std.specs.Prelude.{slice_get}
+use Rattle.std.proofs.Common.{◌≡◌, ℕ, zero, suc, ◌+◌, ◌<◌, ◌≤◌, List, [], ◌∷◌, length, map, get_or, set, refl, sym, ap, ◌∙◌, arith, add-one}
 use Rattle.hx_script.specs.declared.draft.Draft.{Draft}
 use Rattle.hx_script.specs.BundleGrammar.{with_session}
-
-pub get_index : {A : Type 0} (xs : List A) (k : ℕ) (x : A) → k < length xs → x ≡ get_or xs k x → slice_get xs k ≡ Some x
-get_index [] k x h e = absurd (omega arith)
-get_index (y ∷ ys) zero x h e = ap (λ z. Some z) (sym e)
-get_index (y ∷ ys) (suc k) x h e = get_index ys k x (omega arith) e
 
 -- one more session in the first drafts
 abbrev pub begun : ℕ → List Draft → List Draft

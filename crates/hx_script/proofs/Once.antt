@@ -7,6 +7,7 @@ use Rattle.std.proofs.lemmas.Bool.{eqb-false, false≢true}
 use Rattle.std.proofs.lemmas.List.{map-append}
 use Rattle.std.proofs.lemmas.List.Elements.{All-nil, All-cons, All-head, All-tail, All-push}
 use Rattle.hx_types.specs.Spaces.{AllDiffer, NamesDiffer}
+use Rattle.hx_script.proofs.BundleLists.{self_test}
 
 pub or_left : (a b : Bool) → (a || b) ≡ false → a ≡ false
 or_left true b e = absurd cc
@@ -31,10 +32,6 @@ none_differ f (x ∷ xs) n e = All-cons (λ m. n ≢ m) (f x) (map f xs) (λ sam
 -- one more, with a number that none has
 pub once_more : {A : Type 0} (f : A → ℕ) (xs : List A) (x : A) → AllDiffer (map f xs) → list_any (λ y. f y == f x) xs ≡ false → AllDiffer (map f (xs ++ x ∷ []))
 once_more f xs x d e = rw (map-append f xs (x ∷ [])) (differ_push (map f xs) (f x) d (none_differ f xs (f x) e))
-
-self_test : (n : ℕ) (t : Bool) → eqb n n ≡ t → eqb n n ≡ true
-self_test n true e = e
-self_test n false e = absurd (eqb-false n n e refl)
 
 pub bytes_same : (a : List ℕ) → bytes_eq a a ≡ true
 bytes_same [] = refl

@@ -51,17 +51,6 @@ module _ (script plan : Script) (g : GrowsTo script plan) (u : SessionId) where
   pub none-left : call_of plan (next_caller script u) ≡ None → calls_of script u ≡ calls_of plan u
   none-left e = let q = none-first rest (sym next-is ∙ e) in sym (append-nil (calls_of script u)) ∙ ap (λ (l : List Op). calls_of script u ++ l) (sym q) ∙ (g.calls u).1
 
-  -- and where all were submitted there is none
-  pub left-none : calls_of script u ≡ calls_of plan u → call_of plan (next_caller script u) ≡ None
-  left-none e =
-      let l : length (calls_of script u) + length rest ≡ length (calls_of plan u) = sym (length-append (calls_of script u) rest) ∙ ap length (g.calls u).1 in
-      let m : length (calls_of script u) ≡ length (calls_of plan u) = ap length e in
-      next-is ∙ by rest (omega (arith, l, m))
-    where
-      by : (r : List Op) → length r ≡ 0 → slice_get r 0 ≡ None
-      by [] z = refl
-      by (x ∷ r) z = absurd (omega (arith, z))
-
   module _ (op : Op) (actor : is_actor script (Session u) ≡ true) (planned : call_of plan (next_caller script u) ≡ Some op) where
     -- with it the script still grows to the plan
     pub grows-on : GrowsTo (with_call_of script u op) plan

@@ -2,7 +2,7 @@
 use Rattle.std.proofs.Common.{◌≡◌, ℕ, ◌+◌, ◌<◌, ◌≤◌, inl, true, List, [], ◌∷◌, ◌++◌, length, map, cond, None, Ok, Err, refl, sym, ap, ◌∙◌, subst, arith}
 use Rattle.std.specs.Prelude.{IfErr, IfOk, Result}
 use Rattle.std.specs.List.{All}
-use Rattle.std.proofs.lemmas.List.{append-nil, append_assoc, length-append}
+use Rattle.std.proofs.lemmas.List.{append_assoc, length-append}
 use Rattle.hx_model.specs.Types.{Answer, Assign, Op, Row, Search, Session, SessionId, Space, Term}
 use Rattle.hx_types.specs.declared.calls.Answer.TheVariants as an_answer
 use Rattle.hx_types.specs.declared.limits.TheConstants.{MOST_CALLS}
@@ -113,27 +113,6 @@ module _ (old : ServiceState) (u : SessionId) (sets : List Assign) where
       let d = up.put.counts.done in
       let l = up.put.counts.left in
       omega (arith, few, long, all, d, l)
-
-  -- all rows
-  pub at-last : (rows : List Row) (now : ServiceState) (g : Grouped) → IsUpTo old u sets rows [] now g → ArePut old u sets rows now g
-  at-last rows now g up = subst (λ (xs : List Row). ArePut old u sets xs now g) (sym (append-nil up.before) ∙ up.split) up.put
-
-  -- a put had no receipt
-  pub stopped-at : (rows rest after : List Row) (row : Row) (now new : ServiceState) (g : Grouped) (e : ServiceError) → IsUpTo old u sets rows rest now g → rest ≡ row ∷ after
-      → FailsAt now u (put_of sets row) new e → Grows now new → StopPutting old u sets rows new e
-  stopped-at rows rest after row now new g e here q fails grows =
-      let up = subst (λ (xs : List Row). IsUpTo old u sets rows xs now g) q here in
-      record {
-        before = up.before;
-        row = row;
-        behind = after;
-        rows_are = up.split;
-        puts = up.put.puts;
-        mid = now;
-        made = up.put.made;
-        fails = fails;
-        grows = grows;
-      }
 
   module _ (terms : List Term) where
     -- the search has no receipt

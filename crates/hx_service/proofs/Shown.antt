@@ -1,7 +1,6 @@
 -- The rows of a finished search are of the space: each is a change that stands in its key's history.
 use Rattle.std.proofs.Common.{◌≡◌, ℕ, zero, suc, inl, inr, List, [], ◌∷◌, Some, refl, sym, ap, subst}
 use Rattle.std.specs.List.{All}
-use Rattle.std.proofs.lemmas.List.Elements.{All-cons, All-nil}
 use Rattle.hx_types.specs.declared.calls.Answer.TheVariants as an_answer
 use Rattle.hx_model.specs.Types.{Caller, Entry, Item, Op, Row, Script, Search, Space, Term}
 use Rattle.hx_types.specs.Fitting.{IsScript, call_of, numbered}
@@ -10,7 +9,7 @@ use Rattle.hx_types.specs.Words.{IsIn}
 use Rattle.hx_model.specs.Histories.{history_of}
 use Rattle.hx_model.specs.Legal.{IsLegal, object_now}
 use Rattle.hx_model.specs.Searching.{FinishedSearch, IsTrueRow, ItemWithNewer, items_with_newer, search_of}
-use Rattle.hx_law_lemmas.proofs.Lemmas.{all-in, in-slice_get, when_some_both, effect-sound, fits-key}
+use Rattle.hx_law_lemmas.proofs.Lemmas.{all-in, in-slice_get, when_some_both, effect-sound, fits-key, all-of}
 use Rattle.hx_service.specs.declared.receipts.Receipt.{Receipt}
 use Rattle.hx_service.specs.Lawful.{IsLawful}
 use Rattle.hx_service.specs.Receipts.{IsReceiptOf}
@@ -49,11 +48,6 @@ call-fits script valid c op =
     numbered-in : {A : Type 0} (xs : List A) (n : ℕ) (x : A) → numbered xs n ≡ Some x → IsIn x xs
     numbered-in xs zero x e = absurd (cc)
     numbered-in xs (suc k) x e = in-slice_get xs k x e
-
--- what holds of each item holds of all
-all-of : {A : Type 0} (P : A → Type 0) (xs : List A) → ((x : A) → IsIn x xs → P x) → All P xs
-all-of P [] f = All-nil P
-all-of P (x ∷ xs) f = All-cons P x xs (f x (inl refl)) (all-of P xs (λ y i. f y (inr i)))
 
 module _ (script : Script) (valid : IsScript script) (trace : List Entry) (lawful : IsLawful script trace) where
   -- a row that is true is of the space

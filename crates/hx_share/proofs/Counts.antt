@@ -1,5 +1,5 @@
 -- How many calls a script has, and one that it grows to.
-use Rattle.std.proofs.Common.{◌≡◌, refl, ℕ, zero, suc, ◌+◌, ◌-◌, ◌<◌, ◌≤◌, List, [], ◌∷◌, length, ap, subst, ◌∙◌, arith, get_or, slice_get, sum_by}
+use Rattle.std.proofs.Common.{◌≡◌, refl, ℕ, zero, suc, ◌+◌, ◌-◌, ◌<◌, ◌≤◌, List, [], ◌∷◌, length, ap, subst, ◌∙◌, arith, get_or, sum_by}
 use Rattle.std.proofs.lemmas.List.{length-append}
 use Rattle.std.proofs.lemmas.List.Sums.{sum_by-cons}
 use mathlib.Core.List.{IsPrefix}
@@ -9,13 +9,8 @@ use Rattle.hx_types.specs.declared.traces.Script.{Script}
 use Rattle.hx_types.specs.Fitting.{calls_of, numbered}
 use Rattle.hx_types.specs.Words.{when_some}
 use Rattle.hx_law_growing.specs.Growing.{GrowsTo, calls_in}
+use Rattle.hx_law_growing.proofs.Lemmas.{get-or}
 use Rattle.hx_service.specs.Services.{ServiceState}
-
--- the length of an item, or of another where the list ends before its place
-get-or : {A : Type 0} (xs : List A) (i : ℕ) (none : A) → when_some (slice_get xs i) none (λ (x : A). x) ≡ get_or xs i none
-get-or [] i none = refl
-get-or (x ∷ xs) zero none = refl
-get-or (x ∷ xs) (suc i) none = get-or xs i none
 
 prefix-length : {A : Type 0} (xs ys : List A) → IsPrefix xs ys → length xs ≤ length ys
 prefix-length xs ys (rest, e) = let n = length-append xs rest in let m = ap (λ l. length l) e in omega (arith, n, m)

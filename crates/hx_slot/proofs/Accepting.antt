@@ -1,5 +1,5 @@
 -- A slot that accepts or holds an update.
-use Rattle.std.proofs.Common.{◌≡◌, ℕ, zero, suc, ◌+◌, ◌<◌, ◌≤◌, Bool, true, false, not, List, [], ◌∷◌, ◌++◌, Vec, length, drop, get_or, vec_capacity, vec_len, refl, ap, sym, ◌∙◌, subst, arith, cond, eqb, inl, inr}
+use Rattle.std.proofs.Common.{◌≡◌, ℕ, zero, suc, ◌+◌, ◌<◌, ◌≤◌, true, false, not, List, [], ◌∷◌, ◌++◌, Vec, length, drop, get_or, vec_capacity, vec_len, refl, ap, sym, ◌∙◌, subst, arith, cond, eqb, inl, inr}
 use Rattle.std.specs.List.{AllByRecursion, filter, list_any, remove}
 use Rattle.std.specs.declared.alloc.Global.{Global}
 use Rattle.std.proofs.lemmas.Bool.{cond_both, cond-false, cond-true, eq-eqb, eqb-true, false_from_ne_true, false≢true, or_cases, or_left}
@@ -20,11 +20,6 @@ use Rattle.hx_slot.proofs.Newest.{last_version-above, newest_first-append, pendi
 pub by_recursion-push : {A : Type 0} (P : A → Type 0) (xs : List A) (x : A) → AllByRecursion P xs → P x → AllByRecursion P (xs ++ x ∷ [])
 by_recursion-push P [] x h p = (p, tt)
 by_recursion-push P (y ∷ xs) x h p = (h.0, by_recursion-push P xs x h.1 p)
-
-pub by_recursion-filter : {A : Type 0} (P : A → Type 0) (test : A → Bool) (xs : List A) → AllByRecursion P xs → AllByRecursion P (filter test xs)
-by_recursion-filter P test [] h = tt
-by_recursion-filter P test (x ∷ xs) h =
-    cond_both (test x) (x ∷ filter test xs) (filter test xs) (AllByRecursion P) (λ e. (h.0, by_recursion-filter P test xs h.1)) (λ e. by_recursion-filter P test xs h.1)
 
 Ascends-push : (v : ℕ) (ts : List AcceptedUpdate) (t : AcceptedUpdate) → Ascends v ts → last_version v ts < t.update.version.0 → Ascends v (ts ++ t ∷ [])
 Ascends-push v [] t h l = (l, tt)

@@ -10,10 +10,11 @@ use Rattle.hx_model.specs.Slots.{Commit, KeyState, Move, commits, moved_all}
 use Rattle.hx_slot.specs.declared.updates.AcceptedUpdate.{AcceptedUpdate}
 use Rattle.hx_slot.specs.Acks.{AreAcked, AreSameUpdates, front_acked, front_with, is_acknowledged_as, is_of_version}
 use Rattle.hx_slot.specs.Updates.{Ascends, last_version}
-use Rattle.hx_slot.proofs.Accepting.{by_recursion-filter, not_in}
+use Rattle.hx_slot.proofs.Accepting.{not_in}
 use Rattle.hx_slot.proofs.Newest.{Ascends-append, by_recursion-drop, last_version-above, update_of}
 use Rattle.hx_slot.proofs.SameUpdates.{same-set}
 use Rattle.hx_slot.proofs.Turns.{no-place}
+use Rattle.hx_law_folds.proofs.Lemmas.{all-filter}
 
 abbrev pub is_acked : List ℕ → ℕ → Bool
 is_acked acked v = list_any (λ w. eqb w v) acked
@@ -252,15 +253,9 @@ acked-set base acked ts i t h l e a =
       marked = marked-set base acked ts i t h l e a.marked;
       known = (
         same-any t.update.version.0 ts (set ts i (record t { acknowledged = true })) same ∙ list_any_at (is_of_version t.update.version.0) ts i t l (eq-eqb (get_or ts i t).update.version.0 t.update.version.0 (ap (λ (y : AcceptedUpdate). y.update.version.0) (sym e))),
-        known-same ts (set ts i (record t { acknowledged = true })) (filter (λ w. not (eqb w t.update.version.0)) acked) same (by_recursion-filter (λ w. list_any (is_of_version w) ts ≡ true) (λ w. not (eqb w t.update.version.0)) acked a.known),
+        known-same ts (set ts i (record t { acknowledged = true })) (filter (λ w. not (eqb w t.update.version.0)) acked) same (all-filter (λ w. list_any (is_of_version w) ts ≡ true) (λ w. not (eqb w t.update.version.0)) acked a.known),
       );
     }
-
--- the mark of an update at a place
-pub marked-at : (acked : List ℕ) (ts : List AcceptedUpdate) (i : ℕ) (t : AcceptedUpdate) → i < length ts → t ≡ get_or ts i t → AllByRecursion (IsMarked acked) ts → IsMarked acked t
-marked-at acked [] i t l e m = absurd (omega arith)
-marked-at acked (x ∷ rest) zero t l e m = subst (IsMarked acked) (sym e) m.0
-marked-at acked (x ∷ rest) (suc i) t l e m = marked-at acked rest i t (omega arith) e m.1
 
 -- nothing is acknowledged
 pub acked-none : (ts : List AcceptedUpdate) → AllByRecursion (λ (t : AcceptedUpdate). t.acknowledged ≡ false) ts → AreAcked [] ts

@@ -22,8 +22,7 @@ use Rattle.hx_slot.specs.Acks.{AreSameUpdates, front_acked, front_with, is_of_ve
 use Rattle.hx_slot.specs.Updates.{Ascends, last_version, newest_first, row_over}
 use Rattle.hx_slot.specs.Invariant.{IsSlot, pending_in, seen, whole}
 use Rattle.hx_slot.specs.States.{IsOrderly, call_at}
-use Rattle.hx_slot.specs.Bases.{IsCopied, IsWidened}
-use Rattle.hx_slot.specs.Rooms.{IsGrown}
+use Rattle.hx_slot.specs.Bases.{IsCopied}
 use Rattle.hx_slot.specs.MarksAndTouches.{marks_over, newer_of, newest_over, touched_over, touches_over}
 use Rattle.hx_slot.proofs.Accepting as accepting
 use Rattle.hx_slot.proofs.Acking.{with_ack}
@@ -32,7 +31,6 @@ use Rattle.hx_slot.proofs.Newer.{mark_among-upto, marks_after-upto}
 use Rattle.hx_slot.proofs.Newest.{floor-top, top_above-newest_first, update_of, upto-line}
 use Rattle.hx_slot.proofs.Reading as reading
 use Rattle.hx_slot.proofs.Regions.{TouchesUpTo, UpdatesUpTo, touched-upto, touches_after-upto}
-use Rattle.hx_slot.proofs.Refitting as refitting
 use Rattle.hx_slot.proofs.Renewed as renewing
 use Rattle.hx_slot.proofs.Settling as settling
 use Rattle.hx_slot.proofs.Turns.{later-held}
@@ -176,11 +174,6 @@ pub renewed-state : (a : Inside) (key : List ℕ) (base : Base) (accepted : Vec 
     → AreSameUpdates a.accepted.items accepted.items → acked.versions ≡ [] → early.items ≡ []
     → (seen (record a { key = key; base = base; accepted = accepted; acked = acked; early = early; spare = 0 })).state ≡ moved Forget (seen a).state
 renewed-state a key base accepted acked early same_key copied same none_acked none_early = ap (folded a.region) (renewing.renewed-state a key base accepted acked early same_key copied same none_acked none_early)
-
-pub refitted-state : (a : Inside) (accepted : Vec AcceptedUpdate Global) (early : Vec PlacedUpdate Global) (base : Base) (spare : ℕ)
-    → IsGrown a.accepted accepted → IsGrown a.early early → IsWidened a.base base
-    → (seen (record a { accepted = accepted; early = early; base = base; spare = spare })).state ≡ (seen a).state
-refitted-state a accepted early base spare more held wider = ap (folded a.region) (refitting.refitted-state a accepted early base spare more held wider)
 
 -- a taken update above the floor stays above it
 take-folded : (g : RegionId) (s : KeyState) (u : Update) → s.floor < u.version.0 → folded g (moved (Take u) s) ≡ moved (Take u) (folded g s)

@@ -11,7 +11,6 @@ pub mod Reading
 pub mod Turns
 pub mod Offering
 pub mod Carrying
-pub mod Orderly
 pub mod Renewed
 pub mod Lean
 pub mod Standing

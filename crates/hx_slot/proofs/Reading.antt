@@ -1,10 +1,9 @@
 -- What a slot is read by gives the folds of its state.
 use Rattle.std.proofs.Common.{◌≡◌, ℕ, ◌-◌, ◌<◌, ◌≤◌, [], map, take, length, Option, Some, None, ap, sym, ◌∙◌, arith}
-use Rattle.std.specs.List.{All, AllByRecursion}
+use Rattle.std.specs.List.{AllByRecursion}
 use Rattle.std.specs.Option.{IfSome}
 use Rattle.std.proofs.lemmas.List.{length-drop, length-map}
-use Rattle.std.proofs.lemmas.List.Elements.{All-from_recursion, All-weaker, recursion_from_All}
-use Rattle.hx_model.specs.Types.{Answer, Mark, RegionId, SessionId, Touch, Update, Version}
+use Rattle.hx_model.specs.Types.{Answer, Mark, RegionId, SessionId, Update, Version}
 use Rattle.hx_model.specs.Places.{touched_in}
 use Rattle.hx_model.specs.Slots.{kept_row, latest_of, mark_among, mark_of, object_in, object_of, pending_of, top_of, touches_of}
 use Rattle.hx_slot.specs.declared.slots.Slot.TheInside.{Inside}
@@ -13,9 +12,9 @@ use Rattle.hx_slot.specs.declared.updates.AcceptedUpdate.{AcceptedUpdate}
 use Rattle.hx_slot.specs.Invariant.{IsSlot, pending_in, whole}
 use Rattle.hx_slot.specs.States.{HasFewPlaces, IsPlacedIn, call_at}
 use Rattle.hx_slot.specs.MarksAndTouches.{newer_of, newest_over, touched_over}
-use Rattle.hx_slot.proofs.Newer.{mark-over, mark_among-upto, marks_after-upto, newest-marks}
-use Rattle.hx_slot.proofs.Newest.{by_recursion-drop, by_recursion-take, few-placed, kept_row-newest_first, last_version-above, newest_first-upto, pending-ascends, pending-between, pending-line, placed-within, top-pending, top_above-newest_first, update_of, upto-line}
-use Rattle.hx_slot.proofs.Regions.{UpdatesUpTo, touched-over, touched-upto, touches_after-upto}
+use Rattle.hx_slot.proofs.Newer.{mark-over, newest-marks}
+use Rattle.hx_slot.proofs.Newest.{by_recursion-drop, by_recursion-take, few-placed, kept_row-newest_first, newest_first-upto, pending-ascends, pending-between, pending-line, placed-within, top-pending, top_above-newest_first, update_of, upto-line}
+use Rattle.hx_slot.proofs.Regions.{UpdatesUpTo, touched-over}
 
 pub top-seen : (a : Inside) → last_version a.base.floor.0 a.accepted.items ≡ top_of (whole a).state
 top-seen a = sym (top_above-newest_first a.base.floor.0 [] a.accepted.items)
@@ -55,25 +54,8 @@ pub updates-upto : (a : Inside) → IsSlot a → UpdatesUpTo (top_of (whole a).s
 updates-upto a h =
     let e = top-seen a in newest_first-upto (top_of (whole a).state) [] a.accepted.items a.base.floor.0 tt h.line.ascends (omega (arith, e))
 
-base-upto : (a : Inside) → IsSlot a → a.base.floor.0 ≤ top_of (whole a).state
-base-upto a h = let e = top-seen a in let b = last_version-above a.base.floor.0 a.accepted.items h.line.ascends in omega (arith, e, b)
-
 pub touched-seen : (a : Inside) (g : RegionId) → touched_over g (touched_in g a.base.touches.items) a.accepted.items ≡ touched_in g (touches_of (whole a).state)
 touched-seen a g = touched-over g a.base.touches.items [] a.accepted.items
-
--- no touch is above the top
-touches-upto : (a : Inside) → IsSlot a → AllByRecursion (λ (t : Touch). t.version.0 ≤ top_of (whole a).state) (touches_of (whole a).state)
-touches-upto a h =
-    let b = base-upto a h in
-    touches_after-upto (top_of (whole a).state) a.base.touches.items (newest_first [] a.accepted.items)
-    (recursion_from_All (λ (t : Touch). t.version.0 ≤ top_of (whole a).state) a.base.touches.items (All-weaker (λ (t : Touch). t.version.0 ≤ a.base.floor.0) (λ (t : Touch). t.version.0 ≤ top_of (whole a).state) (λ t l. omega (arith, b)) a.base.touches.items h.base.touches))
-    (updates-upto a h)
-
-pub touches-below : (a : Inside) → IsSlot a → All (λ (t : Touch). t.version.0 ≤ top_of (whole a).state) (touches_of (whole a).state)
-touches-below a h = All-from_recursion (λ (t : Touch). t.version.0 ≤ top_of (whole a).state) (touches_of (whole a).state) (touches-upto a h)
-
-pub touched-below : (a : Inside) → IsSlot a → (g : RegionId) → touched_in g (touches_of (whole a).state) ≤ top_of (whole a).state
-touched-below a h g = touched-upto (top_of (whole a).state) g (touches_of (whole a).state) (touches-upto a h)
 
 pub mark-seen : (a : Inside) → IsSlot a → (session : SessionId) → newer_of (newest_over session None a.accepted.items) (mark_among session a.base.marks.items) ≡ mark_of session (whole a).state
 mark-seen a h session =
@@ -83,16 +65,3 @@ mark-seen a h session =
 pub if_call : (v : ℕ) (o : Option Mark) → IfSome o (λ (m : Mark). m.version.0 ≤ v) → IfSome (call_at o) (λ (c : ℕ × Version × Answer). c.1.0 ≤ v)
 if_call v None h = tt
 if_call v (Some m) h = h
-
-pub mark-below : (a : Inside) → IsSlot a → (session : SessionId) → IfSome (call_at (mark_of session (whole a).state)) (λ (c : ℕ × Version × Answer). c.1.0 ≤ top_of (whole a).state)
-mark-below a h session =
-    let b = base-upto a h in
-    if_call (top_of (whole a).state) (mark_of session (whole a).state)
-    (
-    mark_among-upto (top_of (whole a).state) session _
-    (
-    marks_after-upto (top_of (whole a).state) a.base.marks.items (newest_first [] a.accepted.items)
-    (recursion_from_All (λ (m : Mark). m.version.0 ≤ top_of (whole a).state) a.base.marks.items (All-weaker (λ (m : Mark). m.version.0 ≤ a.base.floor.0) (λ (m : Mark). m.version.0 ≤ top_of (whole a).state) (λ m l. omega (arith, b)) a.base.marks.items h.base.marks))
-    (updates-upto a h)
-    )
-    )

@@ -8,10 +8,10 @@ use Rattle.hx_slot.specs.declared.updates.PlacedUpdate.{PlacedUpdate}
 use Rattle.hx_slot.specs.declared.updates.AcceptedUpdate.{AcceptedUpdate}
 use Rattle.hx_slot.specs.declared.slots.Slot.TheInside.{Inside}
 use Rattle.hx_slot.specs.declared.bases.Base.{Base}
-use Rattle.hx_slot.specs.Updates.{IsHeld, newest_first}
+use Rattle.hx_slot.specs.Updates.{IsHeld}
 use Rattle.hx_slot.specs.Acks.{AreAcked}
 use Rattle.hx_slot.specs.Bases.{IsCopied, IsWidened, kept_in}
-use Rattle.hx_slot.specs.Invariant.{HasRoom, IsLine, IsSlot, updates_of, whole}
+use Rattle.hx_slot.specs.Invariant.{HasRoom, IsLine, IsSlot}
 use Rattle.hx_slot.specs.Rooms.{IsGrown}
 use Rattle.hx_slot.specs.States.{IsOrderly}
 
@@ -46,12 +46,3 @@ refitted-slot a accepted early base spare h more held wider room =
       early = subst (AllByRecursion (IsHeld a.region)) (sym held.items) h.early;
       room = room;
     }
-
-pub refitted-state : (a : Inside) (accepted : Vec AcceptedUpdate Global) (early : Vec PlacedUpdate Global) (base : Base) (spare : ℕ)
-    → IsGrown a.accepted accepted → IsGrown a.early early → IsWidened a.base base
-    → (whole (record a { accepted = accepted; early = early; base = base; spare = spare })).state ≡ (whole a).state
-refitted-state a accepted early base spare more held wider =
-    let same = same-kept a.key a.base base (widened-copied a.base base wider) in
-    let line = more.items in
-    let waiting = held.items in
-    λ j. record { marks = a.keeps_marks; base = same j; accepted = newest_first [] (line j); floor = a.floor.0; acked = a.acked.versions; early = updates_of (waiting j) }

@@ -103,19 +103,6 @@ module _ (bundle : Bundle) (worlds new : List WorldState) (order held : List ℕ
   pub rested_kept : (begun : List ℕ) → IsKept (course_of bundle worlds order) begun → DeliversIn (map newest worlds) (map newest new) None → held ≡ order → IsKept (course_of bundle new held) begun
   rested_kept begun i d h = subst (λ (c : Course). IsKept c begun) (sym (same-course d.1 h)) i
 
-  pub rested_takes : DeliversIn (map newest worlds) (map newest new) None → held ≡ order → Takes (first_delivery_from 0 (map newest worlds)) (course_of bundle worlds order) (course_of bundle new held) false
-  rested_takes d h = record {
-    course = same-course d.1 h ∙ ap (λ (o : Option Turn). with_turn (course_of bundle worlds order) o) (sym d.0);
-    told = sym (ap (λ (o : Option Turn). is_some o) d.0);
-  }
-
-  -- where a call failed
-  pub failed_kept : (begun : List ℕ) → IsKept (course_of bundle worlds order) begun → new ≡ worlds → held ≡ order → IsKept (course_of bundle new held) begun
-  failed_kept begun i w h = subst (λ (c : Course). IsKept c begun) (sym (same-course (ap (λ (l : List WorldState). map newest l) w) h)) i
-
-  pub failed_same : new ≡ worlds → held ≡ order → course_of bundle new held ≡ course_of bundle worlds order
-  failed_same w h = same-course (ap (λ (l : List WorldState). map newest l) w) h
-
 -- ---- a session begins its next call
 
 module _ (bundle : Bundle) (worlds : List WorldState) (order begun : List ℕ) (i : IsKept (course_of bundle worlds order) begun) (place k : ℕ) where

@@ -1,17 +1,13 @@
 -- Drains: the entries that the schedule makes one after another.
-use Rattle.std.proofs.Common.{◌≡◌, ℕ, zero, suc, ◌+◌, ◌-◌, ◌≤◌, Bool, true, false, List, Option, Some, None, refl, sym, ap, ◌∙◌, subst, arith, add-one, add-zero}
-use Rattle.std.specs.Prelude.{is_some}
+use Rattle.std.proofs.Common.{◌≡◌, ℕ, zero, suc, ◌+◌, ◌-◌, ◌≤◌, Bool, true, false, List, Option, None, refl, sym, ap, ◌∙◌, subst, arith, add-one, add-zero}
 use Rattle.hx_types.specs.Words.{first_some}
 use Rattle.hx_world.specs.Worlds.{WorldState}
 use Rattle.hx_world.specs.declared.ends.DrainError.{DrainError}
 use Rattle.hx_world.specs.declared.ends.DrainError.TheVariants.{Memory, Worn}
 use Rattle.hx_world.specs.declared.ends.Drained.TheVariants.{Quiet}
+use Rattle.hx_world.proofs.Lemmas.{none_there}
 use Rattle.hx_spaces.specs.Courses.{Course, Turn, first_begin, first_delivery_from, next_turn, scheduled, with_turn}
 use Rattle.hx_spaces.specs.Draining.{Drains, FailsIn, IsWornTurn, Takes}
-
-none-there : {A : Type 0} (o : Option A) → is_some o ≡ false → o ≡ None
-none-there None e = refl
-none-there (Some x) e = cc
 
 pub scheduled_more : (c : Course) (n : ℕ) → scheduled c (n + 1) ≡ with_turn (scheduled c n) (next_turn (scheduled c n))
 scheduled_more c n = rw add-one refl
@@ -29,7 +25,7 @@ scheduled-stays c n (suc k) quiet =
 -- a turn that wasn't there
 pub stays_none : (turn : Option Turn) (old new : Course) → Takes turn old new false → (turn ≡ None) × (new ≡ old)
 stays_none turn old new t =
-    let none = none-there turn (sym t.told) in
+    let none = none_there turn (sym t.told) in
     (none, t.course ∙ ap (λ (o : Option Turn). with_turn old o) none)
 
 -- a drain that finds no next entry is quiet

@@ -5,12 +5,11 @@ use Rattle.std.proofs.lemmas.Bool.{cond_both, cond-false, cond-true, eq-eqb, lt-
 use Rattle.hx_model.specs.Types.{Kept, RegionId}
 use Rattle.hx_types.specs.Words.{same_text, text_below, when_some}
 use Rattle.hx_law_folds.specs.Folding.{KeysAscend}
-use Rattle.hx_law_folds.proofs.Lemmas.{below-differs}
+use Rattle.hx_law_folds.proofs.Lemmas.{below-differs, from-key}
 use Rattle.hx_model.proofs.Lemmas.{eq_of_same_text}
 use Rattle.hx_model.specs.ServerSteps.{state_from}
 use Rattle.hx_model.specs.Slots.{KeyState, kept_of, new_state, snapshot_of, state_among}
 use Rattle.hx_store.specs.Reading.{come_back}
-use Rattle.hx_store.proofs.Reading.{from-key}
 
 -- a key below all others has no slot
 absent : (marks : Bool) (key : List ℕ) (states : List KeyState) → AllByRecursion (λ (t : KeyState). text_below key t.base.key ≡ true) states → state_among marks key states ≡ new_state marks key

@@ -138,9 +138,6 @@ module _ (ks : List Key) (ss : List SlotState) (es : List Entry) (e : length ks 
   pub listed-seen : (i : ℕ) → is_listed es i ≡ when_some (slice_get ks i) false (λ (k : Key). k.1)
   listed-seen i = ap (λ (xs : List Entry). is_listed xs i) (sym view) ∙ listed-at ks ss i e
 
-  pub rows-seen : rows_in es ≡ kept_at ss
-  rows-seen = ap rows_in (sym view) ∙ rows-are ks ss e
-
   pub moved-seen : (i fall : ℕ) (step : RegionId → KeyState → KeyState) (new : List SlotState) → IsStepped i step fall ss new → HasMoved i step fall es (entries_of ks new)
   moved-seen i fall step new m = subst (λ (xs : List Entry). HasMoved i step fall xs (entries_of ks new)) view (moved-of ks i fall step ss new e m)
 

@@ -8,7 +8,7 @@ use Rattle.hx_model.specs.Types.{Row}
 use Rattle.hx_types.specs.Words.{when_some}
 use Rattle.hx_slot.specs.States.{SlotState}
 use Rattle.hx_index.specs.Orders.{IndexState, IsIndexOf, count_of, rows_at, rows_with, rows_without}
-use Rattle.hx_index.proofs.Lemmas.{set-elsewhere, set-here, set-length, same-orders, with-own}
+use Rattle.hx_index.proofs.Lemmas.{set-elsewhere, set-here, set-length, same-orders, with-own, within-at}
 use Rattle.hx_store.specs.Indexed.{AreIndexed, IndexedState, IsKept, IsKeptAs, IsOf, IsWider, is_marked, kept_at, marked_count, one_if, one_kept, row_count, times}
 
 -- the item at a place
@@ -42,11 +42,6 @@ count-set : (rows : List (Option Row)) (i : ℕ) (s w : Option Row) → slice_ge
 count-set [] i s w at = absurd cc
 count-set (x ∷ rows) zero s w at = let is : one_kept x ≡ one_kept s = ap one_kept (same_Some x s at) in omega (arith, is)
 count-set (x ∷ rows) (suc i) s w at = let more = count-set rows i s w at in omega (arith, more)
-
-within-of : {A : Type 0} (xs : List A) (i : ℕ) (x : A) → slice_get xs i ≡ Some x → i < length xs
-within-of [] i x e = absurd cc
-within-of (y ∷ ys) zero x e = omega arith
-within-of (y ∷ ys) (suc i) x e = let l = within-of ys i x e in omega (arith, l)
 
 abbrev flat : Option (Option Row) → Option Row
 flat o = when_some o None (λ (r : Option Row). r)
@@ -108,7 +103,7 @@ module _ (rows : List (Option Row)) (place : ℕ) (s : Option Row) (at : slice_g
     new = slice_set rows place w
 
     pub row-new : rows_at new place ≡ w
-    row-new = ap flat (set-here rows place w (within-of rows place s at))
+    row-new = ap flat (set-here rows place w (within-at rows place s at))
 
     pub row-other : (i : ℕ) → (i ≡ place → ⊥) → rows_at new i ≡ rows_at rows i
     row-other i n = ap flat (set-elsewhere rows place i w n)
@@ -171,7 +166,7 @@ none-marked (true ∷ marks) e i = absurd (omega (arith, e))
 none-marked (false ∷ marks) e zero = refl
 none-marked (false ∷ marks) e (suc i) = none-marked marks (omega (arith, e)) i
 
-times-end : (i : ℕ) (xs : List ℕ) (x : ℕ) → times i (xs ++ x ∷ []) ≡ times i xs + one_if (eqb x i)
+pub times-end : (i : ℕ) (xs : List ℕ) (x : ℕ) → times i (xs ++ x ∷ []) ≡ times i xs + one_if (eqb x i)
 times-end i [] x = omega arith
 times-end i (y ∷ xs) x = let more = times-end i xs x in omega (arith, more)
 
@@ -291,17 +286,6 @@ all-fresh slots x of n e = λ k i. at i k
       | inr l ↦ of.past i l ∙ sym (kept-past slots i (omega (arith, n, l)))
     ]
 
--- the mark of a place that has one, or of none, changes nothing
-pub marked-before : (marks : List Bool) (i : ℕ) → is_marked marks i ≡ true → slice_set marks i true ≡ marks
-marked-before [] i e = refl
-marked-before (m ∷ marks) zero e = ap (λ (b : Bool). b ∷ marks) (sym e)
-marked-before (m ∷ marks) (suc i) e = ap (λ (l : List Bool). m ∷ l) (marked-before marks i e)
-
-pub marked-past : (marks : List Bool) (i : ℕ) → length marks ≤ i → slice_set marks i true ≡ marks
-marked-past [] i l = refl
-marked-past (m ∷ marks) zero l = absurd (omega (arith, l))
-marked-past (m ∷ marks) (suc i) l = ap (λ (ms : List Bool). m ∷ ms) (marked-past marks i (omega (arith, l)))
-
 -- a place more, at which nothing is yet, and which is marked
 rows-end : (rows : List (Option Row)) (i : ℕ) → rows_at (rows ++ None ∷ []) i ≡ rows_at rows i
 rows-end [] zero = refl
@@ -341,37 +325,6 @@ wider old new rs ms = record {
       let here : i ≡ length old.stale = omega (arith, l, m, q, n) in
       ap (λ (x : List Bool). is_marked x i) ms ∙ ap (is_marked (old.stale ++ true ∷ [])) here ∙ marks-end old.stale;
   count = (let q = ap length ms in let l = length-end old.stale true in omega (arith, q, l));
-}
-
--- no place came
-pub no-wider : (x : IndexedState) → IsWider x x
-no-wider x = record {
-  rows = λ i. refl;
-  stale = λ i l. refl;
-  marked = λ i l m. absurd (omega (arith, l, m));
-  count = omega arith;
-}
-
--- some came, and then more
-pub wider-again : (a b c : IndexedState) → IsWider a b → IsWider b c → IsWider a c
-wider-again a b c one more = record {
-  rows = λ i. more.rows i ∙ one.rows i;
-  stale = λ i l. more.stale i (let n = one.count in omega (arith, l, n)) ∙ one.stale i l;
-  marked = λ i l m. elim (cases_lt i (length b.stale)) [
-    | inl n ↦ more.stale i n ∙ one.marked i l n
-    | inr n ↦ more.marked i n m
-  ];
-  count = (let m = one.count in let n = more.count in omega (arith, m, n));
-}
-
-pub wider-of : (slots : List SlotState) (old new : IndexedState) → IsOf slots old → IsWider old new → IsOf slots new
-wider-of slots old new of more = record {
-  few = of.few;
-  fresh = λ i l f. elim (cases_lt i (length old.stale)) [
-    | inl m ↦ more.rows i ∙ of.fresh i m (sym (more.stale i m) ∙ f)
-    | inr m ↦ absurd (false≢true (sym f ∙ more.marked i m l))
-  ];
-  past = λ i l. more.rows i ∙ of.past i (let n = more.count in omega (arith, l, n));
 }
 
 -- the index got room

@@ -9,10 +9,11 @@ use Rattle.hx_model.proofs.Lemmas.{eq_of_same_text, same_text_self}
 use Rattle.hx_model.specs.ServerSteps.{state_from}
 use Rattle.hx_model.specs.Slots.{KeyState, with_state}
 use Rattle.hx_law_folds.specs.Folding.{KeptsAscend, KeysAscend}
+use Rattle.hx_law_folds.proofs.Lemmas.{from-key}
 use Rattle.hx_slot.specs.States.{SlotState}
 use Rattle.hx_store.specs.Stores.{IsPlace, IsReady, KeepsOtherRooms, KeepsRooms, KeepsRoomsBut, Room, StoreState, has_kept, has_room, is_key_of, key_at, states_of}
 use Rattle.hx_store.proofs.Lists.{take_next}
-use Rattle.hx_store.proofs.Reading.{from-key, put-last}
+use Rattle.hx_store.proofs.Reading.{put-last}
 use Rattle.hx_store.proofs.Showing.{kept-others}
 
 -- a key that has a place keeps it

@@ -17,11 +17,6 @@ at-within [] i l = absurd (omega arith)
 at-within (x ∷ xs) zero l = (x, refl)
 at-within (x ∷ xs) (suc i) l = at-within xs i (omega arith)
 
-pub within-at : {A : Type 0} (xs : List A) (i : ℕ) (x : A) → slice_get xs i ≡ Some x → i < length xs
-within-at [] i x e = absurd cc
-within-at (y ∷ ys) zero x e = omega arith
-within-at (y ∷ ys) (suc i) x e = let l = within-at ys i x e in omega (arith, l)
-
 pub at-map : {A B : Type 0} (f : A → B) (xs : List A) (i : ℕ) (x : A) → slice_get xs i ≡ Some x → slice_get (map f xs) i ≡ Some (f x)
 at-map f [] i x e = absurd cc
 at-map f (y ∷ ys) zero x e = ap (λ z. Some (f z)) (same_Some y x e)

@@ -4,7 +4,7 @@ use Rattle.std.specs.List.{AllByRecursion, IsDistinct, filter, flat_map, slice_g
 use Rattle.std.specs.List.Sorted.{IsStrictlySortedBy}
 use Rattle.std.specs.declared.cmp.Ordering.TheVariants.{Less}
 use Rattle.std.proofs.lemmas.List.Kept.{IsStrictlySortedBy-filter}
-use Rattle.hx_index.proofs.Lemmas.{less-differs, slots-exact, slots-total}
+use Rattle.hx_index.proofs.Lemmas.{less-differs, slots-exact, slots-total, stands-filter, within-at}
 use Rattle.std.proofs.lemmas.Bool.{and_right, cond-false, cond-true, cond_both, eq-eqb, eqb-true, false≢true, false_from_ne_true, ltb-true, or_left, or_right}
 use Rattle.std.proofs.lemmas.List.Elements.{filter-append}
 use Rattle.std.proofs.lemmas.List.{length-append}
@@ -20,10 +20,10 @@ use Rattle.hx_index.specs.Sides.{matches_at}
 use Rattle.hx_store.specs.Invariant.{AscendAt, HasAll, IsStoreSlot, is_listed, state_in, states_in}
 use Rattle.hx_store.specs.Looks.{indexed_count, is_indexed, least_count, least_looks_at, meeting_count, most_looks_at}
 use Rattle.hx_store.specs.Slots.{Entry, rows_in}
-use Rattle.hx_store.proofs.Lists.{all-at, within-at}
+use Rattle.hx_store.proofs.Lists.{all-at}
 use Rattle.hx_store.proofs.Order.{listed-there}
 use Rattle.hx_store.specs.Indexed.{times}
-use Rattle.hx_store.proofs.Sorting.{ascend-times, distinct-times, filter-ascends, same-list, same-numbers, stands-filter}
+use Rattle.hx_store.proofs.Sorting.{ascend-times, distinct-times, filter-ascends, same-list, same-numbers}
 
 second : (a b : Bool) → (a && b) ≡ true → b ≡ true
 second true b e = e
@@ -216,9 +216,3 @@ module _ (g : RegionId) (marks : Bool) (es : List Entry) (each : AllByRecursion 
               let more = ap (λ n. 2 * n * digits_of (count_of index_state)) (counted-none e terms) in
               omega (arith, least, count, more)
           by (suc n) e = (let same = looks-same terms (omega (arith, e)) in omega (arith, same))
-
--- what matches is there
-pub match-within : (es : List Entry) (terms : List Term) (i : ℕ) → matches_at (rows_in es) terms i ≡ true → i < length es
-match-within [] terms i e = absurd (false≢true e)
-match-within (x ∷ es) terms zero e = omega arith
-match-within (x ∷ es) terms (suc i) e = let l = match-within es terms i e in omega (arith, l)

@@ -3,6 +3,7 @@ use Rattle.std.proofs.Common.{◌≡◌, ℕ, List, [], ◌∷◌, ◌++◌, ref
 use Rattle.hx_model.specs.Types.{Kept, RegionId, Update, Version}
 use Rattle.hx_law_folds.specs.Folding.{folded}
 use Rattle.hx_model.specs.Slots.{Acknowledge, Commit, Forget, Hold, KeyState, Move, Take, moved, moved_all, offered, settled}
+use Rattle.hx_model.proofs.Lemmas.{moved_all-++}
 use Rattle.hx_store.specs.Stores.{accepted, acknowledging}
 
 pub moved_parts : (m : Move) (s : KeyState) → ((moved m s).base ≡ s.base) × ((moved m s).marks ≡ s.marks)
@@ -18,10 +19,6 @@ moved_all_parts (m ∷ ms) s =
     let rest = moved_all_parts ms (moved m s) in
     let first = moved_parts m s in (rest.0 ∙ first.0, rest.1 ∙ first.1)
 
-pub moved_all_append : (ms ns : List Move) (s : KeyState) → moved_all (ms ++ ns) s ≡ moved_all ns (moved_all ms s)
-moved_all_append [] ns s = refl
-moved_all_append (m ∷ ms) ns s = moved_all_append ms ns (moved m s)
-
 pub keeps_folded : (moves : RegionId → KeyState → List Move) (g : RegionId) (s : KeyState) → ((folded g (moved_all (moves g s) s)).base.key ≡ s.base.key) × ((folded g (moved_all (moves g s) s)).marks ≡ s.marks)
 keeps_folded moves g s = let parts = moved_all_parts (moves g s) s in (ap (λ (k : Kept). k.key) parts.0, parts.1)
 
@@ -35,5 +32,5 @@ keeps_marked v g s = (refl, refl)
 pub accepted_moves : (g h : RegionId) (s : KeyState) (u : Update) (ends : List Version) (a b c : KeyState) → a ≡ moved_all (offered g s u) s → b ≡ moved_all (acknowledging ends) a → c ≡ folded h (moved_all (settled b) b) → h ≡ g → c ≡ folded g (moved_all (accepted g s u ends) s)
 accepted_moves g h s u ends a b c first second third same =
     let moves = offered g s u ++ acknowledging ends in
-    let before : b ≡ moved_all moves s = second ∙ ap (moved_all (acknowledging ends)) first ∙ sym (moved_all_append (offered g s u) (acknowledging ends) s) in
-    third ∙ ap (λ (r : RegionId). folded r (moved_all (settled b) b)) same ∙ ap (λ (x : KeyState). folded g (moved_all (settled x) x)) before ∙ ap (folded g) (sym (moved_all_append moves (settled (moved_all moves s)) s))
+    let before : b ≡ moved_all moves s = second ∙ ap (moved_all (acknowledging ends)) first ∙ sym (moved_all-++ (offered g s u) (acknowledging ends) s) in
+    third ∙ ap (λ (r : RegionId). folded r (moved_all (settled b) b)) same ∙ ap (λ (x : KeyState). folded g (moved_all (settled x) x)) before ∙ ap (folded g) (sym (moved_all-++ moves (settled (moved_all moves s)) s))

@@ -8,14 +8,16 @@ use Rattle.hx_model.specs.Types.{RegionId}
 use Rattle.hx_types.specs.Words.{same_text, text_below, when_some}
 use Rattle.hx_law_folds.proofs.Lemmas.{above, below-trans}
 use Rattle.hx_index.specs.Orders.{stands_in}
+use Rattle.hx_index.proofs.Lemmas.{stands-filter, within-at}
 use Rattle.hx_store.specs.Indexed.{one_if, times}
 use Rattle.hx_store.specs.Invariant.{AscendAt, HasMoved, IsAdded, IsLateStore, IsListedAt, IsSplit, IsStore, KeysApart, below_from, in_order, is_listed, key_in, order_of, put_place, rooms_in, states_in, stored_at}
 use Rattle.hx_store.specs.Slots.{Entry, StoreSlot}
 use Rattle.hx_store.specs.Stores.{StoreState, after_step, key_at, no_moves}
-use Rattle.hx_store.proofs.Lists.{at-front, set-elsewhere, set-here, within-at}
+use Rattle.hx_store.proofs.Lists.{at-front, set-elsewhere, set-here}
 use Rattle.hx_store.proofs.Order.{listed-there}
 use Rattle.hx_store.proofs.Showing.{open-new, open-room, order-ascends, stored-entry}
-use Rattle.hx_store.proofs.Sorting.{ascend-times, differ, same-length, same-list, stands-filter, stands-times}
+use Rattle.hx_store.proofs.Sorting.{ascend-times, differ, same-length, same-list, stands-times}
+use Rattle.hx_store.proofs.Following.{times-end}
 
 -- the numbers below one
 stands-below : (n i : ℕ) → i < n → stands_in (below_from n) i ≡ true
@@ -174,10 +176,6 @@ each-listed es places f i = stands-times i places ∙ ap (nat_lt 0) (f i) ∙ by
     by true = refl
     by false = refl
 
-one-most : (b : Bool) → one_if b ≤ 1
-one-most true = omega arith
-one-most false = omega arith
-
 order-each : (es : List Entry) → KeysApart es → (i : ℕ) → times i (order_of es) ≡ one_if (is_listed es i)
 order-each es apart i =
     let once = ascend-times es (order_of es) (order-sorts es apart) i in
@@ -218,20 +216,8 @@ module _ {g : RegionId} {marks : Bool} {es : List Entry} {places : List ℕ} {so
   pub late-length : length places ≡ length (order_of es)
   late-length = same-length places (order_of es) late-each
 
-  pub each-once : (i : ℕ) → times i places ≤ 1
-  each-once i = let e = h.each i in let o = one-most (is_listed es i) in omega (arith, e, o)
-
   pub each-within : (i : ℕ) → stands_in places i ≡ true → i < length es
   each-within i t = listed-within es i (sym (each-listed es places h.each i) ∙ t)
-
-  -- all were put in order
-  pub late-sorted : (now : List ℕ) (n : ℕ) → n ≡ length now → ((i : ℕ) → times i now ≡ times i places) → AscendAt es now → IsLateStore g marks es now n cap
-  late-sorted now n e same ascend = record {
-    store = h.store;
-    each = λ i. same i ∙ h.each i;
-    begun = omega (arith, e);
-    ascend = subst (AscendAt es) (sym (take-all now n e)) ascend;
-  }
 
   -- a step of a slot, said of the places in order
   pub late-both : (new : List Entry) (wide : ℕ) {X : Type 0} → IsStore g marks new (order_of es) wide × X
@@ -288,10 +274,6 @@ take-front : (n : ℕ) (xs : List ℕ) (x : ℕ) → n ≤ length xs → take n 
 take-front zero xs x l = refl
 take-front (suc n) [] x l = absurd (omega (arith, l))
 take-front (suc n) (y ∷ xs) x l = ap (λ (ys : List ℕ). y ∷ ys) (take-front n xs x (omega (arith, l)))
-
-times-last : (i : ℕ) (xs : List ℕ) (x : ℕ) → times i (xs ++ x ∷ []) ≡ times i xs + one_if (eqb x i)
-times-last i [] x = omega arith
-times-last i (y ∷ xs) x = let more = times-last i xs x in omega (arith, more)
 
 length-last : (xs : List ℕ) (x : ℕ) → length (xs ++ x ∷ []) ≡ length xs + 1
 length-last [] x = refl
@@ -359,7 +341,7 @@ module _ {g : RegionId} {marks : Bool} {es : List Entry} {places : List ℕ} {so
       one i = elim (cases_eq i place) [
         | inl p ↦ subst (λ j. times j (places ++ place ∷ []) ≡ one_if (is_listed new j)) (sym p)
             (
-            let t = times-last place places place in
+            let t = times-end place places place in
             let e = ap one_if (eq-eqb place place refl) in
             let b = h.each place in
             let z = ap one_if was in
@@ -367,7 +349,7 @@ module _ {g : RegionId} {marks : Bool} {es : List Entry} {places : List ℕ} {so
             omega (arith, t, e, b, z, o)
             )
         | inr n ↦ (
-            let t = times-last i places place in
+            let t = times-end i places place in
             let e = ap one_if (ne_eqb place i (λ q. n (sym q))) in
             let b = h.each i in
             let o = ap one_if (rest i n) in

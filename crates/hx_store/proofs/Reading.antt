@@ -1,17 +1,16 @@
 -- What is read of a store's slots, one after another.
-use Rattle.std.proofs.Common.{◌≡◌, ℕ, zero, suc, ◌+◌, ◌==◌, nat_lt, Bool, true, false, cond, List, [], ◌∷◌, ◌++◌, map, take, None, Some, refl, ap, sym, ◌∙◌, arith, append_assoc, append-nil}
+use Rattle.std.proofs.Common.{◌≡◌, ℕ, zero, suc, ◌+◌, ◌==◌, nat_lt, Bool, true, cond, List, [], ◌∷◌, ◌++◌, map, take, None, Some, refl, ap, sym, ◌∙◌, arith, append_assoc, append-nil}
 use Rattle.std.specs.List.{All, AllByRecursion, filter, slice_get}
 use Rattle.std.proofs.lemmas.Bool.{cond-true, cond-false, lt-ltb, ne_eqb}
 use Rattle.std.proofs.lemmas.List.Elements.{All-push, filter-append}
 use Rattle.hx_model.specs.Types.{Kept, RegionId, Update}
 use Rattle.hx_types.specs.Words.{list_of, same_text, text_below}
-use Rattle.hx_law_folds.specs.Folding.{KeptsAscend, KeysAscend}
-use Rattle.hx_model.specs.ServerSteps.{state_from}
+use Rattle.hx_law_folds.specs.Folding.{KeysAscend}
 use Rattle.hx_model.specs.Slots.{KeyState, kept_of, pending_of, pending_of_all, snapshot_of, with_state}
 use Rattle.hx_law_folds.proofs.Lemmas.{below-differs}
 use Rattle.hx_slot.specs.States.{SlotState}
 use Rattle.hx_store.specs.Reading.{committed_of}
-use Rattle.hx_store.proofs.Lists.{all-at, take_next}
+use Rattle.hx_store.proofs.Lists.{take_next}
 use Rattle.hx_store.proofs.Order.{differ-back, not-below-back}
 
 one_kept : (n : ℕ) (k : Kept) (g : RegionId) (s : KeyState) → kept_of g s ≡ k → map (kept_of g) (cond (nat_lt 0 n) (s ∷ []) []) ≡ list_of (cond (n == 0) None (Some k))
@@ -62,27 +61,6 @@ put-last s (x ∷ rest) h =
     cond-false (same_text x.base.key s.base.key) _ _ (differ-back s.base.key x.base.key (below-differs x.base.key s.base.key h.0))
     ∙ cond-false (text_below s.base.key x.base.key) _ _ (not-below-back x.base.key s.base.key h.0)
     ∙ ap (λ (l : List KeyState). x ∷ l) (put-last s rest h.1)
-
-pub from-key : (marks : Bool) (k : Kept) → (state_from marks k).base.key ≡ k.key
-from-key true k = refl
-from-key false k = refl
-
-below-front : (marks : Bool) (snapshot : List Kept) (i : ℕ) (k : Kept) → KeptsAscend snapshot → slice_get snapshot i ≡ Some k
-    → AllByRecursion (λ (t : KeyState). text_below t.base.key (state_from marks k).base.key ≡ true) (map (state_from marks) (take i snapshot))
-below-front marks [] i k h at = absurd cc
-below-front marks (x ∷ xs) zero k h at = tt
-below-front marks (x ∷ xs) (suc i) k h at = (
-  ap (λ (l : List ℕ). text_below l (state_from marks k).base.key) (from-key marks x) ∙ ap (text_below x.key) (from-key marks k) ∙ all-at (λ (y : Kept). text_below x.key y.key ≡ true) xs i k h.0 at,
-  below-front marks xs i k h.1 at,
-)
-
--- one kept state more of those that were installed
-pub installed-next : (marks : Bool) (snapshot : List Kept) (i : ℕ) (k : Kept) → KeptsAscend snapshot → slice_get snapshot i ≡ Some k
-    → with_state (state_from marks k) (map (state_from marks) (take i snapshot)) ≡ map (state_from marks) (take (i + 1) snapshot)
-installed-next marks snapshot i k h at =
-    put-last (state_from marks k) (map (state_from marks) (take i snapshot)) (below-front marks snapshot i k h at)
-    ∙ sym (map-more (state_from marks) (take i snapshot) (k ∷ []))
-    ∙ ap (map (state_from marks)) (sym (take_next snapshot i k at))
 
 -- what holds of all holds with one more
 pub all_more : {A : Type 0} (P : A → Type 0) (xs : List A) (x : A) → All P xs → P x → All P (xs ++ x ∷ [])

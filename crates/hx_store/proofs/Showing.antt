@@ -14,9 +14,10 @@ use Rattle.hx_model.specs.Slots.{KeyState, new_state, state_among, with_state}
 use Rattle.hx_store.specs.Slots.{StoreSlot, Entry}
 use Rattle.hx_store.specs.Invariant.{AscendAt, HasMoved, IsAdded, IsListedAt, IsSplit, IsStore, IsStoreSlot, is_listed, key_in, room_of, rooms_in, state_in, states_in, stored_at}
 use Rattle.hx_store.specs.Stores.{IsPlace, KeepsOtherRooms, KeepsRooms, Room, StoreState, UsesRoom, after_step, has_room, has_slot, key_at, no_moves, spare_at, state_at}
-use Rattle.hx_store.proofs.Lists.{all-at, at-end, at-map, at-within, length-of-map, within-at}
+use Rattle.hx_store.proofs.Lists.{all-at, at-end, at-map, at-within, length-of-map}
 use Rattle.hx_store.proofs.Order.{found-with, has-place, listed-there, with-again}
 use Rattle.hx_store.proofs.Setting.{add-store, added-keeps, are-there, count-most, is-among, own, set-keeps, set-listed, set-open, set-quiet, set-same, set-uses, slot-state, unlisted-room, wide-store}
+use Rattle.hx_index.proofs.Lemmas.{within-at}
 
 -- a step of a slot leaves its key and kind
 abbrev pub StepKeeps : (RegionId → KeyState → KeyState) → Type 0

@@ -1,5 +1,5 @@
 -- Places in byte order of their keys: one list for each set of places.
-use Rattle.std.proofs.Common.{◌≡◌, ℕ, zero, suc, ◌+◌, ◌<◌, ◌≤◌, nat_lt, Bool, true, false, ◌&&◌, ◌||◌, cond, List, [], ◌∷◌, length, get_or, inl, inr, refl, ap, sym, ◌∙◌, subst, arith, eqb}
+use Rattle.std.proofs.Common.{◌≡◌, ℕ, zero, suc, ◌+◌, ◌<◌, ◌≤◌, nat_lt, Bool, true, false, ◌||◌, cond, List, [], ◌∷◌, length, get_or, inl, inr, refl, ap, sym, ◌∙◌, subst, arith, eqb}
 use Rattle.std.specs.Prelude.{⊤}
 use Rattle.std.specs.List.{AllByRecursion, IsDistinct, filter, sum_by}
 use denote.Ref.{Bor}
@@ -141,24 +141,6 @@ module _ (es : List Entry) where
   ascend-times (x ∷ xs) h i = cond_both (eqb x i) 1 0 (λ n. n + times i xs ≤ 1)
       (λ t. (let z : nat_lt 0 (times i xs) ≡ false = sym (stands-times i xs) ∙ ap (stands_in xs) (sym (eqb-true x i t)) ∙ never-first x xs h.0 in let no : 0 < times i xs → ⊥ = λ l. false≢true (sym z ∙ lt-ltb 0 (times i xs) l) in omega (arith, no)))
       (λ f. (let more = ascend-times xs h.1 i in omega (arith, more)))
-
-pub stands-filter : (p : ℕ → Bool) (i : ℕ) (xs : List ℕ) → stands_in (filter p xs) i ≡ (p i && stands_in xs i)
-stands-filter p i [] = by (p i)
-  where
-    by : (b : Bool) → false ≡ (b && false)
-    by true = refl
-    by false = refl
-stands-filter p i (x ∷ xs) = cond_both (p x) (x ∷ filter p xs) (filter p xs) (λ (l : List ℕ). stands_in l i ≡ (p i && (eqb x i || stands_in xs i)))
-    (λ t. ap (λ b. eqb x i || b) (stands-filter p i xs) ∙ there (eqb x i) (p i) (stands_in xs i) (λ e. sym (ap p (eqb-true x i e)) ∙ t))
-    (λ f. stands-filter p i xs ∙ gone (eqb x i) (p i) (stands_in xs i) (λ e. sym (ap p (eqb-true x i e)) ∙ f))
-  where
-    there : (a b c : Bool) → (a ≡ true → b ≡ true) → (a || (b && c)) ≡ (b && (a || c))
-    there true b c h = ap (λ d. d && true) (sym (h refl))
-    there false b c h = refl
-
-    gone : (a b c : Bool) → (a ≡ true → b ≡ false) → (b && c) ≡ (b && (a || c))
-    gone true b c h = ap (λ d. d && c) (h refl) ∙ ap (λ d. d && true) (sym (h refl))
-    gone false b c h = refl
 
 -- one list without one of a number
 abbrev without-one : ℕ → List ℕ → List ℕ

@@ -1,5 +1,5 @@
 -- The members of a list in the order of another that has them all: marks of the members, and a walk over the order.
-use Rattle.std.proofs.Common.{◌≡◌, ℕ, zero, suc, ◌+◌, ◌<◌, Bool, true, false, ◌&&◌, ◌||◌, List, [], ◌∷◌, ◌++◌, get_or, if◌then◌else◌, is_some, length, inl, inr, Option, None, Some, refl, ap, sym, ◌∙◌, arith, eqb, replicate, take}
+use Rattle.std.proofs.Common.{◌≡◌, ℕ, zero, suc, ◌+◌, ◌<◌, Bool, true, false, ◌&&◌, ◌||◌, List, [], ◌∷◌, ◌++◌, get_or, if◌then◌else◌, is_some, length, inl, inr, Option, None, Some, refl, ap, sym, ◌∙◌, arith, eqb, take}
 use Rattle.std.specs.List.{IsDistinct, filter, slice_get, slice_set}
 use Rattle.std.proofs.lemmas.Bool.{cases_eq, cond-true, eq-eqb, false≢true, ne_eqb, or_left, or_right}
 use Rattle.std.proofs.lemmas.Option.{slice_get-get_or}
@@ -7,18 +7,13 @@ use Rattle.hx_model.specs.Types.{Row, Term}
 use Rattle.hx_types.specs.Words.{when_some}
 use Rattle.hx_index.specs.Orders.{stands_in}
 use Rattle.hx_index.specs.Sides.{matches_at}
+use Rattle.hx_index.proofs.Lemmas.{stands-filter}
 use Rattle.hx_store.specs.Indexed.{is_marked}
 use Rattle.hx_store.specs.Invariant.{AscendAt, HasAll}
 use Rattle.hx_store.specs.Slots.{Entry}
 use Rattle.hx_store.proofs.Following.{set-marked, set-unmarked}
 use Rattle.hx_store.proofs.Lists.{take_next}
-use Rattle.hx_store.proofs.Sorting.{ascend-times, distinct-times, filter-ascends, same-numbers, stands-filter}
-
--- nothing is marked at first
-pub not-marked : (n i : ℕ) → is_marked (replicate n false) i ≡ false
-not-marked zero i = refl
-not-marked (suc n) zero = refl
-not-marked (suc n) (suc i) = not-marked n i
+use Rattle.hx_store.proofs.Sorting.{ascend-times, distinct-times, filter-ascends, same-numbers}
 
 stands-end : (i x : ℕ) (xs : List ℕ) → stands_in (xs ++ x ∷ []) i ≡ (stands_in xs i || eqb x i)
 stands-end i x [] = only (eqb x i)

@@ -118,10 +118,6 @@ accepted g s u ends =
 abbrev pub no_moves : RegionId → KeyState → KeyState
 no_moves g s = s
 
--- a slot that was offered an update
-abbrev pub offered_at : Update → RegionId → KeyState → KeyState
-offered_at u g s = moved_all (offered g s u) s
-
 abbrev pub accepted_at : Update → List Version → RegionId → KeyState → KeyState
 accepted_at u ends g s = folded g (moved_all (accepted g s u ends) s)
 

@@ -123,9 +123,6 @@ one_left words (w ∷ others) name first e h same = absurd (omega (arith, h))
 pub two_left : (words others rest : List (List ℕ)) (name text first second : List ℕ) → words ≡ first ∷ others → others ≡ second ∷ rest → name ≡ first → text ≡ second → words ≡ name ∷ text ∷ rest
 two_left words others rest name text first second e f same also = e ∙ ap (λ ws. first ∷ ws) f ∙ ap (λ w. w ∷ second ∷ rest) (sym same) ∙ ap (λ w. name ∷ w ∷ rest) (sym also)
 
-pub headed : {words rest : List (List ℕ)} {word name : List ℕ} → words ≡ word ∷ rest → word ≡ name → words ≡ name ∷ rest
-headed {rest = rest} e named = e ∙ ap (λ w. w ∷ rest) named
-
 -- an answer that is given to no words
 pub unanswered : {A : Type 0} (answer : Option A) (x : A) (P : Type 0) → answer ≡ None → (P → ⊥) → (answer ≡ Some x) ↔ P
 unanswered answer x P e never = (λ some. absurd (none-some x (sym e ∙ some)), λ p. absurd (never p))

@@ -3,6 +3,7 @@ use Rattle.std.proofs.Common.{◌≡◌, ◌≢◌, ℕ, zero, suc, ◌+◌, ◌
 use Rattle.std.specs.Prelude.{slice_get}
 use Rattle.std.proofs.lemmas.Option.{slice_get_within, slice_get-get_or}
 use Rattle.hx_world.specs.Invariant.{AreAt}
+use Rattle.hx_law_growing.proofs.Lemmas.{length-set}
 
 -- the item at a place of the list
 pub item_at : {A : Type 0} (xs : List A) (i : ℕ) → i < length xs → (x : A) × (slice_get xs i ≡ Some x)
@@ -44,11 +45,6 @@ at_each n P Q xs h f = record {
   each = λ i x e. f i x (let w = slice_get_within xs i x e in omega (arith, w, h.count)) (h.each i x e);
 }
 
-length-set_here : {A : Type 0} (xs : List A) (i : ℕ) (y : A) → length (set xs i y) ≡ length xs
-length-set_here [] i y = refl
-length-set_here (x ∷ xs) zero y = refl
-length-set_here (x ∷ xs) (suc i) y = ap suc (length-set_here xs i y)
-
 get-set : {A : Type 0} (xs : List A) (i : ℕ) (y : A) (j : ℕ) (x : A) → slice_get (set xs i y) j ≡ Some x → ((j ≡ i) × (x ≡ y)) ⊎ ((j ≢ i) × (slice_get xs j ≡ Some x))
 get-set [] i y j x e = cc
 get-set (z ∷ xs) zero y zero x e = inl (refl, (let same : x ≡ y = cc in same))
@@ -66,7 +62,7 @@ pub at_set : {A : Type 0} (n : ℕ) (P Q : ℕ → A → Type 0) (xs ys : List A
 at_set n P Q xs ys i y h e q f =
     rw e
     (record {
-      count = length-set_here xs i y ∙ h.count;
+      count = length-set xs i y ∙ h.count;
       each = λ j x g. elim (get-set xs i y j x g) [
         | inl k ↦ subst (Q j) (sym k.1) (subst (λ m. Q m y) (sym k.0) q)
         | inr k ↦ f j x k.0 (h.each j x k.1)

@@ -6,7 +6,7 @@ use Rattle.hx_model.specs.Schedule.{next_entry, scheduled, with_entry}
 use Rattle.hx_world.specs.declared.ends.Drained.TheVariants.{Quiet}
 use Rattle.hx_world.specs.Worlds.{Advances, Drains}
 
-none_there : {A : Type 0} (o : Option A) → is_some o ≡ false → o ≡ None
+pub none_there : {A : Type 0} (o : Option A) → is_some o ≡ false → o ≡ None
 none_there None e = refl
 none_there (Some x) e = cc
 

@@ -2,7 +2,7 @@
 use Rattle.std.proofs.Common.{◌≡◌, true, false, Bool, List, Option, None, Some, cond, sym, ap, ◌∙◌, subst}
 use Rattle.std.specs.Option.{option_map}
 use Rattle.std.proofs.lemmas.Bool.{false≢true}
-use Rattle.hx_model.specs.Types.{Actor, Deliver, Entry, Halt, Input, Post, PostId, Script, Server, ServerId, Tick}
+use Rattle.hx_model.specs.Types.{Actor, Deliver, Entry, Input, Post, PostId, Script, Tick}
 use Rattle.hx_types.specs.declared.traces.Step.TheVariants as a_step
 use Rattle.hx_types.specs.Words.{first_some, when_some}
 use Rattle.hx_model.specs.Runs.{MayTake, has_halted, made_of, does_something, post_named}
@@ -30,12 +30,6 @@ module _ (script : Script) (t : List Entry) where
 
   tick_halted : (a : Actor) → has_halted script t a ≡ true → fault_of script t (a_step.Tick a) ≡ Some model.Halted
   tick_halted a halted = ap (λ (b : Bool). first_some (cond b (Some model.Halted) None) (first_some (idle_fault script t a) (worn_fault t a))) halted
-
-  halt_fault : (s : ServerId) → has_halted script t (Server s) ≡ false → fault_of script t (a_step.Halt (Server s)) ≡ worn_fault t (Server s)
-  halt_fault s running = ap (λ (b : Bool). first_some (cond b (Some model.Halted) None) (worn_fault t (Server s))) running
-
-  halt_halted : (s : ServerId) → has_halted script t (Server s) ≡ true → fault_of script t (a_step.Halt (Server s)) ≡ Some model.Halted
-  halt_halted s halted = ap (λ (b : Bool). first_some (cond b (Some model.Halted) None) (worn_fault t (Server s))) halted
 
   not_worn : (a : Actor) → is_worn a t ≡ false → worn_fault t a ≡ None
   not_worn a e = ap (λ (b : Bool). cond b (Some (model.Worn a)) None) e
@@ -84,19 +78,6 @@ module _ (script : Script) (t : List Entry) where
   not_ticked a NotServer h = absurd h
   not_ticked a Idle h = tick_fault a h.running ∙ ap (λ (o : Option StepFault). first_some o (worn_fault t a)) (idle a h.nothing)
   not_ticked a (Worn b) h = tick_fault a h.running ∙ ap (λ (o : Option StepFault). first_some o (worn_fault t a)) (not_idle a h.enough) ∙ worn a b h.worn h.actor
-
-  -- a halt that was made
-  pub stopped : (new : List Entry) (s : ServerId) → HasTurn script t new (Server s) Halt → Steps script t new (a_step.Halt (Server s))
-  stopped new s h = record { possible = halt_fault s h.running ∙ not_worn (Server s) h.fresh; trace = h.trace }
-
-  -- and one that was not
-  pub not_stopped : (s : ServerId) (e : StepError) → HasNoTurn script t (Server s) Halt e → Refuses script t (a_step.Halt (Server s)) e
-  not_stopped s Memory h = tt
-  not_stopped s Unsent h = absurd h
-  not_stopped s Halted h = halt_halted s h
-  not_stopped s NotServer h = absurd h
-  not_stopped s Idle h = absurd (false≢true (sym h.nothing))
-  not_stopped s (Worn b) h = halt_fault s h.running ∙ worn (Server s) b h.worn h.actor
 
 -- the input is the delivery of the post
 pub may_take : (t : List Entry) (id : PostId) (p : Post) (input : Input) → post_named id t ≡ Some p → input ≡ Deliver id p.from p.message → MayTake t p.to input

@@ -1,13 +1,10 @@
 -- What an actor of a world is given it can take.
 use Rattle.std.proofs.Common.{◌≡◌, ◌+◌, ◌<◌, ◌≤◌, inl, inr, true, false, List, [], ◌∷◌, length, Some, refl, sym, ap, ◌∙◌, subst, arith, ltb, leb}
 use Rattle.std.proofs.lemmas.Bool.{and_from, and_parts, lt-ltb, le-leb, ltb-true, leb-true}
-use Rattle.std.specs.Prelude.{IsTrue}
 use Rattle.std.specs.List.{AllByRecursion}
-use Rattle.std.proofs.lemmas.List.Elements.{All-weaker, recursion_from_All}
-use Rattle.hx_model.specs.Types.{Actor, Coordinator, Deliver, Entry, Halt, Input, Message, Post, PostId, Script, Server, ServerId, Session, SessionId, Space}
-use Rattle.hx_model.specs.Types.{Tick, Update}
-use Rattle.hx_types.specs.declared.messages.Message.TheVariants as a_message
-use Rattle.hx_types.specs.Posts.{ActorExists, Bounds, IsSessionOf, IsSoundMessage, IsSoundPost, IsSoundUpdate, has_place_in}
+use Rattle.hx_model.specs.Types.{Actor, Coordinator, Deliver, Entry, Halt, Input, Post, PostId, Script, Server, ServerId, Session, SessionId, Space}
+use Rattle.hx_model.specs.Types.{Tick}
+use Rattle.hx_types.specs.Posts.{ActorExists, IsSessionOf, IsSoundPost}
 use Rattle.hx_types.specs.Spaces.{IsServerOf}
 use Rattle.hx_types.specs.Words.{IsIn, post}
 use Rattle.hx_model.specs.Runs.{MayTake, coordinator_of, has_halted, is_actor, post_named, server_of, session_of}
@@ -19,19 +16,12 @@ use Rattle.hx_coord.specs.Coordinators as coordinator
 use Rattle.hx_law_posts.proofs.Lemmas.{KeptSound, kept-run}
 use Rattle.hx_types.specs.Subspaces.{is_key_region}
 use Rattle.hx_model.specs.Slots.{top_of}
-use Rattle.hx_law_folds.specs.Folding.{InputFits, IsAfter, IsReplicaOf, IsServerOf as AreInOrder, IsSlotIn, MessageFits, folded, folded_replica, folded_server}
-use Rattle.hx_law_folds.proofs.Lemmas.{top-folded}
+use Rattle.hx_law_folds.specs.Folding.{InputFits, IsReplicaOf, IsServerOf as AreInOrder, IsSlotIn, folded, folded_replica, folded_server}
+use Rattle.hx_law_folds.proofs.Lemmas.{top-folded, sound-fits}
 use Rattle.hx_law_lemmas.proofs.Lemmas.{in-map}
 use Rattle.hx_world.specs.Invariant.{IsFewRun}
 use Rattle.hx_world.proofs.Naming.{named_within}
 use Rattle.hx_world.proofs.Tallies.{few_in_all}
-
--- a sound message's updates come after lower versions
-sound_fits : (b : Bounds) (m : Message) → IsSoundMessage b m → MessageFits m
-sound_fits b (a_message.Update epoch g u) h = h.2.of_space.after
-sound_fits b (a_message.Snap epoch g snapshot pending) h =
-    recursion_from_All IsAfter pending (All-weaker (λ (u : Update). IsSoundUpdate b u × IsTrue (has_place_in g u.places)) IsAfter (λ u k. k.0.of_space.after) pending h.4)
-sound_fits b other h = tt
 
 -- the slots of a server without their past have no higher versions
 all_in : {A : Type 0} (P : A → Type 0) (xs : List A) (x : A) → AllByRecursion P xs → IsIn x xs → P x
@@ -106,7 +96,7 @@ module _ (script : Script) (t : List Entry) (w : IsFewRun script t) where
   pub fits_here : (s : ServerId) (input : Input) → MayTake t (Server s) input → InputFits input
   fits_here s Tick may = tt
   fits_here s Halt may = tt
-  fits_here s (Deliver id from m) may = sound_fits _ m (sound_here id (post from (Server s) m) may).message
+  fits_here s (Deliver id from m) may = sound-fits _ m (sound_here id (post from (Server s) m) may).message
 
   input_to_session : (st : SessionState) (u : SessionId) → st.id ≡ u → (input : Input) → MayTake t (Session u) input → session.CanTake script.space st input
   input_to_session st u same Tick may = tt

@@ -1,12 +1,12 @@
 -- The words that proofs of laws cite most, of std, of the types, of the definitions and of regions, by one import in place of one for each. Declares nothing.
 pub use Rattle.std.proofs.Common.{[], add-one, ap, append_assoc, arith, Bool, cond, eqb, Err, false, if◌then◌else◌, inl, inr, is_some, leb, length, List, ltb}
-pub use Rattle.std.proofs.Common.{map, nat_abs, nat_lt, None, not, Ok, Option, refl, Result, Some, subst, suc, sym, take, true, zero, ℕ, ℤ, ⊎_elim, ◌%◌, ◌&&◌}
-pub use Rattle.std.proofs.Common.{◌*◌, ◌++◌, ◌+ℤ◌, ◌+◌, ◌-ℤ◌, ◌-◌, ◌/◌, ◌<◌, ◌==◌, ◌^◌, ◌||◌, ◌↔◌, ◌∙◌, ◌∷◌, ◌≡◌, ◌≢◌, ◌≤ℤ◌, ◌≤◌, ◌⊎◌}
+pub use Rattle.std.proofs.Common.{map, nat_lt, None, not, Ok, Option, refl, Result, Some, subst, suc, sym, take, true, zero, ℕ, ℤ, ⊎_elim, ◌%◌, ◌&&◌}
+pub use Rattle.std.proofs.Common.{◌*◌, ◌++◌, ◌+ℤ◌, ◌+◌, ◌-◌, ◌/◌, ◌<◌, ◌==◌, ◌^◌, ◌||◌, ◌↔◌, ◌∙◌, ◌∷◌, ◌≡◌, ◌≢◌, ◌≤◌, ◌⊎◌}
 pub use Rattle.std.proofs.Math.Bool.{Bool-set}
 pub use Rattle.std.proofs.Math.IntN.{ℤ_set}
 pub use Rattle.std.proofs.Math.Logic.{∥∥₁_elim, ∥∥₁_map}
-pub use Rattle.std.proofs.Math.Nat.{div-add-mod, div-lt_iff_lt-mul, mod-lt, mul-le-mul, mul-le-mul_left, mul-le-mul_right, mul-lt-mul_of_pos_right, mul-suc}
-pub use Rattle.std.proofs.Math.Nat.{mul_assoc, mul_comm, suc-mul, two-pow-succ, ℕ_set}
+pub use Rattle.std.proofs.Math.Nat.{div-add-mod, mod-lt, mul-le-mul_left, mul-le-mul_right, mul-suc}
+pub use Rattle.std.proofs.Math.Nat.{mul_assoc, suc-mul, ℕ_set}
 pub use Rattle.std.proofs.Math.Seq.{take-length}
 pub use Rattle.std.proofs.lemmas.Bool.{and_from, and_parts, cases_Bool, cases_eq, cases_lt, cases_order, cond-false, cond-true, cond_both, eq-eqb, eqb-false}
 pub use Rattle.std.proofs.lemmas.Bool.{eqb-true, false_from_ne_true, false≢true, le-leb, le-ltb, leb-false, leb-true, lt-leb, lt-ltb, ltb-false, ltb-true}
@@ -26,7 +26,7 @@ pub use Rattle.std.specs.List.{All, AllByRecursion, AllZip, Contains, count_by, 
 pub use Rattle.std.specs.List.{slice_index, slice_index_or, slice_set, sum_by}
 pub use Rattle.std.specs.List.Sorted.{IsStrictlyIncreasing}
 pub use Rattle.std.specs.Option.{IfSome, option_map}
-pub use Rattle.std.specs.Prelude.{codes, FitsSigned, get_or, int_le, int_lt, IsPermutation, IsSome, IsSomeAnd, nat_le, negsuc, pos, reverse, ⊤}
+pub use Rattle.std.specs.Prelude.{codes, FitsSigned, get_or, int_le, IsPermutation, IsSome, IsSomeAnd, nat_le, negsuc, pos, reverse, ⊤}
 pub use Rattle.std.specs.Str.{IsAscii, IsUtf8}
 pub use Rattle.hx_types.specs.Configs.{any_joining, any_ready, first_config, first_member, head_of, is_lost, is_server, joiner_for, joiner_in, leads, lists}
 pub use Rattle.hx_types.specs.Configs.{lists_joining, lists_ready, lost_regions, members_of}
@@ -48,7 +48,7 @@ pub use Rattle.hx_model.proofs.Lemmas.{base-moved_all, eq_of_same_text, found_fi
 pub use Rattle.hx_model.specs.Causes.{AnsweredCall, carries_call, config_noted, config_of, HasCause, HasCauses, is_fulfilled, IsAddRefused, IsDoubted}
 pub use Rattle.hx_model.specs.Causes.{IsDoubtTold, IsFound, IsGiven, IsIssued, IsLostIn, IsRefused, IsRefusedFor, IsRefusedWrite, IsStopped, issued_after}
 pub use Rattle.hx_model.specs.Causes.{refused_place, server_named, was_sent}
-pub use Rattle.hx_model.specs.Cells.{cell_of, clamped, fnv_of, int_cell_of, reversed_bits, text_cell_of}
+pub use Rattle.hx_model.specs.Cells.{cell_of}
 pub use Rattle.hx_model.specs.CoordinatorSteps.{add_step, adds, administers, again, Answered, by_number, config_ready, config_with, config_without}
 pub use Rattle.hx_model.specs.CoordinatorSteps.{coordinator_at_start, coordinator_message, coordinator_step, coordinator_tick, CoordinatorState}
 pub use Rattle.hx_model.specs.CoordinatorSteps.{CoordinatorStep, die_for, gone_step, is_newest_call, is_stop_of, issue, join_posts, judged, last_ready_pair}

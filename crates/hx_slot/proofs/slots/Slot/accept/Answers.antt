@@ -8,8 +8,9 @@ use Rattle.hx_slot.specs.declared.updates.AcceptedUpdate.{AcceptedUpdate}
 use Rattle.hx_slot.specs.Updates.{IsHeld, IsPlaced, last_version}
 use Rattle.hx_slot.specs.States.{SlotState}
 use Rattle.hx_slot.proofs.Lean.{accepted-state, floor-seen, top-seen}
-use Rattle.hx_slot.proofs.Accepting.{accepted-slot, by_recursion-filter}
+use Rattle.hx_slot.proofs.Accepting.{accepted-slot}
 use Rattle.hx_slot.proofs.slots.Slot.accept.Goals as goal
+use Rattle.hx_law_folds.proofs.Lemmas.{all-filter}
 
 pub invariant_of-self : goal.invariant_of-self
 invariant_of-self c =
@@ -19,7 +20,7 @@ invariant_of-self c =
     let top = subst (λ (s : SlotState). top_of s.state < t.update.version.0) (sym c.self.view_is) c.requires.above in
     let is = top-seen a c.self.invariant in
     let above : last_version a.base.floor.0 a.accepted.items < t.update.version.0 = omega (arith, is, top) in
-    let held = by_recursion-filter (IsHeld a.region) (λ (p : PlacedUpdate). not (eqb p.update.version.0 t.update.version.0)) a.early.items c.self.invariant.early in
+    let held = all-filter (IsHeld a.region) (λ (p : PlacedUpdate). not (eqb p.update.version.0 t.update.version.0)) a.early.items c.self.invariant.early in
     let dropped = c.drop_version.ensures.items ∙ ap (λ (u : Update). filter (λ (p : PlacedUpdate). not (eqb p.update.version.0 u.version.0)) a.early.items) c.deref.ensures in
     let spare = subst (λ (s : SlotState). 0 < s.spare) (sym c.self.view_is) c.requires.spare in
     accepted-slot a t c.push_reserved.new.self c.drop_version.new.early _ c.self.invariant placed above refl
