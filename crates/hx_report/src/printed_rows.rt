@@ -1,6 +1,6 @@
 //! The lines of rows that were printed before.
 
-ghost use Rattle.std.specs.Prelude.{◌≡◌, ◌++◌, ℕ, List, IfOk, IsTrue, OnOk};
+ghost use Rattle.std.specs.Prelude.{◌≡◌, ◌++◌, ◌<◌, ℕ, List, length, IfOk, IsTrue, OnOk};
 ghost use Rattle.std.specs.List.{All, flat_map};
 ghost use Rattle.hx_model.specs.Types.{Space};
 ghost use Rattle.hx_report.specs.declared.printed_rows.PrintedRow.{PrintedRow};
@@ -90,6 +90,43 @@ fn put_made<'a>(
     Ok(made)
 }
 
+/// Appends the line of a row whose key isn't among those of the printed rows. It has a function of
+/// its own, so that a row whose line is copied pays nothing for one that is made.
+#[inline(never)]
+fn add_row<'a>(
+    out: &mut Vec<u8>,
+    space: &Space,
+    row: &'a Row,
+    printed: &mut PrintedRows<'a>,
+) -> Result<(), Memory>
+    requires { IsPrinted space.now printed.old }
+    ensures text { OnOk result (out.new.items ≡ out.old.items ++ row_line space.now row.now) }
+    ensures printed { OnOk result (IsPrinted space.now printed.new) }
+{
+    let made = put_made(out, space, row, &mut printed.lines)?;
+    printed.made.push(made)?;
+    Ok(())
+}
+
+/// Appends the line of a row, which stands in place of the printed row of its key. As [`add_row`],
+/// it has a function of its own.
+#[inline(never)]
+fn replace_row<'a>(
+    out: &mut Vec<u8>,
+    space: &Space,
+    row: &'a Row,
+    printed: &mut PrintedRows<'a>,
+    place: usize,
+) -> Result<(), Memory>
+    requires printed { IsPrinted space.now printed.old }
+    requires place { place < length printed.old.rows.items }
+    ensures text { OnOk result (out.new.items ≡ out.old.items ++ row_line space.now row.now) }
+    ensures printed { OnOk result (IsPrinted space.now printed.new) }
+{
+    printed.rows[place] = put_made(out, space, row, &mut printed.lines)?;
+    Ok(())
+}
+
 /// Appends the line of a row, copied where it was printed. Looks for it among the printed rows from
 /// a place on, and returns the place behind those of lower keys and its own.
 fn put_next_row<'a>(
@@ -115,7 +152,7 @@ fn put_next_row<'a>(
             match other.row.key.cmp(&row.key) {
                 Ordering::Less => {}
                 Ordering::Equal => {
-                    printed.rows[place] = put_made(out, space, row, &mut printed.lines)?;
+                    replace_row(out, space, row, printed, place)?;
                     return Ok(place + 1);
                 }
                 Ordering::Greater => break,
@@ -123,8 +160,7 @@ fn put_next_row<'a>(
         }
         place += 1;
     }
-    let made = put_made(out, space, row, &mut printed.lines)?;
-    printed.made.push(made)?;
+    add_row(out, space, row, printed)?;
     Ok(place)
 }
 
