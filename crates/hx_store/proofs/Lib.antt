@@ -17,4 +17,5 @@ pub mod Installing
 pub mod Prefixes
 pub mod Walking
 pub mod Ordering
+pub mod Inserting
 pub mod Lemmas

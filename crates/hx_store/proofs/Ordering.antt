@@ -76,10 +76,10 @@ module _ (es : List Entry) where
       by false m = (h.0, m)
 
   -- a place of another key
-  abbrev IsApart : ℕ → ℕ → Type 0
+  abbrev pub IsApart : ℕ → ℕ → Type 0
   IsApart j k = same_text (key_in es k) (key_in es j) ≡ false
 
-  put-ascends : (j : ℕ) (xs : List ℕ) → AllByRecursion (IsApart j) xs → AscendAt es xs → AscendAt es (put_place es j xs)
+  pub put-ascends : (j : ℕ) (xs : List ℕ) → AllByRecursion (IsApart j) xs → AscendAt es xs → AscendAt es (put_place es j xs)
   put-ascends j [] a h = (tt, tt)
   put-ascends j (k ∷ rest) a h = cond_both (text_below (key_in es j) (key_in es k)) (j ∷ k ∷ rest) (k ∷ put_place es j rest) (AscendAt es)
       (λ t. ((t, over rest t h.0), h))
@@ -161,7 +161,7 @@ ascend-same es new (x ∷ xs) f h = (
         let second = g y (or_left (eqb y y) _ (eq-eqb y y refl)) in
         ((λ i. text_below (first i) (second i)) ∙ h.0, all ys (λ j t. g j (or_right (eqb y j) _ t)) h.1)
 
-take-stands : (n i : ℕ) (xs : List ℕ) → stands_in (take n xs) i ≡ true → stands_in xs i ≡ true
+pub take-stands : (n i : ℕ) (xs : List ℕ) → stands_in (take n xs) i ≡ true → stands_in xs i ≡ true
 take-stands zero i xs t = absurd (false≢true t)
 take-stands (suc n) i [] t = absurd (false≢true t)
 take-stands (suc n) i (x ∷ xs) t = elim (or_cases (eqb x i) (stands_in (take n xs) i) t) [
@@ -187,7 +187,7 @@ order-each es apart i =
     by (suc n) true l e = omega (arith, l)
     by (suc n) false l e = absurd (false≢true (sym e ∙ lt-ltb 0 (suc n) (omega arith)))
 
-take-all : (xs : List ℕ) (n : ℕ) → n ≡ length xs → take n xs ≡ xs
+pub take-all : (xs : List ℕ) (n : ℕ) → n ≡ length xs → take n xs ≡ xs
 take-all [] n e = ap (λ m. take m []) e
 take-all (x ∷ xs) zero e = absurd (omega (arith, e))
 take-all (x ∷ xs) (suc n) e = ap (λ (ys : List ℕ). x ∷ ys) (take-all xs n (omega (arith, e)))

@@ -1,4 +1,4 @@
-ghost use Rattle.std.specs.Prelude.{◌≡◌, ℕ, ◌<◌, ◌≤◌, ◌+◌, ◌^◌, [], IfNone, IfOk, IfSome, IsSomeAnd, OnErr, OnOk, Some, false, insert, is_some, length, nat_eq, true, vec_capacity, vec_len};
+ghost use Rattle.std.specs.Prelude.{◌≡◌, ℕ, ◌<◌, ◌≤◌, ◌+◌, ◌^◌, [], IfNone, IfOk, IfSome, IsSomeAnd, OnErr, OnOk, Some, false, insert, is_some, length, nat_eq, take, true, vec_capacity, vec_len};
 ghost use Rattle.std.specs.Cmp.Lexicographic.{slice_cmp};
 ghost use Rattle.std.specs.List.{All, IsDistinct, filter, flat_map, list_any};
 ghost use Rattle.std.specs.Ordering.{nat_cmp};
@@ -10,7 +10,7 @@ ghost use Rattle.hx_index.specs.Orders.{IsIndexOf, count_of, stands_in};
 ghost use Rattle.hx_index.specs.Searches.{least_run, most_looks};
 ghost use Rattle.hx_index.specs.Sides.{matches_at};
 ghost use Rattle.hx_store.specs.Indexed.{is_marked, times};
-ghost use Rattle.hx_store.specs.Invariant.{AscendAt, HasAll, HasMoved, IsAdded, IsListedAt, IsReplacedAt, KeysApart, is_listed, key_in, stored_at};
+ghost use Rattle.hx_store.specs.Invariant.{AscendAt, HasAll, HasMoved, IsAdded, IsListedAt, IsReplacedAt, IsSplit, KeysApart, is_listed, key_in, stored_at};
 ghost use Rattle.hx_store.specs.Slots.{Entry, IsFresh, StoreSlot, rows_in};
 ghost use Rattle.hx_store.specs.Stores.{ArePending, CanBeOffered, accepted_at, acknowledged_at, forgotten_at, marked_at, no_moves, settled_at};
 
@@ -18,7 +18,9 @@ use crate::indexed::Indexed;
 use crate::stepping::accept;
 use hx_index::Ids;
 use hx_slot::Slot;
-use hx_types::{Exact, Memory, RegionId, Rows, Shared, Terms, Text, Update, Version, prefix_of};
+use hx_types::{
+    Exact, Memory, RegionId, Rows, Shared, Terms, Text, Update, Version, insert_within, prefix_of,
+};
 use indexmap::IndexMap;
 use std::alloc::Global;
 use std::cmp::Ordering;
@@ -341,6 +343,49 @@ impl Slots {
         ensures capacity { vec_capacity order.new ≡ vec_capacity order.old }
     {
         order.sort_unstable_by(|one, other| self.compare_keys(*one, *other));
+    }
+
+    /// Puts places of slots into byte order of their keys, of which the first ones, so many, stand
+    /// in it. Each stands there once, and each of the others goes where it belongs among those
+    /// before it. It takes no memory.
+    pub fn insert_places(&self, order: &mut Vec<usize>, sorted: usize)
+        requires apart { KeysApart self.now.entries }
+        requires within { (i : ℕ) → stands_in order.old.items i ≡ true → i < length self.now.entries }
+        requires once { (i : ℕ) → times i order.old.items ≤ 1 }
+        requires begun { sorted ≤ length order.old.items }
+        requires ascend { AscendAt self.now.entries (take sorted order.old.items) }
+        ensures same { (i : ℕ) → times i order.new.items ≡ times i order.old.items }
+        ensures ascend { AscendAt self.now.entries order.new.items }
+        ensures capacity { vec_capacity order.old ≤ vec_capacity order.new }
+    {
+        for at in sorted..order.len() {
+            self.insert_place(order, at);
+        }
+    }
+
+    /// The place at a point of the order goes to its key's point among those before it, which are
+    /// in byte order of their keys.
+    fn insert_place(&self, order: &mut Vec<usize>, at: usize)
+        requires apart { KeysApart self.now.entries }
+        requires within { (i : ℕ) → stands_in order.old.items i ≡ true → i < length self.now.entries }
+        requires once { (i : ℕ) → times i order.old.items ≤ 1 }
+        requires at { at < length order.old.items }
+        requires ascend { AscendAt self.now.entries (take at order.old.items) }
+        ensures same { (i : ℕ) → times i order.new.items ≡ times i order.old.items }
+        ensures ascend { AscendAt self.now.entries (take (at + 1) order.new.items) }
+        ensures capacity { vec_capacity order.old ≤ vec_capacity order.new }
+    {
+        let place = order.remove(at);
+        let to = self.point_of(&order.as_slice()[..at], place);
+        insert_within(order, to, place);
+    }
+
+    /// How many of places in byte order of their keys are of lower keys than another place.
+    fn point_of(&self, order: &[usize], place: usize) -> usize
+        requires { AscendAt self.now.entries order.now }
+        ensures { IsSplit self.now.entries (key_in self.now.entries place) result order.now }
+    {
+        order.partition_point(|other| self.compare_keys(*other, place).is_lt())
     }
 
     /// The keys at two places, by their bytes.

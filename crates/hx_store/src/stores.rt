@@ -22,6 +22,15 @@ use std::alloc::Global;
 use std::collections::VecDeque;
 use std::marker::Model;
 
+/// Places that came since go one by one to where they belong among those in order where these are so
+/// many times as many, and else the whole order is sorted. It is this project's choice.
+const SORTED_FOR_EACH: usize = 4;
+
+/// More new places than this are sorted with the whole order too: each that is put among the others
+/// moves half of them, which many would pay for with the square of their number. It is this
+/// project's choice.
+const MOST_TO_INSERT: usize = 128;
+
 /// The slots of a region. A key is looked up once: its place, the number of the key in the order of
 /// coming, then names its slot. Contracts see the slots in byte order of keys, and by places for
 /// how many updates of which keys there is room.
@@ -260,8 +269,8 @@ impl Store {
         self.slots.reserve_at(alloc, place, n)
     }
 
-    /// The key at a place has a slot from now on. A new slot goes to the end of the order, which is
-    /// made again by [`Store::sort_order`]. It takes no memory.
+    /// The key at a place has a slot from now on. A new slot goes to the end of the order, from where
+    /// [`Store::sort_order`] puts it where it belongs. It takes no memory.
     pub fn ensure_slot(&mut self, place: usize)
         requires { place < length self.old.rooms }
         ensures region { self.new.region ≡ self.old.region }
@@ -278,7 +287,8 @@ impl Store {
         self.slots.list_at(place);
     }
 
-    /// Puts the places that came since into byte order of keys. It takes no memory.
+    /// Puts the places that came since into byte order of keys: few of them one by one among those
+    /// that stand in it, or else all are sorted. It takes no memory.
     pub fn sort_order(&mut self)
         ensures region { self.new.region ≡ self.old.region }
         ensures marks { self.new.marks ≡ self.old.marks }
@@ -290,7 +300,12 @@ impl Store {
         if self.sorted == self.order.len() {
             return;
         }
-        self.slots.sort_places(&mut self.order);
+        let came = self.order.len() - self.sorted;
+        if came <= MOST_TO_INSERT && came <= self.sorted / SORTED_FOR_EACH {
+            self.slots.insert_places(&mut self.order, self.sorted);
+        } else {
+            self.slots.sort_places(&mut self.order);
+        }
         self.sorted = self.order.len();
     }
 
