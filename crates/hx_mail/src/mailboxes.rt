@@ -105,6 +105,7 @@ impl<'a> Mailbox<'a> {
 
     /// Puts an envelope under the port's name. It comes back only where the box was full at a
     /// moment of the call.
+    #[inline(always)]
     pub fn put<R: Wait>(&self, rt: &R, envelope: Envelope, port: &mut Port) -> Result<(), Full>
         requires port { IsPortOf self.now port.old }
         requires addressed { IsAddressed self.now.names envelope }
@@ -144,6 +145,7 @@ impl<'a> Mailbox<'a> {
 
     /// Takes the oldest envelope under the port's name, with the name under which it was put.
     /// `None` comes only where the box was empty at a moment of the call.
+    #[inline(always)]
     pub fn take<R: Wait>(&self, rt: &R, port: &mut Port) -> Option<Letter>
         requires port { IsPortOf self.now port.old }
         ensures port { IsPortOf self.now port.new }
