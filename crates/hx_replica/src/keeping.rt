@@ -185,7 +185,7 @@ fn mark_end(context: &SlotContext, store: &mut Store, i: usize, k: u32)
     ensures ordered { store.new.ordered ≡ true }
 {
     if let Some(version) = end_at(context, store, i, k) {
-        mark(store, i, version);
+        mark_acknowledged(store, i, version);
     }
 }
 
@@ -207,7 +207,7 @@ fn end_of_slot(context: &SlotContext, slot: &Slot, k: u32) -> Option<Version>
 }
 
 /// Of the slot with this number a pending version is acknowledged.
-fn mark(store: &mut Store, i: usize, version: Version)
+fn mark_acknowledged(store: &mut Store, i: usize, version: Version)
     requires number { i < length store.old.states }
     requires pending { IsPendingAt i version store.old.states }
     requires ordered { store.old.ordered ≡ true }

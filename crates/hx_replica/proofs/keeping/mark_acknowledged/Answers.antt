@@ -1,7 +1,7 @@
 use Rattle.std.proofs.Common.{refl, ◌∙◌}
 use Rattle.hx_store.specs.Stores.{marked_at}
 use Rattle.hx_replica.proofs.Kept.{pending_there, slot_there, step_at}
-use Rattle.hx_replica.proofs.keeping.mark.Goals as goal
+use Rattle.hx_replica.proofs.keeping.mark_acknowledged.Goals as goal
 
 pub mark_acknowledged-requires-clause-pending : goal.mark_acknowledged-requires-clause-pending
 mark_acknowledged-requires-clause-pending c = pending_there c.args.store.now.states c.args.i c.args.version _ c.requires.pending c.place_at-place.ensures.slot
