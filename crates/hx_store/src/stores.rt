@@ -22,8 +22,8 @@ use std::alloc::Global;
 use std::collections::VecDeque;
 use std::marker::Model;
 
-/// Places that came since go one by one to where they belong among those in order where these are so
-/// many times as many, and else the whole order is sorted. It is this project's choice.
+/// Places that came since go one by one to where they belong among those in order where these are
+/// so many times as many, and else the whole order is sorted. It is this project's choice.
 const SORTED_FOR_EACH: usize = 4;
 
 /// More new places than this are sorted with the whole order too: each that is put among the others
@@ -269,8 +269,8 @@ impl Store {
         self.slots.reserve_at(alloc, place, n)
     }
 
-    /// The key at a place has a slot from now on. A new slot goes to the end of the order, from where
-    /// [`Store::sort_order`] puts it where it belongs. It takes no memory.
+    /// The key at a place has a slot from now on. A new slot goes to the end of the order, from
+    /// where [`Store::sort_order`] puts it where it belongs. It takes no memory.
     pub fn ensure_slot(&mut self, place: usize)
         requires { place < length self.old.rooms }
         ensures region { self.new.region ≡ self.old.region }

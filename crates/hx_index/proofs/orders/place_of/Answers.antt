@@ -14,7 +14,7 @@ loop-low-preserved-then-is_before c =
     let low = c.loop-low.low in let high = c.loop-low.high in
     let less = c.loop-low-test.true in
     between-above (stands_before rows c.args.attribute c.args.id) order parted low high (low + (high - low) / 2) c.loop-low.invariant
-        (omega arith) (omega (arith, less)) (sym c.is_before.ensures ∙ c.if-is_before.true)
+    (omega arith) (omega (arith, less)) (sym c.is_before.ensures ∙ c.if-is_before.true)
 
 pub loop-low-preserved : goal.loop-low-preserved
 loop-low-preserved c =
@@ -24,7 +24,7 @@ loop-low-preserved c =
     let low = c.loop-low.low in let high = c.loop-low.high in
     let less = c.loop-low-test.true in
     between-below (stands_before rows c.args.attribute c.args.id) order parted low high (low + (high - low) / 2) c.loop-low.invariant
-        (omega arith) (omega (arith, less)) (sym c.is_before.ensures ∙ c.if-is_before.false)
+    (omega arith) (omega (arith, less)) (sym c.is_before.ensures ∙ c.if-is_before.false)
 
 pub returns : goal.returns
 returns c =
@@ -33,4 +33,4 @@ returns c =
     let high = c.loop-low-test.false in
     let within = between.within in let ends = between.ends in
     split-at (stands_before rows c.args.attribute c.args.id) c.loop-low.low c.args.order.now (omega (arith, within, ends)) between.before
-        (λ i from there. between.from i (omega (arith, high, from)) there)
+    (λ i from there. between.from i (omega (arith, high, from)) there)
