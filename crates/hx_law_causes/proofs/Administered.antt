@@ -4,14 +4,16 @@ use Rattle.hx_law_lemmas.proofs.Lemmas.Vocabulary.{cond-true, Config, config_not
 use Rattle.hx_law_lemmas.proofs.Lemmas.Vocabulary.{CoordinatorState, CoordinatorStep, Entry, Epoch, eq-eqb, eqb, false, false≢true, first_some, inl, inr}
 use Rattle.hx_law_lemmas.proofs.Lemmas.Vocabulary.{is_fulfilled, is_lost, IsIn, IsRun, IsScript, issued_after, length, List, lists_ready, lt-ltb, ltb, made_of}
 use Rattle.hx_law_lemmas.proofs.Lemmas.Vocabulary.{MayTake, members_of, Message, ne_eqb, None, Note, numbered, Op, Option, Output, Post, post, posts_of, refl}
-use Rattle.hx_law_lemmas.proofs.Lemmas.Vocabulary.{Script, Server, server_of, Session, session_after, session_of, SessionId, SessionState, Some, Stop, subst}
-use Rattle.hx_law_lemmas.proofs.Lemmas.Vocabulary.{sym, true, ℕ, ◌+◌, ◌∙◌, ◌∷◌, ◌≡◌, ◌≤◌}
+use Rattle.hx_law_lemmas.proofs.Lemmas.Vocabulary.{Script, Server, Session, session_after, session_of, SessionId, SessionState, Some, Stop, subst, sym, true}
+use Rattle.hx_law_lemmas.proofs.Lemmas.Vocabulary.{true≢false, ℕ, ◌+◌, ◌∙◌, ◌∷◌, ◌≡◌, ◌≤◌}
+use Rattle.hx_types.specs.Posts.{is_coordinator, is_session_actor}
 use Rattle.hx_types.specs.declared.calls.Answer.TheVariants as an_answer
 use Rattle.hx_types.specs.declared.messages.Message.TheVariants as a_message
 use Rattle.hx_types.specs.declared.traces.Note.TheVariants as a_note
 use Rattle.hx_law_lemmas.proofs.Lemmas.{AsksOf as Asks, SessionDoes, Starts, session-does, in-append, BeganAt, arrived}
-use Rattle.hx_law_epochs.proofs.Lemmas.{IsKnown, Notes, epochs-run, keeps-entry, known-after, known-still}
-use Rattle.hx_law_chains.proofs.Lemmas.{OfCoordinator, coordinator-plain, AnySnapshot, OfServer, server-plain, named}
+use Rattle.hx_law_epochs.specs.Senders.{IsOf}
+use Rattle.hx_law_epochs.proofs.Lemmas.{IsKnown, Notes, entry-posts, epochs-run, keeps-entry, known-after, known-still}
+use Rattle.hx_law_chains.proofs.Lemmas.{named}
 use Rattle.hx_law_searches.proofs.Lemmas.{step_is}
 use Rattle.hx_law_causes.proofs.Coordinating.{Answers, AsksFor, ByStep, Given, Spoken, caller_of, coordinated, spoken-map, to-session}
 use Rattle.hx_law_causes.proofs.Outcomes.{Judged, administers_to, not_listed}
@@ -153,31 +155,38 @@ module _ (script : Script) (valid : IsScript script) (older : List Entry) (befor
       let r = before.running u (sym (ap (λ (s : SessionState). s.under_way) e) ∙ w) in
       (r.0, subst (λ k. BeganAt (x ∷ older) (record { session = u; number = k }) r.0) (sym (ap (λ (s : SessionState). s.begun) e)) (inr r.1))
 
-  -- ---- an entry of a server
-  server-asks : (m : Message) → OfServer AnySnapshot m → (from to : Actor) → AsksFor (Asked script (x ∷ older)) (OutcomeCause script (x ∷ older)) from m × Spoken (OutcomeCause script (x ∷ older)) to m
-  server-asks (a_message.StopServer number server) h from to = absurd h
-  server-asks (a_message.AddReplica number server g) h from to = absurd h
-  server-asks (a_message.Outcome number answer) h from to = absurd h
-  server-asks other h from to = (tt, tt)
+  -- whoever is no session asks for nothing
+  others-ask : (a : Actor) → is_session_actor a ≡ false → (from : Actor) (m : Message) → IsOf a m
+      → AsksFor (Asked script (x ∷ older)) (OutcomeCause script (x ∷ older)) from m
+  others-ask (Session u) n from m h = absurd (true≢false n)
+  others-ask other n from (a_message.StopServer number server) h = absurd h
+  others-ask other n from (a_message.AddReplica number server g) h = absurd h
+  others-ask other n from m h = tt
 
+  -- whoever isn't the coordinator tells no outcome
+  others-tell : (a : Actor) → is_coordinator a ≡ false → (to : Actor) (m : Message) → IsOf a m → Spoken (OutcomeCause script (x ∷ older)) to m
+  others-tell Coordinator n to m h = absurd (true≢false n)
+  others-tell other n to (a_message.Outcome number answer) h = absurd h
+  others-tell other n to m h = tt
+
+  -- ---- an entry of a server
   of-server : (i : _) → x.actor ≡ Server i → Administers script (x ∷ older)
   of-server i acts =
-      let made : made_of script older (Server i) x.input ≡ record { posts = x.outputs; notes = x.notes } = subst (λ (a : Actor). made_of script older a x.input ≡ record { posts = x.outputs; notes = x.notes }) acts run.0.made in
-      let plain = server-plain AnySnapshot script.space (server_of script i older) x.input (λ r j. tt) (λ g. tt) in
       elsewhere
       (λ u. rests u (ap (λ (a : Actor). session_after script.space u a x.input (session_of script u older)) acts))
       (ap (λ (a : Actor). coordinator_after a x.input (coordinator_of script older)) acts)
-      (λ p j. server-asks p.message (plain.posts p (subst (λ (ps : List Post). IsIn p ps) (sym (ap (λ (m : Output). m.posts) made)) j)) p.from p.to)
+      (λ p j. let h = entry-posts script older x run.0 (Server i) acts p j in
+      (others-ask (Server i) refl p.from p.message h, others-tell (Server i) refl p.to p.message h))
 
   -- ---- an entry of a session
-  session-asks : (u : SessionId) (s : SessionState) → s.calls ≡ calls_of script u → (n : ℕ) × BeganAt (x ∷ older) (record { session = u; number = s.begun }) n → (m : Message) → Asks s m
-      → (to : Actor) → AsksFor (Asked script (x ∷ older)) (OutcomeCause script (x ∷ older)) (Session u) m × Spoken (OutcomeCause script (x ∷ older)) to m
-  session-asks u s e b (a_message.StopServer number server) h to =
-      (subst (λ k. Asked script (x ∷ older) (record { session = u; number = k }) (Stop server)) (sym h.0) (ap (λ (l : List Op). numbered l s.begun) (sym e) ∙ h.1, b), tt)
-  session-asks u s e b (a_message.AddReplica number server g) h to =
-      (subst (λ k. Asked script (x ∷ older) (record { session = u; number = k }) (Add server g)) (sym h.0) (ap (λ (l : List Op). numbered l s.begun) (sym e) ∙ h.1, b), tt)
-  session-asks u s e b (a_message.Outcome number answer) h to = absurd h
-  session-asks u s e b other h to = (tt, tt)
+  session-asks : (u : SessionId) (s : SessionState) → s.calls ≡ calls_of script u
+      → (n : ℕ) × BeganAt (x ∷ older) (record { session = u; number = s.begun }) n → (m : Message) → Asks s m
+      → AsksFor (Asked script (x ∷ older)) (OutcomeCause script (x ∷ older)) (Session u) m
+  session-asks u s e b (a_message.StopServer number server) h =
+      subst (λ k. Asked script (x ∷ older) (record { session = u; number = k }) (Stop server)) (sym h.0) (ap (λ l. numbered l s.begun) (sym e) ∙ h.1, b)
+  session-asks u s e b (a_message.AddReplica number server g) h =
+      subst (λ k. Asked script (x ∷ older) (record { session = u; number = k }) (Add server g)) (sym h.0) (ap (λ l. numbered l s.begun) (sym e) ∙ h.1, b)
+  session-asks u s e b other h = tt
 
   -- what the step of the session does, with the posts and notes of the entry
   does-here : (u : SessionId) → x.actor ≡ Session u → SessionDoes script.space x.input (session_of script u older) (record { state = session_of script u (x ∷ older); posts = x.outputs; notes = x.notes })
@@ -201,16 +210,13 @@ module _ (script : Script) (valid : IsScript script) (older : List Entry) (befor
         | inr n ↦ rests v (ap (λ (a : Actor). session_after script.space v a x.input (session_of script v older)) acts ∙ cond-false (eqb u.0 v.0) _ (session_of script v older) (ne_eqb u.0 v.0 n)) w
       ])
       (ap (λ (a : Actor). coordinator_after a x.input (coordinator_of script older)) acts)
-      (λ p j. (let h = does.goes.posts p j in
-      subst (λ (a : Actor). AsksFor (Asked script (x ∷ older)) (OutcomeCause script (x ∷ older)) a p.message × Spoken (OutcomeCause script (x ∷ older)) p.to p.message) (sym (h.0 ∙ ap Session (does.id ∙ name.0)))
-      (session-asks u does.mid (does.calls ∙ name.1) (mid-began u acts does.mid does.rest does.starts (does.goes.running p j)) p.message h.1 p.to)))
+      (λ p j. let h = does.goes.posts p j in (
+        subst (λ (a : Actor). AsksFor (Asked script (x ∷ older)) (OutcomeCause script (x ∷ older)) a p.message) (sym (h.0 ∙ ap Session (does.id ∙ name.0)))
+            (session-asks u does.mid (does.calls ∙ name.1) (mid-began u acts does.mid does.rest does.starts (does.goes.running p j)) p.message h.1),
+        others-tell (Session u) refl p.to p.message (entry-posts script older x run.0 (Session u) acts p j),
+      ))
 
   -- ---- an entry of the coordinator
-  coordinator-asks : (m : Message) → OfCoordinator m → (from : Actor) → AsksFor (Asked script (x ∷ older)) (OutcomeCause script (x ∷ older)) from m
-  coordinator-asks (a_message.StopServer number server) h from = absurd h
-  coordinator-asks (a_message.AddReplica number server g) h from = absurd h
-  coordinator-asks other h from = tt
-
   of-coordinator : x.actor ≡ Coordinator → Administers script (x ∷ older)
   of-coordinator acts =
       let made : made_of script older Coordinator x.input ≡ record { posts = x.outputs; notes = x.notes } = subst (λ (a : Actor). made_of script older a x.input ≡ record { posts = x.outputs; notes = x.notes }) acts run.0.made in
@@ -219,13 +225,15 @@ module _ (script : Script) (valid : IsScript script) (older : List Entry) (befor
       let state : coordinator_of script (x ∷ older) ≡ step.state = ap (λ (a : Actor). coordinator_after a x.input (coordinator_of script older)) acts in
       let does = coordinated (Asked script older) (OutcomeCause script older) (coordinator_of script older) x.input before.answers
       (λ id from m e. before.asks (post from Coordinator m) (arrived id older (post from Coordinator m) (subst (MayTake older Coordinator) e may))) in
-      let plain = coordinator-plain (coordinator_of script older) x.input in
       let out : (p : Post) → IsIn p x.outputs → IsIn p step.posts = λ p j. subst (λ (ps : List Post). IsIn p ps) (sym (ap (λ (m : Output). m.posts) made)) j in
       let given : (c : Caller) (a : Answer) → Given (Asked script older) (OutcomeCause script older) (ByStep (Asked script older) (OutcomeCause script older) (coordinator_of script older) step) c a → OutcomeCause script (x ∷ older) c a =
       λ c a. by step state (sym (ap (λ (m : Output). m.notes) made)) c a in
       record {
         running = λ u. rests u (ap (λ (a : Actor). session_after script.space u a x.input (session_of script u older)) acts);
-        asks = λ p i. elim (in-append x.outputs (posts_of older) p i) [ inl j ↦ coordinator-asks p.message (plain.posts p (out p j)) p.from | inr j ↦ asks-still p.from p.message (before.asks p j) ];
+        asks = λ p i. elim (in-append x.outputs (posts_of older) p i) [
+          | inl j ↦ others-ask Coordinator refl p.from p.message (entry-posts script older x run.0 Coordinator acts p j)
+          | inr j ↦ asks-still p.from p.message (before.asks p j)
+        ];
         answers = subst (Answers (Asked script (x ∷ older)) (OutcomeCause script (x ∷ older))) (sym state) (record {
           todo = λ t i. asked-still t.caller t.op (does.todo t i);
           newest = λ n i a e. given (caller_of n) a (does.newest n i a e);

@@ -1,6 +1,6 @@
 -- Every run: a doubt that a server told was told by the key's leader while a version was held up by a region that is lost in a known configuration.
 use Rattle.std.proofs.Common.{◌≡◌, ℕ, inl, inr, true, false, List, [], ◌∷◌, Some, refl, sym, ap, subst}
-use Rattle.hx_model.specs.Types.{Actor, Caller, Config, Coordinator, Entry, Epoch, Op, Post, RegionId, Script, Server, ServerId, Session, Version}
+use Rattle.hx_model.specs.Types.{Actor, Caller, Config, Entry, Epoch, Op, Post, RegionId, Script, Server, ServerId, Session, Version}
 use Rattle.hx_types.specs.declared.calls.Answer.TheVariants as an_answer
 use Rattle.hx_types.specs.declared.messages.Message.TheVariants as a_message
 use Rattle.hx_types.specs.Words.{IsIn, post}
@@ -8,12 +8,11 @@ use Rattle.hx_types.specs.Configs.{is_lost}
 use Rattle.hx_types.specs.Effects.{key_of}
 use Rattle.hx_types.specs.Fitting.{IsScript, call_of}
 use Rattle.hx_model.specs.Causes.{AnsweredCall, IsDoubtTold}
-use Rattle.hx_model.specs.Runs.{IsRun, MayTake, Output, coordinator_of, has_halted, is_actor, made_of, server_of, session_of}
+use Rattle.hx_model.specs.Runs.{IsRun, MayTake, Output, has_halted, is_actor, server_of}
 use Rattle.hx_model.specs.ServerSteps.{ServerState}
 use Rattle.hx_law_lemmas.specs.Words.{posts_of}
-use Rattle.hx_law_lemmas.proofs.Lemmas.{in-append, session_turn}
-use Rattle.hx_law_epochs.proofs.Lemmas.{IsKnown, epochs-run, known-still, server-does-well}
-use Rattle.hx_law_chains.proofs.CoordinatorPosts.{coordinator-plain}
+use Rattle.hx_law_lemmas.proofs.Lemmas.{in-append}
+use Rattle.hx_law_epochs.proofs.Lemmas.{IsKnown, entry-posts, epochs-run, known-still, server-does-well}
 use Rattle.hx_law_chains.proofs.Doubts.{HeldUp, Says}
 use Rattle.hx_law_chains.proofs.Entered.{made-by, state-by}
 use Rattle.hx_law_chains.proofs.Runs.{posted-run}
@@ -83,13 +82,9 @@ module _ (script : Script) (valid : IsScript script) where
         → Doubtful (call_at (x ∷ older)) key g epoch
     entry-doubtful x older run from j = by x.actor refl
       where
-        here : (a : Actor) → x.actor ≡ a → IsIn (doubt from) (made_of script older a x.input).posts
-        here a e = subst (λ (ps : List Post). IsIn (doubt from) ps) (sym (ap (λ (m : Output). m.posts) (made-by script x older run a e))) j
-
         by : (a : Actor) → x.actor ≡ a → Doubtful (call_at (x ∷ older)) key g epoch
         by (Server i) e = here-doubtful x older run i e from j
-        by Coordinator e = absurd ((coordinator-plain (coordinator_of script older) x.input).posts (doubt from) (here Coordinator e))
-        by (Session u) e = absurd (((session_turn script.space x.input (session_of script u older)).turn.says (doubt from) (here (Session u) e)).1)
+        by other e = absurd (entry-posts script older x run.0 other e (doubt from) j)
 
     -- every run
     run-doubtful : (t : List Entry) → IsRun script t → (from : Actor) → IsIn (doubt from) (posts_of t) → Doubtful (call_at t) key g epoch

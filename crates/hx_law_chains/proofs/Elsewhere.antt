@@ -1,26 +1,28 @@
 -- An entry of the coordinator or of a session keeps all keys: sessions ask, and the coordinator may issue the next configuration.
 use Rattle.std.proofs.Common.{◌≡◌, ℕ, ◌<◌, inl, inr, false, List, ◌∷◌, ◌++◌, Some, refl, sym, ap, ◌∙◌, subst, arith}
-use Rattle.hx_model.specs.Types.{Actor, Config, Coordinator, Entry, Input, Message, Note, Op, Post, RegionId, Script, Server, ServerId, Session, SessionId}
-use Rattle.hx_model.specs.Types.{Update}
+use Rattle.std.proofs.lemmas.Bool.{true≢false}
+use Rattle.hx_model.specs.Types.{Actor, Config, Coordinator, Entry, Epoch, Input, Message, Note, Op, Post, RegionId, Script, Server, ServerId, Session}
+use Rattle.hx_model.specs.Types.{SessionId, Update}
 use Rattle.hx_types.specs.declared.messages.Message.TheVariants as a_message
 use Rattle.hx_types.specs.Words.{IsIn, post}
 use Rattle.hx_types.specs.Configs.{members_of}
 use Rattle.hx_types.specs.Fitting.{IsScript, call_of, calls_of, numbered}
+use Rattle.hx_types.specs.Posts.{is_server_actor}
 use Rattle.hx_types.specs.Spaces.{IsSpace}
 use Rattle.hx_model.specs.Lines.{upto}
 use Rattle.hx_model.specs.Histories.{line_notes, line_of}
 use Rattle.hx_model.specs.Runs.{IsStep, Output, coordinator_after, coordinator_of, made_of, server_after, server_of, session_of}
 use Rattle.hx_model.specs.CoordinatorSteps.{coordinator_step}
-use Rattle.hx_model.specs.SessionSteps.{SessionState, session_step}
+use Rattle.hx_model.specs.SessionSteps.{session_step}
 use Rattle.hx_model.specs.Slots.{KeyState}
 use Rattle.hx_model.specs.ServerSteps.{state_in}
 use Rattle.hx_law_lemmas.specs.Words.{noted, posts_of, view}
 use Rattle.hx_law_lemmas.proofs.Lemmas.{Differ, SaysOf, in-append, in_right, keeps_lines, session_turn, started, started_same}
 use Rattle.hx_law_epochs.specs.Epochs.{FollowsOn, order}
+use Rattle.hx_law_epochs.specs.Senders.{IsOf, IsOfCoordinator}
 use Rattle.hx_law_epochs.proofs.Lemmas.{EpochsRun, GrownOut, IsKnown, IsOrderly, Keeps, ListsServers, Real, Says, Widens, grown-out-next, keeps-entry}
-use Rattle.hx_law_epochs.proofs.Lemmas.{orderly-lists, widens}
+use Rattle.hx_law_epochs.proofs.Lemmas.{Issues, coordinator-plain, orderly-lists, session-posts, widens}
 use Rattle.hx_law_chains.proofs.Calm.{calm-stays}
-use Rattle.hx_law_chains.proofs.CoordinatorPosts.{Issues, OfCoordinator, coordinator-plain}
 use Rattle.hx_law_chains.proofs.Holders.{NoSnap, Up, under-way}
 use Rattle.hx_law_chains.proofs.Issuing.{stays_issued}
 use Rattle.hx_law_chains.proofs.Named.{named}
@@ -68,25 +70,17 @@ module _ (e : Scene) (valid : IsSpace e.script.space) (c : Config) (new : List P
 abbrev IsQuiet : Script → Actor → Actor → Message → Type 1
 IsQuiet script from to m = NoSnap m × ((w : World) → Valid script w from to m)
 
--- the coordinator posts no snapshot, and what it posts says nothing of keys
-coordinator-quiet : (script : Script) (from to : Actor) (m : Message) → OfCoordinator m → IsQuiet script from to m
-coordinator-quiet script from to (a_message.Install config) h = (tt, λ w. tt)
-coordinator-quiet script from to a_message.Die h = (tt, λ w. tt)
-coordinator-quiet script from to (a_message.Outcome number answer) h = (tt, λ w. tt)
-coordinator-quiet script from to other h = absurd h
-
--- sessions post no snapshots, and call as the script says
-session-quiet : (script : Script) (u : SessionId) (s : SessionState) (sent way : _) → s.calls ≡ calls_of script u → (to : Actor) (m : Message)
-    → SaysOf s sent way m → IsQuiet script (Session u) to m
-session-quiet script u s sent way e to (a_message.Call epoch number op) h = (
-  tt,
-  λ w. subst (λ k. call_of script (record { session = u; number = k }) ≡ Some op) (sym h.0) (ap (λ (l : List Op). numbered l s.begun) (sym e) ∙ h.2),
-)
-session-quiet script u s sent way e to (a_message.Ask epoch number g terms) h = (tt, λ w. tt)
-session-quiet script u s sent way e to (a_message.StopServer number server) h = (tt, λ w. tt)
-session-quiet script u s sent way e to (a_message.AddReplica number server g) h = (tt, λ w. tt)
-session-quiet script u s sent way e to (a_message.Poll epoch) h = (tt, λ w. tt)
-session-quiet script u s sent way e to other h = absurd h
+-- whoever is no server posts no snapshot, and says nothing of keys but in calls
+others-quiet : (script : Script) (a : Actor) → is_server_actor a ≡ false → (from to : Actor) (m : Message) → IsOf a m
+    → ((epoch : Epoch) (number : ℕ) (op : Op) → m ≡ a_message.Call epoch number op → (w : World) → Valid script w from to (a_message.Call epoch number op))
+    → IsQuiet script from to m
+others-quiet script (Server s) n from to m h f = absurd (true≢false n)
+others-quiet script other n from to (a_message.Call epoch number op) h f = (tt, f epoch number op refl)
+others-quiet script other n from to (a_message.Reply number version answer) h f = absurd h
+others-quiet script other n from to (a_message.Update epoch g u) h f = absurd h
+others-quiet script other n from to (a_message.Ack epoch g by key version) h f = absurd h
+others-quiet script other n from to (a_message.Snap epoch g snapshot pending) h f = absurd h
+others-quiet script other n from to m h f = (tt, λ w. tt)
 
 -- where configurations alone are noted each line stays
 pub issued-line : (key : List ℕ) (line : List Update) (notes : List Note) → Issues notes → line_notes key line notes ≡ line
@@ -173,7 +167,8 @@ module _ (script : Script) (valid : IsScript script) (older : List Entry) (epoch
   coordinator-after-kept input widens keeps =
       let step = coordinator_step (coordinator_of script older) input in
       let plain = coordinator-plain (coordinator_of script older) input in
-      let f : AreQuiet step.posts = λ p i. coordinator-quiet script p.from p.to p.message (plain.posts p i) in
+      let f : AreQuiet step.posts = λ p i. others-quiet script Coordinator refl p.from p.to p.message (plain.posts p i)
+      (λ epoch number op e. absurd (subst IsOfCoordinator e (plain.posts p i))) in
       with-lines Coordinator input step.posts step.notes (λ key. issued-line key (line_of key older) step.notes plain.notes)
       (elim keeps.notes [
         | inl (e, n) ↦ subst (λ (c : Config). KeptIn (world (record old { config = c; posts = step.posts ++ posts_of older; known = known2 })) step.posts)
@@ -194,7 +189,9 @@ module _ (script : Script) (valid : IsScript script) (older : List Entry) (epoch
       let calls : mid.calls ≡ calls_of script u = (started_same turn.start s).1 ∙ (named script older u).1 in
       let f : AreQuiet step.posts =
       λ p i. let r = turn.turn.says p i in subst (λ (a : Actor). IsQuiet script a p.to p.message) (sym (r.0 ∙ ap Session id))
-      (session-quiet script u mid step.state.sent step.state.under_way calls p.to p.message r.1) in
+      (others-quiet script (Session u) refl (Session u) p.to p.message (session-posts script.space s input p i)
+      (λ epoch number op e w. let c = subst (SaysOf mid step.state.sent step.state.under_way) e r.1 in
+      subst (λ k. call_of script (record { session = u; number = k }) ≡ Some op) (sym c.0) (ap (λ (l : List Op). numbered l mid.begun) (sym calls) ∙ c.2))) in
       with-lines (Session u) input step.posts step.notes (λ key. keeps_lines input s step turn key (line_of key older)) (calm-kept widens step.posts f)
 
   -- an entry of whoever is no server

@@ -36,7 +36,7 @@ use Rattle.hx_law_chains.proofs.Serving.{silent-served, st, world}
 use Rattle.hx_law_chains.proofs.SlotPosts.{each-one, each-under}
 use Rattle.hx_law_chains.proofs.Snapped.{snapped-served}
 use Rattle.hx_law_chains.proofs.Snapshots.{Carries, Sends, replica-sent}
-use Rattle.hx_law_chains.proofs.Table.{Rows, by-input, snap_row}
+use Rattle.hx_law_epochs.proofs.Lemmas.{Rows, by-input, snap_row}
 use Rattle.hx_law_chains.proofs.Ticks.{tick-served}
 use Rattle.hx_law_chains.proofs.World.{AckOk, KeyOk, Ordered, Stays, UpdateOk, Valid, lawful-sorted, stays-then}
 

@@ -1,5 +1,6 @@
 -- What proofs of other crates may cite. Declares nothing.
-pub use Rattle.hx_law_chains.proofs.CoordinatorPosts.{Issues, OfCoordinator, coordinator-plain}
+pub use Rattle.hx_law_epochs.specs.Senders.{IsOfCoordinator as OfCoordinator}
+pub use Rattle.hx_law_epochs.proofs.Lemmas.{AnySnapshot, AssignsOne, Issues, OfServer, coordinator-plain, server-plain}
 pub use Rattle.hx_law_chains.proofs.Doubts.{lost-place}
 pub use Rattle.hx_law_chains.proofs.DoubtsTold.{doubts-told}
 pub use Rattle.hx_law_chains.proofs.Elsewhere.{issued-line}
@@ -12,7 +13,6 @@ pub use Rattle.hx_law_chains.proofs.Moves.{Own}
 pub use Rattle.hx_law_chains.proofs.Named.{AreNamed, named}
 pub use Rattle.hx_law_chains.proofs.Posts.{Seat}
 pub use Rattle.hx_law_chains.proofs.Runs.{chained-run, fixed-run, late-run, lines-run}
-pub use Rattle.hx_law_chains.proofs.ServerPosts.{AnySnapshot, AssignsOne, OfServer, server-plain}
 pub use Rattle.hx_law_chains.proofs.Serving.{Scene, scene, world}
 pub use Rattle.hx_law_chains.proofs.Snapshots.{replica-ascends, replica-sent, snapshots-kept}
 pub use Rattle.hx_law_chains.proofs.World.{Along, Chained, Fixed, KeyOk, Law, Lawful, Told, World, around, law-of, lawful-made, lawful-numbered, lawful-sorted}

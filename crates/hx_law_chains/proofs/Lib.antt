@@ -8,8 +8,6 @@ pub mod Keys
 pub mod Joining
 pub mod Issuing
 pub mod Renewing
-pub mod CoordinatorPosts
-pub mod ServerPosts
 pub mod Snapshots
 pub mod SnapshotsTaken
 pub mod Posts
@@ -25,7 +23,6 @@ pub mod Heard
 pub mod Serving
 pub mod Telling
 pub mod SlotPosts
-pub mod Table
 pub mod Entered
 pub mod Saying
 pub mod Slotted

@@ -14,7 +14,7 @@ use Rattle.hx_law_lemmas.proofs.Lemmas.{replica-found}
 use Rattle.hx_law_epochs.proofs.Lemmas.{epochs-run, installed-is, replica_for-is}
 use Rattle.hx_law_chains.specs.Chains.{HearsNeighbour, IsDropped, RunsHearNeighbours}
 use Rattle.hx_law_chains.proofs.Entered.{made-by, state-by}
-use Rattle.hx_law_chains.proofs.Table.{snap_row}
+use Rattle.hx_law_epochs.proofs.Lemmas.{snap_row}
 
 -- the replica that takes messages for a region is of the region
 taken-region : (st : ServerState) (g : RegionId) (r : Replica) → replica_for st g ≡ Some r → r.region ≡ g

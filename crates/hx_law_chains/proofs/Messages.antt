@@ -1,11 +1,12 @@
 -- Updates and acknowledgements that a server hears by its own configuration, and calls that it takes as leader.
 use Rattle.std.proofs.Common.{◌≡◌, ℕ, ◌+◌, ◌-◌, ◌≤◌, ◌⊎◌, inl, inr, true, false, List, [], ◌∷◌, length, Option, None, Some, refl, sym, ap, ◌∙◌, subst, arith}
-use Rattle.std.proofs.Common.{leb}
-use Rattle.std.proofs.lemmas.Bool.{cases_Bool, cases_eq, cond-false, cond-true, cond_both, leb-true}
-use Rattle.hx_model.specs.Types.{At, Caller, Decision, Get, Note, Op, Post, RegionId, ServerId, Update, Version}
+use Rattle.std.proofs.Common.{eqb, leb}
+use Rattle.std.specs.Option.{option_map}
+use Rattle.std.proofs.lemmas.Bool.{cases_Bool, cases_eq, cond-false, cond-true, cond_both, eq-eqb, leb-true}
+use Rattle.hx_model.specs.Types.{At, Caller, Decision, Get, Note, Op, Place, Post, RegionId, ServerId, Space, Update, Version}
 use Rattle.hx_types.specs.declared.outcomes.Decision.TheVariants as a_decision
 use Rattle.hx_types.specs.declared.traces.Note.TheVariants as a_note
-use Rattle.hx_types.specs.Words.{IsIn, same_text}
+use Rattle.hx_types.specs.Words.{IsIn, same_region, same_text, when_some}
 use Rattle.hx_types.specs.Configs.{head_of, leads}
 use Rattle.hx_types.specs.Effects.{is_write, key_of}
 use Rattle.hx_types.specs.Fitting.{call_of}
@@ -13,11 +14,12 @@ use Rattle.hx_types.specs.Subspaces.{is_key_region}
 use Rattle.hx_model.specs.Lines.{line_object, upto}
 use Rattle.hx_model.specs.Leading.{StuckAt, decide, stuck_of}
 use Rattle.hx_model.specs.Neighbours.{region_at}
+use Rattle.hx_model.specs.Places.{key_place}
 use Rattle.hx_model.specs.Regions.{key_region}
 use Rattle.hx_model.specs.ServerSteps.{Replica, ServerState, SlotContext, SlotStep, accepting, ack_step, ack_to, at_slot, by_moves, by_posts, call_step}
 use Rattle.hx_model.specs.ServerSteps.{decided, doubt_in, get_answer, get_step, known_to, next_at, prev_at, replica_of, reply, state_in, update_step}
 use Rattle.hx_model.specs.ServerSteps.{waiting_doubt, with_slot, write_step}
-use Rattle.hx_model.specs.Slots.{KeyState, Move, acknowledged, follows, has_place, object_in, object_of, offered, pending_of, top_of}
+use Rattle.hx_model.specs.Slots.{KeyState, Move, acknowledged, follows, has_place, object_in, object_of, offered, pending_of, place_in, top_of}
 use Rattle.hx_model.proofs.Lemmas.{same_text_self}
 use Rattle.hx_model.specs.Causes.{pending_at}
 use Rattle.hx_law_lemmas.proofs.Lemmas as law_lemmas
@@ -43,6 +45,16 @@ use Rattle.hx_law_chains.proofs.SlotPosts.{each-acked, each-one}
 use Rattle.hx_law_chains.proofs.Slotted.{moving-served, posts-served, quiet-served}
 use Rattle.hx_law_chains.proofs.Telling.{pending-found, stuck-tells}
 use Rattle.hx_law_chains.proofs.World.{AckOk, Along, Law, Lawful, Told, UpdateOk, around, context, law-of, lawful-made, lawful-numbered, lawful-upto}
+
+-- an update whose first place is its key's follows there on the version before its own
+follows-first : (space : Space) (key : List ℕ) (n : ℕ) (u : Update) (rest : List Place) → u.places ≡ key_place space key u.object n ∷ rest
+    → follows (key_region space key) n u ≡ true
+follows-first space key n u rest e =
+    let g = key_region space key in
+    let is_next = λ (o : Option Place). when_some (option_map (λ (p : Place). p.after.0) o) false (λ after. eqb after n) in
+    ap (λ (ps : List Place). is_next (place_in g ps)) e
+    ∙ ap is_next (cond-true (same_region g g) (Some (key_place space key u.object n)) (place_in g rest) (eq-eqb g.0 g.0 refl))
+    ∙ eq-eqb n n refl
 
 module _ (stage : Stage) (r : Replica) (found : replica_of r.region stage.replicas ≡ Some r) (installed : r.installed ≡ true) where
   open stage use {scene as e, asked, valid, ordered as o, keys as ok, server as i, up as here}
@@ -283,8 +295,8 @@ module _ (stage : Stage) (r : Replica) (found : replica_of r.region stage.replic
 
       follow : follows (key_region e.script.space key) n u ≡ true
       follow =
-          ap (λ m. follows (key_region e.script.space key) m u) (sym count)
-          ∙ law_lemmas.follows-line e.script.space key us u (steady-lawful e.script valid e.known key line1 (u_law, us-law)).0.lawful
+          let law = (steady-lawful e.script valid e.known key line1 (u_law, us-law)).0.lawful in
+          ap (λ m. follows (key_region e.script.space key) m u) (sym count) ∙ follows-first e.script.space key (length us) u law.rest law.places
 
       more-now : More n line (noted e.line notes key)
       more-now = subst (More n line) (sym line-now)

@@ -2,28 +2,28 @@
 use Rattle.std.proofs.Common.{◌≡◌, ℕ, ◌+◌, ◌<◌, inl, inr, true, false, List, [], ◌∷◌, length, refl, sym, ap, subst}
 use Rattle.std.specs.Prelude.{⊤}
 use Rattle.std.specs.List.{AllByRecursion}
-use Rattle.std.proofs.lemmas.Bool.{cond_both, eqb-true}
+use Rattle.std.proofs.lemmas.Bool.{cond_both, eqb-true, true≢false}
 use Rattle.hx_model.specs.Types.{Actor, Coordinator, Deliver, Entry, Halt, Input, Kept, Message, Post, RegionId, Script, Server, ServerId, Session, Space, Tick}
 use Rattle.hx_model.specs.Types.{Update}
 use Rattle.hx_types.specs.declared.messages.Message.TheVariants as a_message
 use Rattle.hx_types.specs.Words.{IsIn, post, same_server, text_below}
 use Rattle.hx_types.specs.Fitting.{IsScript}
+use Rattle.hx_types.specs.Posts.{is_server_actor}
 use Rattle.hx_types.specs.Subspaces.{is_key_region}
 use Rattle.hx_model.specs.Holders.{snap_state}
-use Rattle.hx_model.specs.Runs.{IsRun, MayTake, Output, coordinator_of, made_of, server_after, server_of, session_of}
+use Rattle.hx_model.specs.Runs.{IsRun, MayTake, Output, server_after, server_of}
 use Rattle.hx_model.specs.ServerSteps.{Replica, ServerState, server_step}
-use Rattle.hx_model.specs.SessionSteps.{SessionState}
 use Rattle.hx_model.specs.Slots.{Forget, KeyState, moved, pending_of_all, snapshot_of, state_among}
 use Rattle.hx_law_lemmas.specs.Words.{posts_of}
-use Rattle.hx_law_lemmas.proofs.Lemmas.{Ascend, SaysOf, arrived, in-append, session_turn, started, state_key}
+use Rattle.hx_law_lemmas.proofs.Lemmas.{Ascend, arrived, in-append, state_key}
 use Rattle.hx_law_posts.proofs.Lemmas.{posts_stay_sound}
 use Rattle.hx_law_folds.specs.Folding.{CanBeSent, CanJoin, HasFloors, InputJoins, IsJoinableReplica, IsJoinableServer, IsSlotOf, KeysAscend, folded}
 use Rattle.hx_law_folds.specs.Laws.{SendsJoin}
 use Rattle.hx_law_folds.proofs.Lemmas.{all-weaker, among-marks, among-slot-turn, can-join, joinable-stays, keys-differ, sent, sent-ascends, sent-floors}
 use Rattle.hx_law_folds.proofs.Lemmas.{sound-joins, start-joinable}
-use Rattle.hx_law_chains.proofs.CoordinatorPosts.{OfCoordinator, coordinator-plain}
+use Rattle.hx_law_epochs.specs.Senders.{IsOf}
+use Rattle.hx_law_epochs.proofs.Lemmas.{OfServer, entry-posts, server-plain}
 use Rattle.hx_law_chains.proofs.Entered.{made-by}
-use Rattle.hx_law_chains.proofs.ServerPosts.{OfServer, server-plain}
 
 -- what holds of all holds of each
 pub each-of : {A : Type 0} (P : A → Type 0) (xs : List A) (x : A) → AllByRecursion P xs → IsIn x xs → P x
@@ -108,15 +108,11 @@ sends-floors space (a_message.Snap epoch g snapshot pending) h = subst (λ (ks :
     (sym h.snapshot_is) h.sends.floors
 sends-floors space other h = tt
 
--- the coordinator posts none
-coordinator-sends : (space : Space) (m : Message) → OfCoordinator m → Sends space m
-coordinator-sends space (a_message.Snap epoch g snapshot pending) h = absurd h
-coordinator-sends space other h = tt
-
--- nor do sessions
-session-sends : (space : Space) (s : SessionState) (sent way : _) (m : Message) → SaysOf s sent way m → Sends space m
-session-sends space s sent way (a_message.Snap epoch g snapshot pending) h = absurd h
-session-sends space s sent way other h = tt
+-- and whoever is no server posts none
+others-send : (space : Space) (a : Actor) → is_server_actor a ≡ false → (m : Message) → IsOf a m → Sends space m
+others-send space (Server s) n m h = absurd (true≢false n)
+others-send space other n (a_message.Snap epoch g snapshot pending) h = absurd h
+others-send space other n m h = tt
 
 module _ (script : Script) (valid : IsScript script) (older : List Entry) (x : Entry) (run : IsRun script (x ∷ older)) (had : SnapshotsKept script older) where
   -- what a server takes keeps its slots so
@@ -153,22 +149,14 @@ module _ (script : Script) (valid : IsScript script) (older : List Entry) (x : E
   sends-now : (p : Post) → IsIn p x.outputs → Sends script.space p.message
   sends-now p i = by x.actor refl
     where
-      here : (a : Actor) → x.actor ≡ a → IsIn p (made_of script older a x.input).posts
-      here a e = subst (λ (ps : List Post). IsIn p ps) (sym (ap (λ (m : Output). m.posts) (made-by script x older run a e))) i
-
       by : (a : Actor) → x.actor ≡ a → Sends script.space p.message
-      by Coordinator e = coordinator-sends script.space p.message
-          ((coordinator-plain (coordinator_of script older) x.input).posts p (here Coordinator e))
-      by (Session u) e =
-          let turn = session_turn script.space x.input (session_of script u older) in
-          session-sends script.space (started turn.start (session_of script u older)) _ _ p.message
-          (turn.turn.says p (here (Session u) e)).1
       by (Server j) e =
           server-sends script.space p.message
           ((server-plain (Carries script.space) script.space (server_of script j older) x.input
           (λ r k. replica-carries script.space r (each-of (IsJoinableReplica script.space) (server_of script j older).replicas r (had.joinable j) k))
           (λ g. replica-carries script.space (record { region = g; installed = false; states = [] }) (record { slots = tt; ascend = tt }))).posts p
-          (here (Server j) e))
+          (subst (λ (ps : List Post). IsIn p ps) (sym (ap (λ (m : Output). m.posts) (made-by script x older run (Server j) e))) i))
+      by other e = others-send script.space other refl p.message (entry-posts script older x run.0 other e p i)
 
   -- an entry keeps it
   snapshots-after : SnapshotsKept script (x ∷ older)

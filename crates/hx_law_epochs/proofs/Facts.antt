@@ -1,8 +1,10 @@
 -- What every run keeps of configurations, the coordinator, servers and the posts that speak of epochs.
-use Rattle.hx_law_lemmas.proofs.Lemmas.Vocabulary.{Actor, Config, Coordinator, Epoch, false, is_lost, IsIn, joiner_for, List, lists_ready, Message, Post}
-use Rattle.hx_law_lemmas.proofs.Lemmas.Vocabulary.{RegionId, Replica, replica_of, Server, ServerId, ServerState, Session, Some, true, ⊤, ◌≡◌, ◌≤◌}
+use Rattle.hx_law_lemmas.proofs.Lemmas.Vocabulary.{Actor, Config, Coordinator, Epoch, false, is_lost, IsIn, joiner_for, List, lists_ready, Message, Post, refl}
+use Rattle.hx_law_lemmas.proofs.Lemmas.Vocabulary.{RegionId, Replica, replica_of, Server, ServerId, ServerState, Session, Some, true, true≢false, ⊤, ◌≡◌, ◌≤◌}
 use Rattle.hx_types.specs.declared.messages.Message.TheVariants as a_message
+use Rattle.hx_types.specs.Posts.{is_server_actor}
 use Rattle.hx_law_epochs.specs.Epochs.{order}
+use Rattle.hx_law_epochs.specs.Senders.{IsOf}
 use Rattle.hx_law_epochs.proofs.Growing.{GrownOut}
 use Rattle.hx_law_epochs.proofs.Next.{IsOrderly}
 
@@ -42,6 +44,18 @@ module _ (S : ServerId → ServerState) (known : Config → Type 0) where
   Says newest from to (a_message.Update epoch g u) = FromServer from (λ s. NoLater newest (S s) epoch)
   Says newest from to (a_message.Ack epoch g by key version) = FromServer from (λ s. NoLater newest (S s) epoch)
   Says newest from to other = ⊤
+
+  -- whoever is no server says of epochs which configurations are known
+  pub others-say : (newest : Config) (a : Actor) → is_server_actor a ≡ false → (from to : Actor) (m : Message) → IsOf a m
+      → ((c : Config) → m ≡ a_message.Install c → known c) → Says newest from to m
+  others-say newest (Server s) n from to m h k = absurd (true≢false n)
+  others-say newest other n from to (a_message.Install c) h k = k c refl
+  others-say newest other n from to a_message.Gone h k = absurd h
+  others-say newest other n from to (a_message.Ready epoch g) h k = absurd h
+  others-say newest other n from to (a_message.Snap epoch g snapshot pending) h k = absurd h
+  others-say newest other n from to (a_message.Update epoch g u) h k = absurd h
+  others-say newest other n from to (a_message.Ack epoch g by key version) h k = absurd h
+  others-say newest other n from to m h k = tt
 
 -- what every run keeps of epochs: of the known configurations, of which each has grown out of those before, of the servers and of the posts
 pub record EpochsKept (Real : ServerId → Type 0) (S : ServerId → ServerState) (known : Config → Type 0) (c : Config) (posts : List Post) : Type 0 where

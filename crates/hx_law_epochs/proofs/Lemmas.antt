@@ -1,5 +1,6 @@
 -- What proofs of other crates may cite. Declares nothing.
 pub use Rattle.hx_law_lemmas.proofs.Lemmas.{head-some}
+pub use Rattle.hx_law_epochs.proofs.CoordinatorPosts.{Issues, coordinator-plain}
 pub use Rattle.hx_law_epochs.proofs.Facts.{EpochsKept, FromServer, Installed, NoLater, Says, SendsSnapshot}
 pub use Rattle.hx_law_epochs.proofs.Follows.{member-ready, ready-member, ready-not_lost}
 pub use Rattle.hx_law_epochs.proofs.Growing.{GrownOut, ListsServers, grown-out-next, grown-out-self, grown-out-trans, orderly-lists}
@@ -15,7 +16,11 @@ pub use Rattle.hx_law_epochs.proofs.Positions.{stands-cases, stands-irreflexive,
 pub use Rattle.hx_law_epochs.proofs.Replicas.{Shaped, Takes, installed-is, replica_for-is}
 pub use Rattle.hx_law_epochs.proofs.Runs.{EpochsRun, IsKnown, Keeps, Notes, Real, epochs-after, epochs-run, keeps-entry, known-after, known-still}
 pub use Rattle.hx_law_epochs.proofs.Runs.{server-does-well, widens}
+pub use Rattle.hx_law_epochs.proofs.Senders.{entry-posts, session-posts}
+pub use Rattle.hx_law_epochs.proofs.ServerPosts.{AnySnapshot, OfServer, server-plain}
 pub use Rattle.hx_law_epochs.proofs.Servers.{Adopts, Does, Stays, Tells}
 pub use Rattle.hx_law_epochs.proofs.Serving.{head-ready, ready-listed}
 pub use Rattle.hx_law_epochs.proofs.Sessions.{session-config}
+pub use Rattle.hx_law_epochs.proofs.SlotPosts.{AssignsOne}
+pub use Rattle.hx_law_epochs.proofs.Table.{Rows, by-input, snap_row}
 pub use Rattle.hx_law_epochs.proofs.Widening.{MayIssue, Widens, from-map}

@@ -5,11 +5,14 @@ pub mod Next
 pub mod Follows
 pub mod Makers
 pub mod Growing
+pub mod CoordinatorPosts
+pub mod SlotPosts
+pub mod Table
+pub mod ServerPosts
+pub mod Senders
 pub mod Facts
-pub mod Controls
 pub mod Widening
 pub mod Coordinator
-pub mod SlotPosts
 pub mod Replicas
 pub mod Servers
 pub mod Serving

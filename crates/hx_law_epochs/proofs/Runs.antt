@@ -9,19 +9,20 @@ use Rattle.hx_law_lemmas.proofs.Lemmas.Vocabulary.{server_step, ServerId, Server
 use Rattle.hx_law_lemmas.proofs.Lemmas.Vocabulary.{SessionState, Some, Space, subst, sym, true, ◌++◌, ◌+◌, ◌-◌, ◌<◌, ◌∙◌, ◌∷◌, ◌≡◌, ◌≤◌, ◌⊎◌}
 use Rattle.hx_types.specs.declared.messages.Message.TheVariants as a_message
 use Rattle.hx_types.specs.declared.traces.Note.TheVariants as a_note
-use Rattle.hx_law_lemmas.proofs.Lemmas.{below-in, before-first, in-below, in-map, map-in, all-ready, listed-in, started, arrived, members-differ}
-use Rattle.hx_law_lemmas.proofs.Lemmas.{session_turn, SaysOf}
+use Rattle.hx_law_lemmas.proofs.Lemmas.{below-in, before-first, in-below, in-map, map-in, all-ready, listed-in, arrived, members-differ}
 use Rattle.hx_law_posts.proofs.Lemmas.{first-of_space, member-server}
 use Rattle.hx_law_epochs.specs.Epochs.{FollowsOn, RunsOn, WasIssued}
-use Rattle.hx_law_epochs.proofs.Controls.{Controls}
+use Rattle.hx_law_epochs.specs.Senders.{IsOf, IsOfServer, IsOfSession}
 use Rattle.hx_law_epochs.proofs.Coordinator.{coordinates, coordinating-kept}
-use Rattle.hx_law_epochs.proofs.Facts.{EpochsKept, Says}
+use Rattle.hx_law_epochs.proofs.CoordinatorPosts.{Controls}
+use Rattle.hx_law_epochs.proofs.Facts.{EpochsKept, Says, others-say}
 use Rattle.hx_law_epochs.proofs.Growing.{GrownOut, grown-out-self}
 use Rattle.hx_law_epochs.proofs.Next.{IsOrderly}
 use Rattle.hx_law_epochs.proofs.Replicas.{Shaped, start-installed, start-shaped}
-use Rattle.hx_law_epochs.proofs.Servers.{Does, Tells, server-does}
+use Rattle.hx_law_epochs.proofs.Servers.{Does, server-does}
+use Rattle.hx_law_epochs.proofs.Senders.{server-posts, session-posts}
 use Rattle.hx_law_epochs.proofs.Serving.{leads-installed, ready-listed, serving-kept}
-use Rattle.hx_law_epochs.proofs.Sessions.{session-config, session-issues, session-says}
+use Rattle.hx_law_epochs.proofs.Sessions.{session-config, session-issues}
 use Rattle.hx_law_epochs.proofs.Widening.{Widens, more-kept, same-kept}
 
 -- a server of the script
@@ -152,10 +153,6 @@ module _ (script : Script) (valid : IsScript script) (older : List Entry) (kept 
 
   -- ---- a server
 
-  -- no Install is a server's
-  tells-installs : (s : ServerId) (st : ServerState) (to : Actor) (m : Message) → Tells s st to m → (config : Config) → m ≡ a_message.Install config → ⊥
-  tells-installs s st to m h config e = subst (Tells s st to) e h
-
   -- the servers after an entry of one
   server-here : (i : ServerId) (input : Input) → server_after script.space i (Server i) input (N i) ≡ (server_step script.space (N i) input).state
   server-here i input = cond-true (same_server i i) (server_step script.space (N i) input).state (N i) (eq-eqb i.0 i.0 refl)
@@ -182,7 +179,7 @@ module _ (script : Script) (valid : IsScript script) (older : List Entry) (kept 
             (λ t. (let e = eqb-true i.0 s.0 t in let q : i ≡ s = (λ k. record { 0 = e k }) in subst (λ (x : ServerId). Shaped x (server_step script.space (N x) input).state) q does.shaped))
             (λ t. kept.shaped s);
         notes = inl (refl, does.notes);
-        installs = λ p config j e. absurd (tells-installs i step.state p.to p.message (does.posts p j).1 config e);
+        installs = λ p config j e. absurd (subst IsOfServer e (server-posts script.space (N i) input p j));
       }
 
   -- ---- the coordinator
@@ -206,20 +203,17 @@ module _ (script : Script) (valid : IsScript script) (older : List Entry) (kept 
   session-keeps u input =
       let s = session_of script u older in
       let step = session_step script.space s input in
-      let turn = session_turn script.space input s in
-      let mid = started turn.start s in
+      let of : (p : Post) → IsIn p step.posts → IsOf (Session u) p.message = session-posts script.space s input in
       record {
         epochs = λ known w. same-kept (Real script) N (IsKnown script older) d.config (step.posts ++ posts_of older)
             (more-kept (Real script) N (IsKnown script older) d.config (posts_of older) kept.epochs step.posts
-            (λ p j. session-says N (IsKnown script older) d.config mid step.state.sent step.state.under_way p.from p.to p.message (turn.turn.says p j).1))
+            (λ p j. others-say N (IsKnown script older) d.config (Session u) refl p.from p.to p.message (of p j)
+            (λ c e. absurd (subst IsOfSession e (of p j)))))
             known d.config w refl;
         shaped = kept.shaped;
         notes = inl (refl, session-issues script.space input s);
-        installs = λ p config j e. absurd (no_install mid step.state.sent step.state.under_way config (subst (SaysOf mid step.state.sent step.state.under_way) e (turn.turn.says p j).1));
+        installs = λ p config j e. absurd (subst IsOfSession e (of p j));
       }
-    where
-      no_install : (mid : SessionState) (sent way : Bool) (config : Config) → SaysOf mid sent way (a_message.Install config) → ⊥
-      no_install mid sent way config h = h
 
   -- each entry
   keeps : (a : Actor) (input : Input) (ps : List Post) (ns : List Note) → is_actor script a ≡ true → has_halted script older a ≡ false → MayTake older a input → made_of script older a input ≡ record { posts = ps; notes = ns } → Keeps a input ps ns

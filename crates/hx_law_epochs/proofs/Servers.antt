@@ -1,24 +1,25 @@
 -- Each step of a server, as far as epochs go: what becomes of its configuration and its replicas, and what it posts.
-use Rattle.hx_law_lemmas.proofs.Lemmas.Vocabulary.{[], accepting, ack_step, acked, acked_of, Actor, adopted, adopted_posts, and_parts, ap, arith, asked}
-use Rattle.hx_law_lemmas.proofs.Lemmas.Vocabulary.{asking_last, at_slot, call_at, call_step, called, called_by, Caller, cond_both, Config, config_noted}
-use Rattle.hx_law_lemmas.proofs.Lemmas.Vocabulary.{context_of, Coordinator, Deliver, Epoch, false, false≢true, filter, flat_map, Halt, halting, hears_ack}
-use Rattle.hx_law_lemmas.proofs.Lemmas.Vocabulary.{hears_snap, hears_update, if_installed, inl, Input, input_step, inr, install_at, installed_slots, is_active}
-use Rattle.hx_law_lemmas.proofs.Lemmas.Vocabulary.{is_key_region, is_lost, IsIn, join_keys, join_slot, joiner_for, Kept, key_of, key_region, keys_of, KeyState}
-use Rattle.hx_law_lemmas.proofs.Lemmas.Vocabulary.{leads, List, lists, lists_joining, lists_ready, ltb, ltb-true, map, meeting, Message, message_step}
-use Rattle.hx_law_lemmas.proofs.Lemmas.Vocabulary.{moved_all, None, not, not-true, offered_all, Op, Option, passed_on, pending_of, pending_of_all}
-use Rattle.hx_law_lemmas.proofs.Lemmas.Vocabulary.{pending_posts, pending_with, place_number, poll_post, Post, post, PostId, provided, ready_post, refl}
-use Rattle.hx_law_lemmas.proofs.Lemmas.Vocabulary.{RegionId, Replica, replica_for, replica_of, replica_tick, resumed_posts, same_text, saying, Server}
-use Rattle.hx_law_lemmas.proofs.Lemmas.Vocabulary.{server_step, ServerId, ServerState, ServerStep, Session, SlotContext, Slots, SlotStep, snap_posts, snap_to}
-use Rattle.hx_law_lemmas.proofs.Lemmas.Vocabulary.{snapped, snapshot_of, Some, Space, state_among, state_from, state_in, subst, sym, Term, Tick, tick_step}
-use Rattle.hx_law_lemmas.proofs.Lemmas.Vocabulary.{true, unmoved, Update, update_step, updated, when_some, with_config, with_slots, ℕ, ⊤, ◌++◌, ◌<◌, ◌∙◌, ◌∷◌}
-use Rattle.hx_law_lemmas.proofs.Lemmas.Vocabulary.{◌≡◌, ◌≤◌, ◌⊎◌}
+use Rattle.hx_law_lemmas.proofs.Lemmas.Vocabulary.{[], ack_step, acked, acked_of, Actor, adopted, adopted_posts, and_parts, ap, arith, asked, asking_last}
+use Rattle.hx_law_lemmas.proofs.Lemmas.Vocabulary.{at_slot, call_at, call_step, called, called_by, Caller, cond_both, Config, config_noted, context_of}
+use Rattle.hx_law_lemmas.proofs.Lemmas.Vocabulary.{Coordinator, Deliver, Epoch, false, false≢true, flat_map, Halt, halting, hears_ack, hears_snap, hears_update}
+use Rattle.hx_law_lemmas.proofs.Lemmas.Vocabulary.{if_installed, inl, Input, input_step, inr, install_at, installed_slots, is_active, is_key_region, is_lost}
+use Rattle.hx_law_lemmas.proofs.Lemmas.Vocabulary.{IsIn, joiner_for, Kept, key_of, key_region, keys_of, KeyState, leads, List, lists, lists_joining}
+use Rattle.hx_law_lemmas.proofs.Lemmas.Vocabulary.{lists_ready, ltb, ltb-true, map, meeting, Message, message_step, moved_all, None, not, not-true, Op, Option}
+use Rattle.hx_law_lemmas.proofs.Lemmas.Vocabulary.{passed_on, pending_of, pending_of_all, pending_posts, pending_with, place_number, poll_post, Post, post}
+use Rattle.hx_law_lemmas.proofs.Lemmas.Vocabulary.{PostId, provided, ready_post, refl, RegionId, Replica, replica_for, replica_of, replica_tick, resumed_posts}
+use Rattle.hx_law_lemmas.proofs.Lemmas.Vocabulary.{saying, Server, server_step, ServerId, ServerState, ServerStep, Session, Slots, SlotStep, snap_posts}
+use Rattle.hx_law_lemmas.proofs.Lemmas.Vocabulary.{snap_to, snapped, snapshot_of, Some, Space, state_from, state_in, subst, sym, Term, Tick, tick_step, true}
+use Rattle.hx_law_lemmas.proofs.Lemmas.Vocabulary.{unmoved, Update, update_step, updated, when_some, with_config, with_slots, ℕ, ◌++◌, ◌<◌, ◌∙◌, ◌∷◌, ◌≡◌, ◌≤◌}
+use Rattle.hx_law_lemmas.proofs.Lemmas.Vocabulary.{◌⊎◌}
 use Rattle.hx_types.specs.declared.messages.Message.TheVariants as a_message
 use Rattle.hx_law_lemmas.proofs.Lemmas.{each-append, each-flat, each-one, each-provided, in-flat_map, in-provided, replica-found, replica-here}
 use Rattle.hx_law_lemmas.proofs.Lemmas.{with_slot_at, once-found}
+use Rattle.hx_law_epochs.specs.Senders.{IsOfServer}
 use Rattle.hx_law_epochs.proofs.Facts.{FromServer, Installed, SendsSnapshot}
 use Rattle.hx_law_epochs.proofs.Replicas.{Shaped, done-installed, done-shaped, replica_for-is, installed-is, mid-installed, mid-shaped, replaced-installed}
 use Rattle.hx_law_epochs.proofs.Replicas.{replaced-shaped}
-use Rattle.hx_law_epochs.proofs.SlotPosts.{OfSlot, SlotSays, SlotTells, ack-tells, call-tells, moves-of, pending-of, resumed-of, update-tells}
+use Rattle.hx_law_epochs.proofs.SlotPosts.{OfSlot, SlotSays, SlotTells, ack-tells, assigns-none, call-tells, joined-of, pending-of, resumed-of}
+use Rattle.hx_law_epochs.proofs.SlotPosts.{update-tells}
 
 -- the server goes on in its configuration
 pub record Stays (before after : ServerState) : Type 0 where
@@ -37,13 +38,11 @@ pub record Adopts (s : ServerId) (config : Config) (before after : ServerState) 
 abbrev pub Tells : ServerId → ServerState → Actor → Message → Type 0
 Tells s st to (a_message.Update epoch g u) = epoch ≡ st.config.epoch
 Tells s st to (a_message.Ack epoch g by key version) = epoch ≡ st.config.epoch
-Tells s st to (a_message.Reply number version answer) = ⊤
-Tells s st to (a_message.Found epoch number g rows) = ⊤
 Tells s st to (a_message.Poll epoch) = epoch.0 ≤ st.config.epoch.0
 Tells s st to a_message.Gone = st.halted ≡ true
 Tells s st to (a_message.Ready epoch g) = (epoch ≡ st.config.epoch) × Installed st g
 Tells s st to (a_message.Snap epoch g snapshot pending) = (epoch ≡ st.config.epoch) × FromServer to (SendsSnapshot (λ (k : Config). k ≡ st.config) st epoch g s)
-Tells s st to other = ⊥
+Tells s st to other = IsOfServer other
 
 -- what a slot's post says
 pub slot-tells : (s : ServerId) (st : ServerState) (c : Config) (to : Actor) (m : Message) → c ≡ st.config → SlotSays c m → Tells s st to m
@@ -89,7 +88,7 @@ module _ (space : Space) (s : ServerId) (st : ServerState) (shaped : Shaped s st
       installed = replaced-installed s st shaped r (with_slot_at r (moved_all step.moves t)) found (λ e. e);
     });
     posts = λ p i. of-slot (at_slot st r t step).state r.region refl p (tells.posts p i);
-    notes = tells.notes;
+    notes = λ epoch. assigns-none epoch step.notes tells.notes;
   }
 
   -- a replica that is found by another name is found by its own
@@ -188,15 +187,6 @@ module _ (space : Space) (s : ServerId) (st : ServerState) (shaped : Shaped s st
       each-provided (Mine after) (lists_joining st.config g st.id) _
       (each-one (Mine after) (post (Server st.id) Coordinator (a_message.Ready st.config.epoch g)) (ap Server shaped.id, (ap (λ (c : Config). c.epoch) (sym e), h)))
 
-  -- slots that take the pending updates post as slots do
-  join-posts : (context : SlotContext) (us : List Update) (keys : List (List ℕ)) (slots : Slots) → ((p : Post) → IsIn p slots.posts → OfSlot context p) → (p : Post) → IsIn p (join_keys context us slots keys).posts → OfSlot context p
-  join-posts context us [] slots f = f
-  join-posts context us (key ∷ keys) slots f =
-      let mine : List Update = filter (λ (u : Update). same_text u.key key) us in
-      let state : KeyState = state_among (is_key_region context.space context.region) key slots.states in
-      join-posts context us keys (join_slot context mine slots state)
-      (each-append (OfSlot context) slots.posts _ f (moves-of context (accepting context state (offered_all context.region state mine))))
-
   -- Snap
   snapped-does : (from : Actor) (g : RegionId) (snapshot : List Kept) (pending : List Update) → Does s st May (snapped space st from snapshot pending (replica_for st g))
   snapped-does from g snapshot pending = by (replica_for st g) refl
@@ -210,8 +200,8 @@ module _ (space : Space) (s : ServerId) (st : ServerState) (shaped : Shaped s st
           (λ t. rests)
           (λ u. cond_both r.installed (saying st (ready_post st r.region)) (with_slots st r slots) (Does s st May)
           (λ t. says (ready_post st r.region) (ready-mine st r.region refl (record { replica = r; found = found; installed = t })))
-          (λ t. installs r found slots
-          (join-posts (context_of space st r.region) pending (keys_of pending) (record { states = map (state_from (is_key_region space r.region)) snapshot; posts = [] }) (λ p i. absurd i))))
+          (λ t. installs r found slots (joined-of (context_of space st r.region) pending (keys_of pending)
+          (record { states = map (state_from (is_key_region space r.region)) snapshot; posts = [] }) (λ p i. absurd i))))
         where
           installs : (r : Replica) → replica_of r.region st.replicas ≡ Some r → (slots : Slots) → ((p : Post) → IsIn p slots.posts → OfSlot (context_of space st r.region) p) → Does s st May (with_slots st r slots)
           installs r found slots f = record {

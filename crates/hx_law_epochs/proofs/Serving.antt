@@ -160,9 +160,6 @@ module _ (Real : ServerId → Type 0) (S : ServerId → ServerState) (known : Co
     own-says : (T : ServerId → ServerState) → T i ≡ step.state → (to : Actor) (m : Message) → Tells i step.state to m → Says T known c (Server i) to m
     own-says T e to (a_message.Update epoch g u) h = subst (λ (st : ServerState). NoLater c st epoch) (sym e) (own-epoch epoch h)
     own-says T e to (a_message.Ack epoch g by key version) h = subst (λ (st : ServerState). NoLater c st epoch) (sym e) (own-epoch epoch h)
-    own-says T e to (a_message.Reply number version answer) h = tt
-    own-says T e to (a_message.Found epoch number g rows) h = tt
-    own-says T e to (a_message.Poll epoch) h = tt
     own-says T e to a_message.Gone h = subst (λ (st : ServerState). st.halted ≡ true) (sym e) h
     own-says T e to (a_message.Ready epoch g) h = subst (λ (st : ServerState). NoLater c st epoch × Installed st g) (sym e) (own-epoch epoch h.0, h.1)
     own-says T e to (a_message.Snap epoch g snapshot pending) h =
@@ -171,7 +168,8 @@ module _ (Real : ServerId → Type 0) (S : ServerId → ServerState) (known : Co
           from-map to (SendsSnapshot (λ (k : Config). k ≡ step.state.config) step.state epoch g i) (SendsSnapshot known step.state epoch g i)
               (λ j. sends-still (λ (k : Config). k ≡ step.state.config) known (λ k q. subst known (sym q) own-after) step.state epoch g i j) h.1,
         )
-    own-says T e to other h = absurd h
+    own-says T e to (a_message.Install config) h = absurd h
+    own-says T e to other h = tt
 
     -- so all is kept
     pub serving-kept : EpochsKept Real S' known c (step.posts ++ posts)

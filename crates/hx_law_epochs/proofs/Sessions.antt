@@ -1,18 +1,7 @@
--- What sessions post and note says nothing of epochs, and they adopt only what is delivered to them.
-use Rattle.hx_law_lemmas.proofs.Lemmas.Vocabulary.{Actor, ap, Bool, Config, config_noted, Epoch, false, inl, Input, inr, Message, None, Option, refl}
-use Rattle.hx_law_lemmas.proofs.Lemmas.Vocabulary.{session_step, SessionState, Some, Space, true, ℕ, ◌++◌, ◌+◌, ◌∙◌, ◌≡◌}
-use Rattle.hx_types.specs.declared.messages.Message.TheVariants as a_message
-use Rattle.hx_law_lemmas.proofs.Lemmas.{ConfigBy, session-does, CallStop, began_notes, end_notes, started, session_turn, all_notes, SaysOf}
-use Rattle.hx_law_epochs.proofs.Facts.{Says}
-
--- what a session posts says nothing of epochs
-pub session-says : (S : _) (known : _) (c : Config) (s : SessionState) (sent way : Bool) (from to : Actor) (m : Message) → SaysOf s sent way m → Says S known c from to m
-session-says S known c s sent way from to (a_message.Call epoch number op) h = tt
-session-says S known c s sent way from to (a_message.Ask epoch number g terms) h = tt
-session-says S known c s sent way from to (a_message.StopServer number server) h = tt
-session-says S known c s sent way from to (a_message.AddReplica number server g) h = tt
-session-says S known c s sent way from to (a_message.Poll epoch) h = tt
-session-says S known c s sent way from to other h = absurd h
+-- What sessions note says nothing of epochs, and they adopt only what is delivered to them.
+use Rattle.hx_law_lemmas.proofs.Lemmas.Vocabulary.{ap, Bool, config_noted, Epoch, false, inl, Input, inr, None, Option, refl, session_step, SessionState, Some}
+use Rattle.hx_law_lemmas.proofs.Lemmas.Vocabulary.{Space, true, ℕ, ◌++◌, ◌+◌, ◌∙◌, ◌≡◌}
+use Rattle.hx_law_lemmas.proofs.Lemmas.{ConfigBy, session-does, CallStop, began_notes, end_notes, started, session_turn, all_notes}
 
 -- a session issues nothing
 turn-issues : (epoch : Epoch) (b : Bool) (m n : ℕ) (stop : Option CallStop) → config_noted epoch (began_notes b m ++ end_notes n stop) ≡ None

@@ -1,12 +1,14 @@
--- What a server posts of one slot: updates and acknowledgements of its own epoch, and replies.
-use Rattle.hx_law_lemmas.proofs.Lemmas.Vocabulary.{[], accepting, ack_step, ack_to, Acknowledge, At, Blocked, by_moves, by_posts, call_step, Caller, Commit}
-use Rattle.hx_law_lemmas.proofs.Lemmas.Vocabulary.{cond_both, Config, config_noted, decide, decided, Decision, doubt_in, doubts_from, End, Epoch, flat_map}
-use Rattle.hx_law_lemmas.proofs.Lemmas.Vocabulary.{Forget, get_step, Hold, Hop, inl, inr, is_write, IsIn, KeyState, known_to, leader_doubts, leads, leb, List}
-use Rattle.hx_law_lemmas.proofs.Lemmas.Vocabulary.{Message, Move, move_posts, moved_all, next_at, None, offered, Op, Option, passed_on, pending_of, Post}
-use Rattle.hx_law_lemmas.proofs.Lemmas.Vocabulary.{prev_at, refl, resumed, resumed_posts, Server, SlotContext, SlotStep, Some, stuck_of, StuckAt, subst, sym}
-use Rattle.hx_law_lemmas.proofs.Lemmas.Vocabulary.{Take, told_to, Update, update_step, update_to, Version, waiting_doubt, write_step, ℕ, ⊤, ◌++◌, ◌∷◌, ◌≡◌}
+-- What a server posts and notes of one slot: updates and acknowledgements of its own epoch, replies.
+use Rattle.hx_law_lemmas.proofs.Lemmas.Vocabulary.{[], accepting, ack_step, ack_to, Acknowledge, ap, At, Blocked, by_moves, by_posts, call_step, Caller, Commit}
+use Rattle.hx_law_lemmas.proofs.Lemmas.Vocabulary.{cond_both, Config, config_noted, decide, decided, Decision, doubt_in, doubts_from, End, Epoch, filter}
+use Rattle.hx_law_lemmas.proofs.Lemmas.Vocabulary.{flat_map, Forget, get_step, Hold, Hop, inl, inr, is_key_region, is_write, IsIn, join_keys, join_slot}
+use Rattle.hx_law_lemmas.proofs.Lemmas.Vocabulary.{KeyState, known_to, leader_doubts, leads, leb, List, Message, Move, move_posts, moved_all, next_at, None}
+use Rattle.hx_law_lemmas.proofs.Lemmas.Vocabulary.{Note, offered, offered_all, Op, Option, passed_on, pending_of, Post, prev_at, refl, resumed, resumed_posts}
+use Rattle.hx_law_lemmas.proofs.Lemmas.Vocabulary.{same_text, Server, SlotContext, Slots, SlotStep, Some, state_among, stuck_of, StuckAt, subst, sym, Take}
+use Rattle.hx_law_lemmas.proofs.Lemmas.Vocabulary.{told_to, Update, update_step, update_to, Version, waiting_doubt, write_step, ℕ, ⊤, ◌++◌, ◌∷◌, ◌≡◌, ◌⊎◌}
 use Rattle.hx_types.specs.declared.messages.Message.TheVariants as a_message
 use Rattle.hx_types.specs.declared.outcomes.Decision.TheVariants as a_decision
+use Rattle.hx_types.specs.declared.traces.Note.TheVariants as a_note
 use Rattle.hx_law_lemmas.proofs.Lemmas.{each-append, each-provided, in-flat_map, in-map, in-provided}
 
 -- a message between replicas is of this epoch, and others are replies
@@ -15,6 +17,15 @@ SlotSays c (a_message.Update epoch g u) = epoch ≡ c.epoch
 SlotSays c (a_message.Ack epoch g by key version) = epoch ≡ c.epoch
 SlotSays c (a_message.Reply number version answer) = ⊤
 SlotSays c other = ⊥
+
+-- at most one update is assigned
+abbrev pub AssignsOne : List Note → Type 0
+AssignsOne notes = (notes ≡ []) ⊎ ((u : Update) × (notes ≡ a_note.Assigned u ∷ []))
+
+-- so no configuration is issued
+pub assigns-none : (epoch : Epoch) (notes : List Note) → AssignsOne notes → config_noted epoch notes ≡ None
+assigns-none epoch notes (inl e) = ap (config_noted epoch) e
+assigns-none epoch notes (inr r) = ap (config_noted epoch) r.1
 
 module _ (context : SlotContext) where
   -- a post of a slot
@@ -65,37 +76,47 @@ module _ (context : SlotContext) where
   -- what a step of a slot posts and notes
   pub record SlotTells (step : SlotStep) : Type 0 where
     pub posts : (p : Post) → IsIn p step.posts → OfSlot p
-    pub notes : (epoch : Epoch) → config_noted epoch step.notes ≡ None
+    pub notes : AssignsOne step.notes
 
   -- moves alone
   pub moving : (ms : List Move) → SlotTells (by_moves context ms)
-  moving ms = record { posts = moves-of ms; notes = λ epoch. refl }
+  moving ms = record { posts = moves-of ms; notes = inl refl }
 
   -- a call of a write, by the decision
   decided-tells : (s : KeyState) (caller : Caller) (d : Decision) → SlotTells (decided context s caller d)
-  decided-tells s caller a_decision.Old = record { posts = λ p i. absurd i; notes = λ epoch. refl }
-  decided-tells s caller (a_decision.Again v answer) = record { posts = one _ (refl, tt); notes = λ epoch. refl }
-  decided-tells s caller (a_decision.Wait v) = record { posts = waiting-of caller v (stuck_of context.config s); notes = λ epoch. refl }
-  decided-tells s caller (a_decision.Stuck g) = record { posts = one _ (refl, tt); notes = λ epoch. refl }
-  decided-tells s caller (a_decision.Assign u) = record { posts = moves-of (accepting context s (offered context.region s u)); notes = λ epoch. refl }
+  decided-tells s caller a_decision.Old = record { posts = λ p i. absurd i; notes = inl refl }
+  decided-tells s caller (a_decision.Again v answer) = record { posts = one _ (refl, tt); notes = inl refl }
+  decided-tells s caller (a_decision.Wait v) = record { posts = waiting-of caller v (stuck_of context.config s); notes = inl refl }
+  decided-tells s caller (a_decision.Stuck g) = record { posts = one _ (refl, tt); notes = inl refl }
+  decided-tells s caller (a_decision.Assign u) = record { posts = moves-of (accepting context s (offered context.region s u)); notes = inr (u, refl) }
 
   -- a call
   pub call-tells : (s : KeyState) (caller : Caller) (op : Op) → SlotTells (call_step context s caller op)
   call-tells s caller op =
       cond_both (is_write op) (write_step context s caller op) (get_step context s caller) SlotTells
       (λ t. decided-tells s caller (decide context.space context.config context.region s caller op))
-      (λ t. record { posts = one _ (refl, tt); notes = λ epoch. refl })
+      (λ t. record { posts = one _ (refl, tt); notes = inl refl })
 
   -- an update
   pub update-tells : (s : KeyState) (u : Update) → SlotTells (update_step context s u)
   update-tells s u =
       cond_both (leb u.version.0 _) (by_posts (known_to context s u)) _ SlotTells
-      (λ t. record { posts = λ p i. ack-of u (prev_at context u) p (in-provided (leb u.version.0 s.floor) (ack_to context u (prev_at context u)) p i).1; notes = λ epoch. refl })
+      (λ t. record { posts = each-provided OfSlot (leb u.version.0 s.floor) _ (ack-of u (prev_at context u)); notes = inl refl })
       (λ t. moving _)
 
   -- an acknowledgement
   pub ack-tells : (s : KeyState) (v : ℕ) → SlotTells (ack_step context s v)
   ack-tells s v = moving _
+
+  -- slots that take the pending updates post as slots do
+  pub joined-of : (us : List Update) (keys : List (List ℕ)) (slots : Slots) → ((p : Post) → IsIn p slots.posts → OfSlot p)
+      → (p : Post) → IsIn p (join_keys context us slots keys).posts → OfSlot p
+  joined-of us [] slots f = f
+  joined-of us (key ∷ keys) slots f =
+      let mine : List Update = filter (λ (u : Update). same_text u.key key) us in
+      let state : KeyState = state_among (is_key_region context.space context.region) key slots.states in
+      joined-of us keys (join_slot context mine slots state)
+      (each-append OfSlot slots.posts _ f (moves-of (accepting context state (offered_all context.region state mine))))
 
   -- what is pending is passed on
   pub pending-of : (us : List Update) (p : Post) → IsIn p (flat_map (passed_on context) us) → OfSlot p
