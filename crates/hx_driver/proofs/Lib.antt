@@ -3,7 +3,6 @@ pub mod Taking
 pub mod Taken
 pub mod Results
 pub mod Made
-pub mod Doubled
 pub mod Turned
 pub mod Waiting
 pub mod Same

@@ -6,7 +6,7 @@ ghost use Rattle.hx_model.specs.Runs.{entry_of, has_halted, made_of, does_someth
 ghost use Rattle.hx_clock.specs.declared.parts.Stamped.{Stamped};
 ghost use Rattle.hx_law_threads.specs.Cuts.{is_retry};
 ghost use Rattle.hx_mail.specs.declared.views.Mailed.{Mailed};
-ghost use Rattle.hx_outbox.specs.Offers.{firsts_of};
+ghost use Rattle.hx_outbox.specs.Offers.{HasSeconds};
 ghost use Rattle.hx_outbox.specs.Outboxes.{IsOutbox};
 ghost use Rattle.hx_driver.specs.declared.faults.Fault.TheVariants as a_fault;
 ghost use Rattle.hx_driver.specs.Desks.{entries_before};
@@ -38,7 +38,8 @@ fn make_entry<R: Wait, G: Gate>(
 )
     requires desk { (w : ℕ) × IsDeskOn floor.now w (told_by desk.old.actor input) desk.old }
     requires step { IsReady floor.now.script.now desk.old input change × MakesEnough input desk.old }
-    requires copies { (firsts_of desk.old.lent.copies.items ≡ desk.old.lent.posts) × (length desk.old.lent.posts < 2 ^ 32) }
+    requires copies { (desk.old.lent.copies.firsts.items ≡ desk.old.lent.posts) × (length desk.old.lent.posts < 2 ^ 32) }
+    requires seconds { HasSeconds (state fate.old) desk.old.lent.copies }
     requires places { HasPlaces desk.old × (length desk.old.part.items < MOST_ENTRIES) }
     requires out { IsOutbox floor.now.boxes.now out.old }
     requires room { HasRoom out.old desk.old totals.old }
@@ -92,7 +93,8 @@ pub(crate) fn reserve_and_make<R: Wait, G: Gate>(
     ensures turn { MatchResult result (λ _. (x : Stamped) × IsMadeOf floor.now.script.now desk.old input x × IsTurn floor.now.boxes.now desk.old desk.new out.old out.new totals.old totals.new (state fate.old) (state fate.new) (x ∷ [])) (λ _. IsTurn floor.now.boxes.now desk.old desk.new out.old out.new totals.old totals.new (state fate.old) (state fate.new) []) }
     ensures fault { MatchResult result (λ _. ⊤) (λ fault. fault ≡ a_fault.Memory) }
 {
-    match make_room(floor.alloc, desk) {
+    let repeats = fate.state().repeats();
+    match make_room(floor.alloc, desk, repeats) {
         Ok(()) => {
             make_entry(floor, desk, out, fate, totals, input, change);
             Ok(())

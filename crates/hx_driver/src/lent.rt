@@ -1,14 +1,13 @@
 use hx_outbox::Copies;
 use hx_types::{Notes, Posts};
 use std::alloc::Global;
-use std::collections::VecDeque;
 
 /// The lists that a desk lends for each step: what the step posts and notes, and the copies of its
 /// posts. They keep their room from step to step. What they hold between steps counts for nothing.
 pub struct Lent {
     pub posts: Posts,
     pub notes: Notes,
-    pub copies: VecDeque<Copies>,
+    pub copies: Copies,
 }
 
 impl Drop for Lent {
@@ -27,7 +26,7 @@ impl Lent {
         Lent {
             posts: Posts::new(alloc),
             notes: Notes::new(alloc),
-            copies: VecDeque::new(alloc),
+            copies: Copies::new(alloc),
         }
     }
 }

@@ -1,19 +1,17 @@
 //! All that an entry needs before it has a stamp.
-ghost use Rattle.std.specs.Prelude.{ℕ, ◌≡◌, ◌<◌, ◌≤◌, ◌^◌, ◌∷◌, ◌++◌, [], true, false, List, IfOk, OnOk, length};
+ghost use Rattle.std.specs.Prelude.{ℕ, ◌≡◌, ◌<◌, ◌≤◌, ◌^◌, true, false, List, IfOk, IsTrue, OnOk, length};
 ghost use Rattle.hx_types.specs.declared.limits.TheConstants.{MOST_ENTRIES};
 ghost use Rattle.hx_model.specs.Runs.{has_halted};
 ghost use Rattle.hx_mail.specs.declared.views.Mailed.{Mailed};
-ghost use Rattle.hx_outbox.specs.Offers.{firsts_of};
 ghost use Rattle.hx_driver.specs.Desks.{IsSame, entries_before};
 ghost use Rattle.hx_driver.specs.Floors.{IsDeskOn};
 ghost use Rattle.hx_driver.specs.Givings.{CanBeGiven, HasPlaces, IsReady, IsSameStep};
 
 use crate::desks::Desk;
 use hx_machine::Change;
-use hx_outbox::{Copies, Floor};
-use hx_types::{Exact, Input, MOST_ENTRIES, Memory, Post};
+use hx_outbox::Floor;
+use hx_types::{Input, MOST_ENTRIES, Memory};
 use std::alloc::Global;
-use std::collections::VecDeque;
 
 /// Whether the actor has made the most entries that it may make.
 pub(crate) fn is_worn(desk: &Desk) -> bool
@@ -50,39 +48,12 @@ pub(crate) fn prepare_step<R, G>(
     )
 }
 
-/// Adds a post twice.
-fn add_twice(alloc: Global, copies: &mut VecDeque<Copies>, post: &Post) -> Result<(), Memory>
-    ensures { OnOk result (firsts_of copies.new.items ≡ firsts_of copies.old.items ++ post.now ∷ []) }
-{
-    copies.reserve(1)?;
-    let Ok(first) = post.copy(alloc) else {
-        return Err(Memory);
-    };
-    let Ok(second) = post.copy(alloc) else {
-        drop(first);
-        return Err(Memory);
-    };
-    copies.push_back_reserved(Copies { first, second });
-    Ok(())
-}
-
-/// Each post twice, in place of what the list held.
-fn copy_all(alloc: Global, posts: &[Post], copies: &mut VecDeque<Copies>) -> Result<(), Memory>
-    ensures { OnOk result (firsts_of copies.new.items ≡ posts.now) }
-{
-    if !copies.is_empty() {
-        copies.clear();
-    }
-    for post in posts {
-        add_twice(alloc, copies, post)?;
-    }
-    Ok(())
-}
-
-/// The copies of a step's posts, and room for its entry and for what may have to be kept.
-pub(crate) fn make_room(alloc: Global, desk: &mut Desk) -> Result<(), Memory>
+/// The copies of a step's posts, and room for its entry and for what may have to be kept. Each post
+/// has a second copy where the driver's fate repeats.
+pub(crate) fn make_room(alloc: Global, desk: &mut Desk, repeats: bool) -> Result<(), Memory>
     ensures same { IsSame desk.old desk.new × IsSameStep desk.old desk.new }
-    ensures copies { OnOk result (firsts_of desk.new.lent.copies.items ≡ desk.new.lent.posts) }
+    ensures copies { OnOk result (desk.new.lent.copies.firsts.items ≡ desk.new.lent.posts) }
+    ensures seconds { OnOk result (IsTrue repeats → desk.new.lent.copies.seconds.items ≡ desk.new.lent.posts) }
     ensures few { OnOk result (length desk.new.lent.posts < 2 ^ 32) }
     ensures places { OnOk result (HasPlaces desk.new) }
 {
@@ -92,5 +63,6 @@ pub(crate) fn make_room(alloc: Global, desk: &mut Desk) -> Result<(), Memory>
     }
     desk.part.reserve(count, desk.lent.notes.len())?;
     desk.kept.reserve(2 * count)?;
-    copy_all(alloc, desk.lent.posts.as_slice(), &mut desk.lent.copies)
+    let posts = desk.lent.posts.as_slice();
+    desk.lent.copies.fill(alloc, posts, repeats)
 }

@@ -1,5 +1,5 @@
 -- How a fate is tuned, and its counts, which stop at the greatest number of 64 bits.
-use Rattle.std.specs.Prelude.{ℕ, ◌+◌, Bool, true, false, cond, nat_lt}
+use Rattle.std.specs.Prelude.{ℕ, ◌+◌, ◌<◌, Bool, true, false, cond, nat_lt}
 use Rattle.hx_fate.specs.declared.fates.Choice.{Choice}
 use Rattle.hx_fate.specs.declared.fates.Choice.TheVariants.{Deliver, Lose, Twice}
 use Rattle.hx_fate.specs.declared.fates.FateState.{FateState}
@@ -43,3 +43,7 @@ after_choice choice f = record {
 -- another tuning, and the same counts
 abbrev pub tuned : Tuning → FateState → FateState
 tuned tuning f = record { tuning = tuning; chosen = f.chosen; lost = f.lost; doubled = f.doubled }
+
+-- the fate is told to repeat some posts: else none is delivered twice
+abbrev pub MayRepeat : FateState → Type 0
+MayRepeat f = 0 < f.tuning.repeat_every

@@ -1,4 +1,4 @@
-ghost use Rattle.std.specs.Prelude.{◌≡◌};
+ghost use Rattle.std.specs.Prelude.{◌≡◌, nat_lt};
 ghost use Rattle.hx_fate.specs.States.{after_choice, never, tuned, untouched};
 
 use hx_types::Actor;
@@ -58,6 +58,13 @@ impl FateState {
         }
     }
 
+    /// Whether posts are to be repeated.
+    pub fn repeats(&self) -> bool
+        ensures { result ≡ nat_lt 0 self.now.tuning.repeat_every }
+    {
+        self.tuning.repeat_every > 0
+    }
+
     /// Counts one more choice.
     pub fn count(&mut self, choice: Choice)
         ensures { self.new ≡ after_choice choice self.old }
@@ -73,18 +80,21 @@ impl FateState {
 
 /// Chooses what becomes of each post, and counts its choices.
 pub trait Fate: Drop {
+    ghost use Rattle.hx_fate.specs.declared.fates.Choice.TheVariants.{Twice};
     ghost use Rattle.hx_fate.specs.declared.fates.FateState.{FateState};
+    ghost use Rattle.hx_fate.specs.States.{MayRepeat};
 
     /// How it is tuned, and what it has chosen.
     ghost state: { Self → FateState };
 
     /// What becomes of the next post, which goes from one actor to another. It is counted, and the
-    /// tuning stays.
+    /// tuning stays. It is delivered twice only where posts are to be repeated.
     fn choose(&mut self, from: Actor, to: Actor) -> Choice
-        ensures { state self.new ≡ after_choice result (state self.old) };
+        ensures counted { state self.new ≡ after_choice result (state self.old) }
+        ensures repeats { result ≡ Twice → MayRepeat (state self.old) };
 
     /// How often posts are to be lost and repeated from now on. A fate may do otherwise, but keeps
-    /// what it was told. The counts stay.
+    /// what it was told, and one that is to repeat nothing delivers nothing twice. The counts stay.
     fn tune(&mut self, tuning: Tuning)
         ensures { state self.new ≡ tuned tuning (state self.old) };
 

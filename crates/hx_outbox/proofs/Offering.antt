@@ -1,5 +1,5 @@
 -- Offers put together.
-use Rattle.std.proofs.Common.{◌≡◌, ℕ, zero, suc, ◌+◌, ◌*◌, ◌≤◌, Bool, true, false, eqb, List, [], ◌∷◌, ◌++◌, map, length, slice_get, Some, refl, ap, sym, subst, ◌∙◌, arith, length-append}
+use Rattle.std.proofs.Common.{◌≡◌, ℕ, zero, suc, ◌+◌, ◌*◌, ◌<◌, ◌≤◌, Bool, true, false, eqb, List, [], ◌∷◌, ◌++◌, map, length, slice_get, Some, refl, ap, sym, subst, ◌∙◌, arith, length-append}
 use Rattle.std.specs.Prelude.{not}
 use Rattle.std.specs.List.{AllByRecursion}
 use Rattle.hx_types.specs.declared.messages.Post.{Post}
@@ -9,11 +9,11 @@ use Rattle.hx_clock.proofs.Lemmas.{each_append, total-append}
 use Rattle.hx_fate.specs.declared.fates.Choice.{Choice}
 use Rattle.hx_fate.specs.declared.fates.Choice.TheVariants.{Deliver, Lose, Twice}
 use Rattle.hx_fate.specs.declared.fates.FateState.{FateState}
-use Rattle.hx_fate.specs.States.{after_choice, is_lose, is_twice, raised_if}
+use Rattle.hx_fate.specs.declared.fates.Tuning.{Tuning}
+use Rattle.hx_fate.specs.States.{after_choice, is_lose, is_twice, raised_if, MayRepeat}
 use Rattle.hx_mail.specs.declared.views.Mailed.{Mailed}
 use Rattle.hx_mail.specs.Ports.{mailed}
-use Rattle.hx_outbox.specs.declared.copies.Copies.{Copies}
-use Rattle.hx_outbox.specs.Offers.{firsts_of, is_gone, named, offer, put_weight, raised_by, times_of, IsChoiceOn, IsCounted, IsFair, IsOffered, Offer}
+use Rattle.hx_outbox.specs.Offers.{is_gone, named, offer, put_weight, raised_by, times_of, IsChoiceOn, IsCounted, IsFair, IsOffered, Offer}
 use Rattle.hx_outbox.proofs.Lists.{map-length}
 
 map-append : {A B : Type 0} (f : A → B) (xs ys : List A) → map f (xs ++ ys) ≡ map f xs ++ map f ys
@@ -144,23 +144,27 @@ pub named-next : (e : ℕ) (ps : List Post) (p : Post) (n : ℕ) → n ≡ lengt
 named-next e ps p n is = named-append e 0 ps (p ∷ []) ∙ ap (λ k. named e 0 ps ++ mailed (record { entry = e; place = k }) p ∷ []) (let z : 0 + length ps ≡ n = omega (arith, is) in z)
 
 -- an item of a list, by what stands before it and after it
-pub firsts-at : (xs : List Copies) (c : Copies) (rest all : List Copies) → xs ++ (c ∷ rest) ≡ all → slice_get (firsts_of all) (length xs) ≡ Some c.first
-firsts-at xs c rest all e = subst (λ l. slice_get (firsts_of l) (length xs) ≡ Some c.first) e (by xs)
-  where
-    by : (xs : List Copies) → slice_get (firsts_of (xs ++ (c ∷ rest))) (length xs) ≡ Some c.first
-    by [] = refl
-    by (x ∷ xs) = by xs
+module _ {A : Type 0} where
+  pub item-at : (xs : List A) (x : A) (rest all : List A) → xs ++ (x ∷ rest) ≡ all → slice_get all (length xs) ≡ Some x
+  item-at xs x rest all e = subst (λ l. slice_get l (length xs) ≡ Some x) e (by xs)
+    where
+      by : (xs : List A) → slice_get (xs ++ (x ∷ rest)) (length xs) ≡ Some x
+      by [] = refl
+      by (y ∷ xs) = by xs
 
-pub firsts-each : (P : Post → Type 0) (xs : List Copies) (c : Copies) (rest all : List Copies) → xs ++ (c ∷ rest) ≡ all → AllByRecursion P (firsts_of all) → P c.first
-firsts-each P xs c rest all e h = by xs (subst (λ l. AllByRecursion P (firsts_of l)) (sym e) h)
-  where
-    by : (xs : List Copies) → AllByRecursion P (firsts_of (xs ++ (c ∷ rest))) → P c.first
-    by [] h = h.0
-    by (x ∷ xs) h = by xs h.1
+  pub item-each : (P : A → Type 0) (xs : List A) (x : A) (rest all : List A) → xs ++ (x ∷ rest) ≡ all → AllByRecursion P all → P x
+  item-each P xs x rest all e h = by xs (subst (AllByRecursion P) (sym e) h)
+    where
+      by : (xs : List A) → AllByRecursion P (xs ++ (x ∷ rest)) → P x
+      by [] h = h.0
+      by (y ∷ xs) h = by xs h.1
 
-pub firsts-next : (entry n : ℕ) (xs : List Copies) (c : Copies) → n ≡ length xs → named entry 0 (firsts_of (xs ++ c ∷ [])) ≡ named entry 0 (firsts_of xs) ++ mailed (record { entry = entry; place = n }) c.first ∷ []
-firsts-next entry n xs c is =
-    ap (named entry 0) (map-append (λ (x : Copies). x.first) xs (c ∷ [])) ∙ named-next entry (firsts_of xs) c.first n (is ∙ sym (map-length (λ (x : Copies). x.first) xs))
+-- what may repeat after an offer could before it, so the second copies are those of the posts that are left
+pub seconds-left : (w w' : (Mailed → ℕ) → ℕ) (t t' : Totals) (f f' : FateState) (ms : List Mailed) (seconds seconds' firsts : List Post)
+    (p : Post) (rest : List Post) → IsOffered w w' t t' f f' ms → (MayRepeat f → seconds ≡ firsts) → firsts ≡ p ∷ rest
+    → ((q : Post) (qs : List Post) → seconds ≡ q ∷ qs → seconds' ≡ qs) → MayRepeat f' → seconds' ≡ rest
+seconds-left w w' t t' f f' ms seconds seconds' firsts p rest o same is gone may =
+    gone p rest (same (subst (λ (x : Tuning). 0 < x.repeat_every) o.tuning may) ∙ is)
 
 -- as many posts were offered as there were
 pub offered-long : (w w' : (Mailed → ℕ) → ℕ) (t t' : Totals) (f f' : FateState) (ms : List Mailed) (o : IsOffered w w' t t' f f' ms) → length o.offers ≡ length ms

@@ -9,7 +9,7 @@ use Rattle.hx_clock.specs.Views.{one, total}
 use Rattle.hx_fate.specs.declared.fates.Choice.{Choice}
 use Rattle.hx_fate.specs.declared.fates.Choice.TheVariants.{Deliver, Lose, Twice}
 use Rattle.hx_fate.specs.declared.fates.FateState.{FateState}
-use Rattle.hx_fate.specs.States.{after_choice, raised_if}
+use Rattle.hx_fate.specs.States.{after_choice, raised_if, MayRepeat}
 use Rattle.hx_mail.specs.declared.views.Mailed.{Mailed}
 use Rattle.hx_mail.specs.Ports.{mailed}
 use Rattle.hx_outbox.specs.declared.copies.Copies.{Copies}
@@ -80,9 +80,9 @@ pub record IsOffered (w w' : (Mailed → ℕ) → ℕ) (t t' : Totals) (f f' : F
 abbrev pub IsTotal : Totals → Type 0
 IsTotal t = t.posts ≡ t.deliver + t.lose + t.twice
 
--- the first copy of each post
-abbrev pub firsts_of : List Copies → List Post
-firsts_of posts = map (λ c. c.first) posts
+-- each post has a second copy, where the fate may repeat
+abbrev pub HasSeconds : FateState → Copies → Type 0
+HasSeconds f c = MayRepeat f → c.seconds.items ≡ c.firsts.items
 
 -- what was chosen for a post, and the fate's state before and after: it isn't asked about a word of halting
 abbrev pub IsChoiceOn : Post → Choice → FateState → FateState → Type 0

@@ -1,12 +1,14 @@
-ghost use Rattle.std.specs.Prelude.{ℕ, ◌≡◌, ◌+◌, ◌*◌, ◌^◌, ◌<◌, ◌≤◌, [], ◌∷◌, length};
+ghost use Rattle.std.specs.Prelude.{ℕ, ◌≡◌, ◌+◌, ◌*◌, ◌^◌, ◌<◌, ◌≤◌, List, [], ◌∷◌, length};
 ghost use Rattle.std.specs.List.{AllByRecursion};
 ghost use Rattle.std.specs.VecDeque.{deque_len, deque_capacity};
 ghost use Rattle.hx_clock.specs.declared.parts.Stamped.{Stamped};
 ghost use Rattle.hx_clock.specs.Parts.{Posted};
 ghost use Rattle.hx_clock.specs.Views.{Carries};
+ghost use Rattle.hx_fate.specs.declared.fates.Choice.TheVariants.{Twice};
+ghost use Rattle.hx_fate.specs.States.{MayRepeat};
 ghost use Rattle.hx_mail.specs.declared.views.Mailed.{Mailed};
 ghost use Rattle.hx_mail.specs.Ports.{mailed, mailed_of};
-ghost use Rattle.hx_outbox.specs.Offers.{firsts_of, named, times_of, IsChoiceOn, IsCounted, IsOffered, IsTotal};
+ghost use Rattle.hx_outbox.specs.Offers.{named, times_of, HasSeconds, IsChoiceOn, IsCounted, IsOffered, IsTotal};
 ghost use Rattle.hx_outbox.specs.Floors.{AreGoodOn, IsSoundOn};
 ghost use Rattle.hx_outbox.specs.Outboxes.{IsOutbox, MorePut, kept_weight, out_weight};
 
@@ -33,7 +35,8 @@ fn envelope_of(clock: &Clock, seat: &mut Seat, id: PostId, post: Post) -> Envelo
 
 /// What the fate makes of a post. It isn't asked about a word of halting, which is delivered.
 fn choice_for(fate: &mut Box<dyn Fate + Send>, post: &Post) -> Choice
-    ensures { IsChoiceOn post.now result (state fate.old) (state fate.new) }
+    ensures choice { IsChoiceOn post.now result (state fate.old) (state fate.new) }
+    ensures repeats { result ≡ Twice → MayRepeat (state fate.old) }
 {
     match post.message {
         Message::Gone => Choice::Deliver,
@@ -56,13 +59,23 @@ fn count(totals: &mut Totals, choice: Choice)
     }
 }
 
-/// One copy, without the other.
-fn first_copy(copies: Copies) -> Post
-    ensures { result ≡ copies.first }
+/// Lets the second copy of a post go, where there is one.
+#[inline]
+fn skip_second(seconds: &mut VecDeque<Post>)
+    ensures { (p : Post) (rest : List Post) → seconds.old.items ≡ p ∷ rest → seconds.new.items ≡ rest }
 {
-    let Copies { first, second } = copies;
-    drop(second);
-    first
+    if !seconds.is_empty() {
+        drop_second(seconds);
+    }
+}
+
+/// The same, where there is one. It is rare, so it has a function of its own.
+#[cold]
+#[inline(never)]
+fn drop_second(seconds: &mut VecDeque<Post>)
+    ensures { (p : Post) (rest : List Post) → seconds.old.items ≡ p ∷ rest → seconds.new.items ≡ rest }
+{
+    drop(seconds.pop_front());
 }
 
 /// Puts a post twice. It is rare, so it has a function of its own: no other post pays for its
@@ -75,23 +88,29 @@ fn put_twice<R: Wait, G>(
     kept: &mut VecDeque<Envelope>,
     seat: &mut Seat,
     id: PostId,
-    copies: Copies,
+    post: Post,
+    seconds: &mut VecDeque<Post>,
 )
     requires seat { seat.old.clock ≡ floor.now.clock.now }
-    requires made { (x : Stamped) × Carries seat.old.view x × Posted x id copies.first }
+    requires made { (x : Stamped) × Carries seat.old.view x × Posted x id post }
+    requires second { (rest : List Post) × (seconds.old.items ≡ post ∷ rest) }
     requires out { IsOutbox floor.now.boxes.now out.old }
-    requires sound { IsSoundOn floor.now id.entry copies.first }
+    requires sound { IsSoundOn floor.now id.entry post }
     requires room { deque_len kept.old + 2 ≤ deque_capacity kept.old }
     requires few { out_weight (λ m. 1) out.old.ports.items + kept_weight (λ m. 1) kept.old.items < 2 ^ 62 }
     ensures seat { seat.new ≡ seat.old }
     ensures out { IsOutbox floor.now.boxes.now out.new × (out.new.index ≡ out.old.index) }
     ensures more { MorePut out.old.ports.items out.new.ports.items }
-    ensures weight { (h : Mailed → ℕ) → out_weight h out.new.ports.items + kept_weight h kept.new.items ≡ out_weight h out.old.ports.items + kept_weight h kept.old.items + 2 * h (mailed id copies.first) }
+    ensures weight { (h : Mailed → ℕ) → out_weight h out.new.ports.items + kept_weight h kept.new.items ≡ out_weight h out.old.ports.items + kept_weight h kept.old.items + 2 * h (mailed id post) }
     ensures good { AreGoodOn floor.now kept.old.items → AreGoodOn floor.now kept.new.items }
     ensures capacity { (deque_capacity kept.new ≡ deque_capacity kept.old) × (deque_len kept.new ≤ deque_len kept.old + 2) }
+    ensures seconds { (p : Post) (rest : List Post) → seconds.old.items ≡ p ∷ rest → seconds.new.items ≡ rest }
 {
-    let Copies { first, second } = copies;
-    let envelope = envelope_of(floor.clock, seat, id, first);
+    let Some(second) = seconds.pop_front() else {
+        // The fate may repeat, so the post has a second copy.
+        unreachable!()
+    };
+    let envelope = envelope_of(floor.clock, seat, id, post);
     put_or_keep(floor, out, kept, envelope);
     let again = envelope_of(floor.clock, seat, id, second);
     put_or_keep(floor, out, kept, again);
@@ -104,29 +123,36 @@ fn put_times<R: Wait, G>(
     kept: &mut VecDeque<Envelope>,
     seat: &mut Seat,
     id: PostId,
-    copies: Copies,
+    post: Post,
+    seconds: &mut VecDeque<Post>,
     choice: Choice,
 )
     requires seat { seat.old.clock ≡ floor.now.clock.now }
-    requires made { (x : Stamped) × Carries seat.old.view x × Posted x id copies.first }
+    requires made { (x : Stamped) × Carries seat.old.view x × Posted x id post }
+    requires second { choice ≡ Twice → (rest : List Post) × (seconds.old.items ≡ post ∷ rest) }
     requires out { IsOutbox floor.now.boxes.now out.old }
-    requires sound { IsSoundOn floor.now id.entry copies.first }
+    requires sound { IsSoundOn floor.now id.entry post }
     requires room { deque_len kept.old + 2 ≤ deque_capacity kept.old }
     requires few { out_weight (λ m. 1) out.old.ports.items + kept_weight (λ m. 1) kept.old.items < 2 ^ 62 }
     ensures seat { seat.new ≡ seat.old }
     ensures out { IsOutbox floor.now.boxes.now out.new × (out.new.index ≡ out.old.index) }
     ensures more { MorePut out.old.ports.items out.new.ports.items }
-    ensures weight { (h : Mailed → ℕ) → out_weight h out.new.ports.items + kept_weight h kept.new.items ≡ out_weight h out.old.ports.items + kept_weight h kept.old.items + times_of choice * h (mailed id copies.first) }
+    ensures weight { (h : Mailed → ℕ) → out_weight h out.new.ports.items + kept_weight h kept.new.items ≡ out_weight h out.old.ports.items + kept_weight h kept.old.items + times_of choice * h (mailed id post) }
     ensures good { AreGoodOn floor.now kept.old.items → AreGoodOn floor.now kept.new.items }
     ensures capacity { (deque_capacity kept.new ≡ deque_capacity kept.old) × (deque_len kept.new ≤ deque_len kept.old + 2) }
+    ensures seconds { (p : Post) (rest : List Post) → seconds.old.items ≡ p ∷ rest → seconds.new.items ≡ rest }
 {
     match choice {
-        Choice::Lose => drop(copies),
+        Choice::Lose => {
+            skip_second(seconds);
+            drop(post);
+        }
         Choice::Deliver => {
-            let envelope = envelope_of(floor.clock, seat, id, first_copy(copies));
+            skip_second(seconds);
+            let envelope = envelope_of(floor.clock, seat, id, post);
             put_or_keep(floor, out, kept, envelope);
         }
-        Choice::Twice => put_twice(floor, out, kept, seat, id, copies),
+        Choice::Twice => put_twice(floor, out, kept, seat, id, post, seconds),
     }
 }
 
@@ -139,12 +165,14 @@ pub fn offer_one<R: Wait, G>(
     fate: &mut Box<dyn Fate + Send>,
     totals: &mut Totals,
     id: PostId,
-    copies: Copies,
+    post: Post,
+    seconds: &mut VecDeque<Post>,
 )
     requires seat { seat.old.clock ≡ floor.now.clock.now }
-    requires made { (x : Stamped) × Carries seat.old.view x × Posted x id copies.first }
+    requires made { (x : Stamped) × Carries seat.old.view x × Posted x id post }
+    requires second { MayRepeat (state fate.old) → (rest : List Post) × (seconds.old.items ≡ post ∷ rest) }
     requires out { IsOutbox floor.now.boxes.now out.old }
-    requires sound { IsSoundOn floor.now id.entry copies.first }
+    requires sound { IsSoundOn floor.now id.entry post }
     requires room { deque_len kept.old + 2 ≤ deque_capacity kept.old }
     requires few { out_weight (λ m. 1) out.old.ports.items + kept_weight (λ m. 1) kept.old.items < 2 ^ 62 }
     requires small { totals.old.posts < 2 ^ 62 }
@@ -152,14 +180,15 @@ pub fn offer_one<R: Wait, G>(
     ensures seat { seat.new ≡ seat.old }
     ensures out { IsOutbox floor.now.boxes.now out.new × (out.new.index ≡ out.old.index) }
     ensures more { MorePut out.old.ports.items out.new.ports.items }
-    ensures offered { IsOffered (λ h. out_weight h out.old.ports.items + kept_weight h kept.old.items) (λ h. out_weight h out.new.ports.items + kept_weight h kept.new.items) totals.old totals.new (state fate.old) (state fate.new) (mailed id copies.first ∷ []) }
+    ensures offered { IsOffered (λ h. out_weight h out.old.ports.items + kept_weight h kept.old.items) (λ h. out_weight h out.new.ports.items + kept_weight h kept.new.items) totals.old totals.new (state fate.old) (state fate.new) (mailed id post ∷ []) }
     ensures good { AreGoodOn floor.now kept.old.items → AreGoodOn floor.now kept.new.items }
     ensures capacity { (deque_capacity kept.new ≡ deque_capacity kept.old) × (deque_len kept.new ≤ deque_len kept.old + 2) }
     ensures total { IsTotal totals.new }
+    ensures seconds { (p : Post) (rest : List Post) → seconds.old.items ≡ p ∷ rest → seconds.new.items ≡ rest }
 {
-    let choice = choice_for(fate, &copies.first);
+    let choice = choice_for(fate, &post);
     count(totals, choice);
-    put_times(floor, out, kept, seat, id, copies, choice);
+    put_times(floor, out, kept, seat, id, post, seconds, choice);
 }
 
 /// Offers the posts of an entry, in order, and leaves their list empty, with its room.
@@ -171,30 +200,32 @@ pub fn offer_all<R: Wait, G>(
     fate: &mut Box<dyn Fate + Send>,
     totals: &mut Totals,
     entry: u64,
-    posts: &mut VecDeque<Copies>,
+    copies: &mut Copies,
 )
     requires seat { seat.old.clock ≡ floor.now.clock.now }
-    requires made { (x : Stamped) × Carries seat.old.view x × (x.stamp.0 + 1 ≡ entry) × (x.entry.outputs ≡ firsts_of posts.old.items) }
+    requires made { (x : Stamped) × Carries seat.old.view x × (x.stamp.0 + 1 ≡ entry) × (x.entry.outputs ≡ copies.old.firsts.items) }
+    requires seconds { HasSeconds (state fate.old) copies.old }
     requires out { IsOutbox floor.now.boxes.now out.old }
-    requires sound { AllByRecursion (IsSoundOn floor.now entry) (firsts_of posts.old.items) }
-    requires length { length posts.old.items < 2 ^ 32 }
-    requires room { deque_len kept.old + 2 * length posts.old.items ≤ deque_capacity kept.old }
-    requires few { out_weight (λ m. 1) out.old.ports.items + kept_weight (λ m. 1) kept.old.items + 2 * length posts.old.items < 2 ^ 62 }
-    requires small { totals.old.posts + length posts.old.items < 2 ^ 62 }
+    requires sound { AllByRecursion (IsSoundOn floor.now entry) copies.old.firsts.items }
+    requires length { length copies.old.firsts.items < 2 ^ 32 }
+    requires room { deque_len kept.old + 2 * length copies.old.firsts.items ≤ deque_capacity kept.old }
+    requires few { out_weight (λ m. 1) out.old.ports.items + kept_weight (λ m. 1) kept.old.items + 2 * length copies.old.firsts.items < 2 ^ 62 }
+    requires small { totals.old.posts + length copies.old.firsts.items < 2 ^ 62 }
     requires total { IsTotal totals.old }
     ensures seat { seat.new ≡ seat.old }
     ensures out { IsOutbox floor.now.boxes.now out.new × (out.new.index ≡ out.old.index) }
     ensures more { MorePut out.old.ports.items out.new.ports.items }
-    ensures offered { IsOffered (λ h. out_weight h out.old.ports.items + kept_weight h kept.old.items) (λ h. out_weight h out.new.ports.items + kept_weight h kept.new.items) totals.old totals.new (state fate.old) (state fate.new) (named entry 0 (firsts_of posts.old.items)) }
+    ensures offered { IsOffered (λ h. out_weight h out.old.ports.items + kept_weight h kept.old.items) (λ h. out_weight h out.new.ports.items + kept_weight h kept.new.items) totals.old totals.new (state fate.old) (state fate.new) (named entry 0 copies.old.firsts.items) }
     ensures good { AreGoodOn floor.now kept.old.items → AreGoodOn floor.now kept.new.items }
     ensures total { IsTotal totals.new }
-    ensures rest { posts.new.items ≡ [] }
+    ensures rest { copies.new.firsts.items ≡ [] }
 {
-    for place in 0..posts.len() as u32 {
-        let Some(copies) = posts.pop_front() else {
+    let Copies { firsts, seconds } = copies;
+    for place in 0..firsts.len() as u32 {
+        let Some(post) = firsts.pop_front() else {
             return;
         };
         let id = PostId { entry, place };
-        offer_one(floor, out, kept, seat, fate, totals, id, copies);
+        offer_one(floor, out, kept, seat, fate, totals, id, post, seconds);
     }
 }

@@ -7,11 +7,10 @@ use Rattle.hx_clock.specs.Views.{Owns}
 use Rattle.hx_law_threads.specs.Feeding.{IsFed, entries_in}
 use Rattle.hx_law_threads.specs.Own.{IsOwn}
 use Rattle.hx_machine.specs.Machines.{IsMachine}
-use Rattle.hx_outbox.specs.Offers.{firsts_of, IsOffered}
+use Rattle.hx_outbox.specs.Offers.{IsOffered}
 use Rattle.hx_outbox.specs.Places.{place_of}
 use Rattle.hx_driver.specs.Desks.{entries_before, past_of}
 use Rattle.hx_driver.specs.Inboxes.{ins_of}
-use Rattle.hx_driver.proofs.Doubled.{copies-long}
 use Rattle.hx_driver.proofs.Made.{entry_on, made-long, made-one, next-fed, next-meets, next-of, next-own, next-sound, next-told, owns-carries, past-next}
 use Rattle.hx_driver.proofs.entering.make_entry.Goals as goal
 
@@ -51,12 +50,12 @@ offer_all-requires-clause-sound g c =
     (next-sound script d (place_of script.space d.actor) c.act_on-stamp.result.0 (entry_on d c.args.input) h.seat.1 c.act_on-stamp.ensures.later h.own h.fed n)
 
 pub offer_all-requires-clause-length : goal.offer_all-requires-clause-length
-offer_all-requires-clause-length g c = omega (arith, copies-long c.args.desk.now.lent.copies.items c.args.desk.now.lent.posts c.requires.copies.0, c.requires.copies.1)
+offer_all-requires-clause-length g c = omega (arith, ap length c.requires.copies.0, c.requires.copies.1)
 
 pub offer_all-requires-clause-room : goal.offer_all-requires-clause-room
 offer_all-requires-clause-room g c =
     let kept = c.requires.places.0.kept in
-    omega (arith, copies-long c.args.desk.now.lent.copies.items c.args.desk.now.lent.posts c.requires.copies.0, kept)
+    omega (arith, ap length c.requires.copies.0, kept)
 
 pub returns-clause-desk : goal.returns-clause-desk
 returns-clause-desk g c w h =
@@ -104,7 +103,7 @@ returns-clause-turn g c =
         part = is;
         out = c.offer_all.ensures.out;
         more = c.offer_all.ensures.more;
-        offered = subst (IsOffered _ _ _ _ _ _) (made-one c.act_on-stamp.result.0 r (firsts_of d.lent.copies.items) same) c.offer_all.ensures.offered;
+        offered = subst (IsOffered _ _ _ _ _ _) (made-one c.act_on-stamp.result.0 r d.lent.copies.firsts.items same) c.offer_all.ensures.offered;
         total = c.offer_all.ensures.total;
         one = omega arith;
         few = omega (arith, made-long c.act_on-stamp.result.0 r d.lent.posts refl, c.requires.copies.1);

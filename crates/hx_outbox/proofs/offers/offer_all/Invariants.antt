@@ -1,15 +1,16 @@
 use Rattle.std.proofs.Common.{◌≡◌, ◌+◌, ◌*◌, ◌≤◌, ◌++◌, length, List}
 use Rattle.std.specs.VecDeque.{deque_len, deque_capacity}
-use Rattle.hx_outbox.specs.declared.copies.Copies.{Copies}
+use Rattle.hx_types.specs.declared.messages.Post.{Post}
+use Rattle.hx_fate.specs.States.{MayRepeat}
 use Rattle.hx_outbox.specs.Floors.{AreGoodOn}
 use Rattle.hx_outbox.specs.Outboxes.{kept_weight, out_weight, IsOutbox, MorePut}
-use Rattle.hx_outbox.specs.Offers.{firsts_of, named, IsOffered, IsTotal}
+use Rattle.hx_outbox.specs.Offers.{named, IsOffered, IsTotal}
 use Rattle.hx_outbox.proofs.offers.offer_all.Given as goal
 
 -- these were offered, and the rest is left
 abbrev pub invariant-loop-place : goal.invariant-loop-place
 invariant-loop-place g l =
-    (done : List Copies)
+    (done : List Post)
     × (l.seat ≡ l.initial.seat)
     × IsOutbox l.floor.boxes.now l.out
     × (l.out.index ≡ l.initial.out.index)
@@ -21,8 +22,9 @@ invariant-loop-place g l =
     × (l.totals.posts ≡ l.initial.totals.posts + l.place)
     × IsTotal l.totals
     × (l.place ≡ length done)
-    × (done ++ l.posts.items ≡ l.initial.posts.items)
+    × (done ++ l.firsts.items ≡ l.initial.firsts.items)
+    × (MayRepeat ((g.dyn-1.0.entry l.fate.vtable).1.state l.fate.value) → l.seconds.items ≡ l.firsts.items)
     × IsOffered (λ h. out_weight h l.initial.out.ports.items + kept_weight h l.initial.kept.items) (λ h. out_weight h l.out.ports.items + kept_weight h l.kept.items) l.initial.totals l.totals
     ((g.dyn-1.0.entry l.initial.fate.vtable).1.state l.initial.fate.value)
     ((g.dyn-1.0.entry l.fate.vtable).1.state l.fate.value)
-    (named l.entry 0 (firsts_of done))
+    (named l.entry 0 done)
