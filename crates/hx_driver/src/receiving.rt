@@ -30,6 +30,7 @@ fn count_taken(heard: &mut Vec<u64>, name: u32)
 
 /// Takes an envelope from the actor's box, counts it and learns what its pass knows. `None` comes
 /// only where the box was empty at a moment of the call.
+#[inline(always)]
 pub(crate) fn receive<R: Wait, G>(floor: &Floor<'_, R, G>, desk: &mut Desk) -> Option<Input>
     requires desk { (w : ℕ) × (rest : List Mailed) × IsDeskOn floor.now w rest desk.old }
     requires room { CanCount desk.old.heard.items }

@@ -43,6 +43,7 @@ pub fn place_of(space: &Space, actor: Actor) -> usize
 }
 
 /// Puts an envelope into its receiver's box, or keeps it where the box is full.
+#[inline(always)]
 pub fn put_or_keep<R: Wait, G>(
     floor: &Floor<'_, R, G>,
     out: &mut Outbox,
