@@ -5,8 +5,8 @@
 //! turn. All memory for the copies of a post and for keeping its envelopes is taken before the
 //! entry that makes it has a stamp: here `Copies::fill` alone takes memory. Each post is copied
 //! once, and once more where the fate may repeat. What is proved counts by weights: of any measure
-//! of posts, what was put or is kept measures as much as what was offered, each post as often as its
-//! choice says. That such sums stand in for multisets of posts is this project's choice.
+//! of posts, what was put or is kept measures as much as what was offered, each post as often as
+//! its choice says. That such sums stand in for multisets of posts is this project's choice.
 #![tactic(auto)]
 
 mod copies;
