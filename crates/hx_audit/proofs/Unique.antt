@@ -2,12 +2,12 @@
 use Rattle.std.proofs.Common.{◌≡◌, ℕ, inl, inr, Bool, true, false, List, [], ◌∷◌, map, reverse, cond, Option, None, Some, refl, sym, ap, ◌∙◌, subst}
 use Rattle.std.specs.List.{find}
 use Rattle.std.proofs.lemmas.Bool.{cond-false, cond-true}
+use Rattle.hx_types.proofs.Lemmas.{text_below-differs, text_below-trans}
 use Rattle.hx_types.specs.Words.{IsIn, same_text, text_below, when_some}
 use Rattle.hx_model.specs.Types.{Row}
 use Rattle.hx_model.specs.Matching.{matches}
 use Rattle.hx_model.specs.Searching.{FinishedSearch}
 use Rattle.hx_model.proofs.Lemmas.{same_text_self}
-use Rattle.hx_law_folds.proofs.Lemmas.{below-trans}
 use Rattle.hx_report_lines.specs.declared.blocks.Block.{Block}
 use Rattle.hx_report_lines.specs.declared.calls.CallLine.{CallLine}
 use Rattle.hx_report_lines.specs.declared.histories.HistoryLines.{HistoryLines}
@@ -17,7 +17,7 @@ use Rattle.hx_audit.specs.Accounts.{IsChangeShownBy, IsSearchWholeBy, IsTrueRowB
 use Rattle.hx_audit.specs.Clauses.{IsWhole}
 use Rattle.hx_audit.specs.Told.{account_of, item_told, items_at, search_told}
 use Rattle.hx_audit.specs.Walking.{AllShown, HasCut, HistoriesAscend}
-use Rattle.hx_audit.proofs.Keys.{key_differs, one_key}
+use Rattle.hx_audit.proofs.Keys.{one_key}
 
 abbrev IsKey : List ℕ → HistoryLines → Bool
 IsKey key h = same_text h.key key
@@ -25,14 +25,14 @@ IsKey key h = same_text h.key key
 above_in : (key : List ℕ) (hs : List HistoryLines) → AscendsFrom text_below (Some key) (map (λ (h : HistoryLines). h.key) hs) → (h : HistoryLines) → IsIn h hs → text_below key h.key ≡ true
 above_in key [] up h i = absurd i
 above_in key (x ∷ hs) up h (inl e) = ap (λ (y : HistoryLines). text_below key y.key) e ∙ up.0
-above_in key (x ∷ hs) up h (inr i) = below-trans key x.key h.key up.0 (above_in x.key hs up.1 h i)
+above_in key (x ∷ hs) up h (inr i) = text_below-trans key x.key h.key up.0 (above_in x.key hs up.1 h i)
 
 -- a history is the one of its key
 found_own : (last : Option (List ℕ)) (hs : List HistoryLines) → AscendsFrom text_below last (map (λ (h : HistoryLines). h.key) hs) → (h : HistoryLines) → IsIn h hs → find (IsKey h.key) hs ≡ Some h
 found_own last [] up h i = absurd i
 found_own last (x ∷ hs) up h (inl e) = cond-true (same_text x.key h.key) (Some x) (find (IsKey h.key) hs) (ap (λ (y : HistoryLines). same_text y.key h.key) (sym e) ∙ same_text_self h.key) ∙ ap Some (sym e)
 found_own last (x ∷ hs) up h (inr i) =
-    cond-false (same_text x.key h.key) (Some x) (find (IsKey h.key) hs) (key_differs x.key h.key (above_in x.key hs up.1 h i))
+    cond-false (same_text x.key h.key) (Some x) (find (IsKey h.key) hs) (text_below-differs x.key h.key (above_in x.key hs up.1 h i))
     ∙ found_own (Some x.key) hs up.1 h i
 
 pub found_in : {A : Type 0} (test : A → Bool) (xs : List A) (x : A) → find test xs ≡ Some x → IsIn x xs × (test x ≡ true)

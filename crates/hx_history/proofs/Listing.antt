@@ -1,5 +1,5 @@
 -- The histories of the groups of a map are those of all keys.
-use Rattle.std.proofs.Common.{◌≡◌, ◌≢◌, ℕ, Bool, true, false, ◌&&◌, ◌||◌, cond, List, [], ◌∷◌, ◌++◌, Option, Some, None, map, reverse, get_or, refl, sym, ap, subst, ◌∙◌, inl, inr}
+use Rattle.std.proofs.Common.{◌≡◌, ◌≢◌, ℕ, Bool, true, false, ◌&&◌, cond, List, [], ◌∷◌, ◌++◌, Option, Some, None, map, reverse, get_or, refl, sym, ap, subst, ◌∙◌, inl, inr}
 use Rattle.std.proofs.lemmas.List.{append-nil, reverse-reverse}
 use Rattle.std.proofs.lemmas.List.Elements.{All-append, All-cons, All-nil, All-weaker, filter_agree, recursion_from_All}
 use Rattle.std.proofs.lemmas.List.Kept.{IsStrictlySortedBy-dedup}
@@ -14,12 +14,12 @@ use Rattle.std.specs.List.{All, AllByRecursion, IsDistinct, dedup, filter, flat_
 use Rattle.std.specs.List.Sorted.{IsSorted, IsStrictlySortedBy}
 use Rattle.std.specs.Map.{keys_of, lookup}
 use Rattle.std.specs.Option.{option_map_or}
-use Rattle.std.specs.Ordering.{nat_cmp, ordering_then}
+use Rattle.std.specs.Ordering.{is_lt, nat_cmp}
 use Rattle.std.specs.declared.cmp.Ordering.{Ordering}
-use Rattle.std.specs.declared.cmp.Ordering.TheVariants.{Less, Equal, Greater}
-use Rattle.std.specs.Prelude.{nat_lt, ◌==◌}
+use Rattle.std.specs.declared.cmp.Ordering.TheVariants.{Less}
 use Rattle.std.specs.Str.{bytes_eq}
 use Rattle.hx_model.specs.Types.{Entry, Item, Script}
+use Rattle.hx_types.proofs.Lemmas.{text_below-is_lt}
 use Rattle.hx_types.specs.Words.{IsIn, text_below}
 use Rattle.hx_types.specs.Posts.{keys_ascend}
 use Rattle.hx_model.specs.Histories.{history_of}
@@ -28,20 +28,6 @@ use Rattle.hx_history.specs.declared.events.Event.{Event}
 use Rattle.hx_history.specs.Events.{event_view, events_of, history_by, is_at as is_event_at, key_of}
 use Rattle.hx_history.specs.Listed.{AreHistories, IsHistory, keys_of_histories, listed_of}
 use Rattle.hx_history.proofs.ByEvents.{history_found}
-
--- two orders of texts
-by_first : (lower same : Bool) (rest : Ordering) (below : Bool) → ordering_then (cond lower Less (cond same Equal Greater)) rest ≡ Less
-    → (rest ≡ Less → below ≡ true) → (lower || (same && below)) ≡ true
-by_first true same rest below less more = refl
-by_first false true rest below less more = more less
-by_first false false rest below less more = cc
-
-text_below-from_less : (xs ys : List ℕ) → slice_cmp nat_cmp xs ys ≡ Less → text_below xs ys ≡ true
-text_below-from_less [] [] less = cc
-text_below-from_less [] (y ∷ ys) less = refl
-text_below-from_less (x ∷ xs) [] less = cc
-text_below-from_less (x ∷ xs) (y ∷ ys) less =
-    by_first (nat_lt x y) (x == y) (slice_cmp nat_cmp xs ys) (text_below xs ys) less (text_below-from_less xs ys)
 
 same_text_from : (xs ys : List ℕ) → bytes_eq xs ys ≡ true → xs ≡ ys
 same_text_from xs ys same = (bytes_eq-Decides xs ys).0 same
@@ -105,7 +91,7 @@ module _ {V : Type 0} (script : Script) (group : V → List Event) where
       → list_all (text_below low) (keys_of_histories (histories_of entries)) ≡ true
   below_all low [] all = refl
   below_all low (e ∷ entries) all =
-      below_more low e.0.now (told_by e.1) (histories_of entries) (text_below-from_less low e.0.now all.0) (below_all low entries all.1)
+      below_more low e.0.now (told_by e.1) (histories_of entries) (text_below-is_lt low e.0.now ∙ ap is_lt all.0) (below_all low entries all.1)
 
   ascend_more : (key : List ℕ) (items : List Item) (rest : List KeyHistory) → list_all (text_below key) (keys_of_histories rest) ≡ true
       → keys_ascend (keys_of_histories rest) ≡ true → keys_ascend (keys_of_histories (listed_of key items ++ rest)) ≡ true

@@ -6,7 +6,7 @@ use Rattle.hx_law_lemmas.proofs.Lemmas.Vocabulary.{refl, reverse, Row, same_text
 use Rattle.hx_law_lemmas.proofs.Lemmas.Vocabulary.{true, when_some, zero, ℕ, ◌&&◌, ◌∙◌, ◌∷◌, ◌≡◌, ◌≢◌, ◌⊎◌}
 use Rattle.hx_law_lemmas.proofs.Lemmas.{in-map, in-reverse, map-in, of-reverse}
 use Rattle.std.specs.Option.{is_some}
-use Rattle.hx_law_folds.proofs.Lemmas.{below-trans}
+use Rattle.hx_types.proofs.Lemmas.{text_below-trans}
 use Rattle.hx_report_lines.specs.declared.blocks.Block.{Block}
 use Rattle.hx_report_lines.specs.declared.calls.CallLine.{CallLine}
 use Rattle.hx_report_lines.specs.declared.histories.HistoryLines.{HistoryLines}
@@ -175,7 +175,7 @@ all_above key r (x ∷ rows) low h =
   where
     first : (key ≡ r.key) ⊎ (text_below key r.key ≡ true) → text_below key x.key ≡ true
     first (inl e) = ap (λ k. text_below k x.key) e ∙ h zero
-    first (inr l) = below-trans key r.key x.key l (h zero)
+    first (inr l) = text_below-trans key r.key x.key l (h zero)
 
 rows_ascend : (above : Option Row) (rows : List Row) → Rising above rows → keys_ascend (map (λ (x : Row). x.key) rows) ≡ true
 rows_ascend above [] h = refl

@@ -3,7 +3,7 @@ use Rattle.hx_law_lemmas.proofs.Lemmas.Vocabulary.{[], All, All-nil, and_parts, 
 use Rattle.hx_law_lemmas.proofs.Lemmas.Vocabulary.{effect_of, Entry, false, false≢true, Fits, flat_map, Get, HasCause, history_of, inl, inr, is_rows, is_search}
 use Rattle.hx_law_lemmas.proofs.Lemmas.Vocabulary.{IsAnswerOf, IsFound, IsGiven, IsIn, IsLegal, IsRowOf, IsRun, IsScript, IsSome, IsSoundAnswer, Item}
 use Rattle.hx_law_lemmas.proofs.Lemmas.Vocabulary.{items_with_newer, ItemWithNewer, key_of, KeyFits, keys_ascend, length, List, list_all, list_of, map, None}
-use Rattle.hx_law_lemmas.proofs.Lemmas.Vocabulary.{numbered, object_now, Op, Option, Put, refl, Row, same_text, same_text_self, Script, Session, Some, Space}
+use Rattle.hx_law_lemmas.proofs.Lemmas.Vocabulary.{numbered, object_now, Op, Option, Put, refl, Row, Script, Session, Some, Space}
 use Rattle.hx_law_lemmas.proofs.Lemmas.Vocabulary.{subst, suc, sum_by-cons, sym, text_below, TraceFits, true, Value, Version, when_some, zero, ℕ, ◌++◌, ◌+◌}
 use Rattle.hx_law_lemmas.proofs.Lemmas.Vocabulary.{◌<◌, ◌^◌, ◌∙◌, ◌∷◌, ◌≡◌, ◌≤◌, ◌⊎◌}
 use Rattle.std.specs.Prelude.{sum_by}
@@ -11,7 +11,8 @@ use Rattle.hx_types.specs.declared.calls.Answer.TheVariants as an_answer
 use Rattle.hx_types.specs.declared.traces.Note.TheVariants as a_note
 use Rattle.hx_lex.specs.Spelling.{IsText}
 use Rattle.hx_law_texts.specs.Sayable.{CallIsSayable, IsSayable, IsSayableScript}
-use Rattle.hx_law_lemmas.proofs.Lemmas.{all-in, all-of, in-append, in-flat, in_left, in_right, fits-key, below-differs, EndedAt, begin_is}
+use Rattle.hx_types.proofs.Lemmas.{text_below-apart}
+use Rattle.hx_law_lemmas.proofs.Lemmas.{all-in, all-of, in-append, in-flat, in_left, in_right, fits-key, EndedAt, begin_is}
 use Rattle.hx_law_posts.proofs.Lemmas.{bounds}
 use Rattle.hx_law_searches.proofs.Lemmas.{runs_are_linear, runs_fit}
 use Rattle.hx_law_causes.proofs.Lemmas.{runs_have_causes}
@@ -55,7 +56,7 @@ few_keys (k ∷ rest) K up has =
     without : (j : List ℕ) → IsIn j rest → (front back : List (List ℕ)) → IsIn j (front ++ k ∷ back) → list_all (text_below k) rest ≡ true → IsIn j (front ++ back)
     without j i front back h below = elim (in-append front (k ∷ back) j h) [
       | inl a ↦ in_left front back j a
-      | inr (inl e) ↦ absurd (false≢true (sym (below-differs k j (all_below k rest below j i)) ∙ ap (same_text k) e ∙ same_text_self k))
+      | inr (inl e) ↦ absurd (text_below-apart k j (all_below k rest below j i) (sym e))
       | inr (inr b) ↦ in_right front back j b
     ]
 

@@ -2,9 +2,10 @@
 use Rattle.hx_law_folds.proofs.Vocabulary.{[], accepting, AllByRecursion, ap, base-moved_all, Bool, CanBeSent, CanJoin, cond, cond-false, cond-true, cond_both}
 use Rattle.hx_law_folds.proofs.Vocabulary.{eq_of_same_text, false, filter, folded, installed_slots, InTurn, is_key_region, IsSlotOf, join_keys, join_slot}
 use Rattle.hx_law_folds.proofs.Vocabulary.{joining, Kept, kept_among, kept_of, keys_of, KeysDiffer, KeyState, List, list_any, map, moved_all, new_state}
-use Rattle.hx_law_folds.proofs.Vocabulary.{no_kept, offered_all, over, pending_of, pending_of_all, refl, RegionId, resumed, same_text, same_text_self}
+use Rattle.hx_law_folds.proofs.Vocabulary.{no_kept, offered_all, over, pending_of, pending_of_all, refl, RegionId, resumed, same_text}
 use Rattle.hx_law_folds.proofs.Vocabulary.{SlotContext, Slots, snapshot_of, state_among, state_from, subst, sym, text_below, true, Update, ℕ, ⊤, ◌∙◌, ◌∷◌, ◌≡◌}
 use Rattle.std.proofs.Common.{◌||◌}
+use Rattle.hx_types.proofs.Lemmas.{same_text-symm, text_below-differs, text_below-other, text_below-trans}
 use Rattle.hx_model.proofs.Lemmas.{found_same, others_stay}
 use Rattle.hx_model.specs.ServerSteps.{with_key}
 use Rattle.hx_law_folds.proofs.Joining.{joining-state}
@@ -12,7 +13,6 @@ use Rattle.hx_law_folds.proofs.Lists.{all-weaker}
 use Rattle.hx_law_folds.proofs.Slots.{slot-new}
 use Rattle.hx_law_folds.proofs.Snapshots.{among-marks, kept-sent, pending-sent}
 use Rattle.hx_law_folds.proofs.States.{among-key}
-use Rattle.hx_law_folds.proofs.Texts.{above, below-differs, below-trans}
 
 -- keys in byte order
 abbrev pub Ascend : List (List ℕ) → Type 0
@@ -33,19 +33,9 @@ with_key-ascends key (x ∷ rest) h =
     (λ e. h)
     (
     λ e. cond_both (text_below key x) (key ∷ x ∷ rest) (x ∷ with_key key rest) Ascend
-    (λ b. ((b, all-weaker (λ (y : List ℕ). text_below x y ≡ true) (λ (y : List ℕ). text_below key y ≡ true) (λ y k. below-trans key x y b k) rest h.0), h))
-    (λ b. (all-with_key (λ (y : List ℕ). text_below x y ≡ true) key rest (above x key (differ x key e) b) h.0, with_key-ascends key rest h.1))
+    (λ b. ((b, all-weaker (λ (y : List ℕ). text_below x y ≡ true) (λ (y : List ℕ). text_below key y ≡ true) (λ y k. text_below-trans key x y b k) rest h.0), h))
+    (λ b. (all-with_key (λ (y : List ℕ). text_below x y ≡ true) key rest (text_below-other key x e b) h.0, with_key-ascends key rest h.1))
     )
-  where
-    differ : (a b : List ℕ) → same_text b a ≡ false → same_text a b ≡ false
-    differ a b e = turned (same_text a b) (λ s. clash (sym e ∙ ap (same_text b) (eq_of_same_text a b s) ∙ same_text_self b))
-      where
-        clash : false ≡ true → ⊥
-        clash q = cc
-
-        turned : (x : Bool) → (x ≡ true → ⊥) → x ≡ false
-        turned true f = absurd (f refl)
-        turned false f = refl
 
 pub keys-ascend : (us : List Update) → Ascend (keys_of us)
 keys-ascend [] = tt
@@ -58,7 +48,7 @@ Once (x ∷ rest) = AllByRecursion (λ (y : List ℕ). same_text y x ≡ false) 
 
 pub ascend-once : (ks : List (List ℕ)) → Ascend ks → Once ks
 ascend-once [] h = tt
-ascend-once (x ∷ rest) h = (all-weaker (λ (y : List ℕ). text_below x y ≡ true) (λ (y : List ℕ). same_text y x ≡ false) (λ y k. below-differs x y k) rest h.0, ascend-once rest h.1)
+ascend-once (x ∷ rest) h = (all-weaker (λ (y : List ℕ). text_below x y ≡ true) (λ (y : List ℕ). same_text y x ≡ false) (λ y k. same_text-symm y x ∙ text_below-differs x y k) rest h.0, ascend-once rest h.1)
 
 abbrev has_key : List ℕ → List (List ℕ) → Bool
 has_key k ks = list_any (λ (y : List ℕ). same_text y k) ks

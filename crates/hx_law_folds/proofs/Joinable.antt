@@ -4,6 +4,7 @@ use Rattle.hx_law_folds.proofs.Vocabulary.{filter, first_config, Input, is_key_r
 use Rattle.hx_law_folds.proofs.Vocabulary.{listed_regions, ltb, ltb-true, map, Message, MessageJoins, refl, RegionId, resumed, same_text, server_at_start}
 use Rattle.hx_law_folds.proofs.Vocabulary.{server_step, ServerId, ServerState, SlotContext, snapshot_of, Space, state_from, subst, sym, text_below, true}
 use Rattle.hx_law_folds.proofs.Vocabulary.{with_state, ℕ, ◌<◌, ◌∙◌, ◌∷◌, ◌≡◌}
+use Rattle.hx_types.proofs.Lemmas.{same_text-symm, text_below-differs, text_below-other, text_below-trans}
 use Rattle.hx_types.specs.declared.messages.Message.TheVariants as a_message
 use Rattle.hx_law_folds.specs.Folding.{InputJoins, IsJoinableReplica, IsJoinableServer, KeysAscend}
 use Rattle.hx_law_folds.proofs.Owning.{ack-joinable, adopted-joinable, call-joinable, join-joinable, joinable-from, joinable-new, joinable-sent}
@@ -12,7 +13,6 @@ use Rattle.hx_law_folds.proofs.Lists.{all-made, all-map, all-weaker}
 use Rattle.hx_law_folds.proofs.Slots.{later-of}
 use Rattle.hx_law_folds.proofs.States.{among-of, with-slots}
 use Rattle.hx_law_folds.proofs.ServerWalk.{Brings, SlotsStay, step-stays}
-use Rattle.hx_law_folds.proofs.Texts.{above, below-differs, below-trans}
 
 -- slots stay in byte order of keys
 with_state-ascends : (s : KeyState) (states : List KeyState) → KeysAscend states → KeysAscend (with_state s states)
@@ -22,8 +22,8 @@ with_state-ascends s (x ∷ rest) h =
     (λ e. (subst (λ (k : List ℕ). AllByRecursion (λ (t : KeyState). text_below k t.base.key ≡ true) rest) (eq_of_same_text x.base.key s.base.key e) h.0, h.1))
     (
     λ e. cond_both (text_below s.base.key x.base.key) (s ∷ x ∷ rest) (x ∷ with_state s rest) KeysAscend
-    (λ b. ((b, all-weaker (λ (t : KeyState). text_below x.base.key t.base.key ≡ true) (λ (t : KeyState). text_below s.base.key t.base.key ≡ true) (λ t k. below-trans s.base.key x.base.key t.base.key b k) rest h.0), h))
-    (λ b. (with-slots (λ (t : KeyState). text_below x.base.key t.base.key ≡ true) s rest (above x.base.key s.base.key e b) h.0, with_state-ascends s rest h.1))
+    (λ b. ((b, all-weaker (λ (t : KeyState). text_below x.base.key t.base.key ≡ true) (λ (t : KeyState). text_below s.base.key t.base.key ≡ true) (λ t k. text_below-trans s.base.key x.base.key t.base.key b k) rest h.0), h))
+    (λ b. (with-slots (λ (t : KeyState). text_below x.base.key t.base.key ≡ true) s rest (text_below-other s.base.key x.base.key (same_text-symm s.base.key x.base.key ∙ e) b) h.0, with_state-ascends s rest h.1))
     )
 
 -- the same keys ascend
@@ -103,7 +103,7 @@ can-join g b states h = all-weaker (IsJoinable g b) (CanJoin g b) (λ s k. joina
 pub keys-differ : (states : List KeyState) → KeysAscend states → KeysDiffer states
 keys-differ [] h = tt
 keys-differ (s ∷ rest) h =
-    (all-weaker (λ (t : KeyState). text_below s.base.key t.base.key ≡ true) (λ (t : KeyState). same_text t.base.key s.base.key ≡ false) (λ t k. below-differs s.base.key t.base.key k) rest h.0, keys-differ rest h.1)
+    (all-weaker (λ (t : KeyState). text_below s.base.key t.base.key ≡ true) (λ (t : KeyState). same_text t.base.key s.base.key ≡ false) (λ t k. same_text-symm t.base.key s.base.key ∙ text_below-differs s.base.key t.base.key k) rest h.0, keys-differ rest h.1)
 
 pub sent-floors : (g : RegionId) (states : List KeyState) → AllByRecursion (λ (k : Kept). 0 < k.floor.0) (snapshot_of g states)
 sent-floors g [] = tt

@@ -17,4 +17,3 @@ pub use Rattle.hx_law_folds.proofs.Sound.{sound-fits, sound-joins, keys-pass}
 pub use Rattle.hx_law_folds.proofs.Standing.{stands-acknowledged, stands-forgotten, stands-marked, stands-offered, stands-settled}
 pub use Rattle.hx_law_folds.proofs.States.{among-key, folded-among, folded-new, folded-with}
 pub use Rattle.hx_law_folds.proofs.Staying.{server-stays}
-pub use Rattle.hx_law_folds.proofs.Texts.{above, below-differs, below-trans}

@@ -55,6 +55,6 @@ pub use Rattle.hx_law_lemmas.proofs.SessionTurns.{SaysOf, SessionTurn, session_t
 pub use Rattle.hx_law_lemmas.proofs.Showing.{rows-full, rows-sound}
 pub use Rattle.hx_law_lemmas.proofs.SmallBooks.{small_books_are}
 pub use Rattle.hx_law_lemmas.proofs.Staying.{stays-by}
-pub use Rattle.hx_law_lemmas.proofs.Texts.{Ascend, ascend-test, below-differs, below-other, below-trans, state-there, state_key}
+pub use Rattle.hx_law_lemmas.proofs.Texts.{Ascend, ascend-test, state-there, state_key}
 pub use Rattle.hx_law_lemmas.proofs.Traces.{BeganAt, EndedAt, arrived, began_at, begin_is, ended_at, of_session, session_self}
 pub use Rattle.hx_law_lemmas.proofs.UpdatesApart.{places-apart}

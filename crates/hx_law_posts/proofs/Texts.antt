@@ -1,11 +1,8 @@
 -- Slots that stand in the order of their keys when one is put in.
-use Rattle.hx_law_lemmas.proofs.Lemmas.Vocabulary.{[], ap, cond, cond_both, eq_of_same_text, false, false≢true, inl, inr, IsIn, KeyState, List, same_text}
-use Rattle.hx_law_lemmas.proofs.Lemmas.Vocabulary.{same_text_self, subst, sym, text_below, true, with_state, ℕ, ◌∙◌, ◌∷◌, ◌≡◌}
-use Rattle.hx_law_lemmas.proofs.Lemmas.{Ascend, below-other, below-trans, state_key}
-
--- a text that tests neither the same nor below is above
-above : (a b : List ℕ) → same_text a b ≡ false → text_below b a ≡ false → text_below a b ≡ true
-above a b n e = below-other b a (λ q. false≢true (sym n ∙ ap (same_text a) q ∙ same_text_self a)) e
+use Rattle.hx_law_lemmas.proofs.Lemmas.Vocabulary.{[], ap, cond, cond_both, eq_of_same_text, inl, inr, IsIn, KeyState, List, same_text}
+use Rattle.hx_law_lemmas.proofs.Lemmas.Vocabulary.{subst, sym, text_below, true, with_state, ℕ, ◌∙◌, ◌∷◌, ◌≡◌}
+use Rattle.hx_law_lemmas.proofs.Lemmas.{Ascend, state_key}
+use Rattle.hx_types.proofs.Lemmas.{same_text-symm, text_below-other, text_below-trans}
 
 -- what stands in a list with a slot put in
 in-state : (t : KeyState) (states : List KeyState) (P : KeyState → Type 0) → P t → ((y : KeyState) → IsIn y states → P y) → (y : KeyState) → IsIn y (with_state t states) → P y
@@ -31,10 +28,10 @@ with_state-ascends t (x ∷ rest) h =
     λ b. (
       (λ y i. elim i [
         | inl q ↦ ap (λ (z : KeyState). text_below t.base.key z.base.key) q ∙ b
-        | inr j ↦ below-trans t.base.key x.base.key y.base.key b (h.0 y j)
+        | inr j ↦ text_below-trans t.base.key x.base.key y.base.key b (h.0 y j)
       ]),
       h,
     )
     )
-    (λ b. (in-state t rest (λ (y : KeyState). text_below x.base.key y.base.key ≡ true) (above x.base.key t.base.key e b) h.0, with_state-ascends t rest h.1))
+    (λ b. (in-state t rest (λ (y : KeyState). text_below x.base.key y.base.key ≡ true) (text_below-other t.base.key x.base.key (same_text-symm t.base.key x.base.key ∙ e) b) h.0, with_state-ascends t rest h.1))
     )

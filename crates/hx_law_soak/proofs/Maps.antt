@@ -2,7 +2,8 @@
 use Rattle.hx_law_lemmas.proofs.Lemmas.Vocabulary.{[], ap, cases_Bool, cond, cond-false, cond-true, cond_both, eq_of_same_text, false, false_from_ne_true}
 use Rattle.hx_law_lemmas.proofs.Lemmas.Vocabulary.{false≢true, inl, inr, IsIn, List, None, Option, refl, same_text, same_text_self, Some, subst, sym}
 use Rattle.hx_law_lemmas.proofs.Lemmas.Vocabulary.{text_below, true, Value, ℕ, ◌++◌, ◌∙◌, ◌∷◌, ◌≡◌, ◌⊎◌}
-use Rattle.hx_law_lemmas.proofs.Lemmas.{Ascend, below-differs, below-other, below-trans}
+use Rattle.hx_law_lemmas.proofs.Lemmas.{Ascend}
+use Rattle.hx_types.proofs.Lemmas.{text_below-apart, text_below-other, text_below-trans}
 use Rattle.hx_soak.specs.Tallying.{KeyObject}
 use Rattle.hx_law_soak.specs.Sequence.{keyed, object_at, with_object}
 
@@ -18,10 +19,6 @@ text-same a b e = subst (λ (t : List ℕ). same_text a t ≡ true) e (same_text
 -- texts that differ aren't the same
 pub text-differs : (a b : List ℕ) → (a ≡ b → ⊥) → same_text a b ≡ false
 text-differs a b n = false_from_ne_true (same_text a b) (λ t. n (eq_of_same_text a b t))
-
--- a text below another is another
-differs : (a b : List ℕ) → text_below a b ≡ true → a ≡ b → ⊥
-differs a b l e = false≢true (sym (below-differs a b l) ∙ text-same a b e)
 
 -- ---- what a key has
 
@@ -40,7 +37,7 @@ at-none key (o ∷ rest) f = at-rest key o rest (f o (inl refl)) ∙ at-none key
 
 -- keys above a key are others
 above : (key : List ℕ) (objects : List KeyObject) → ((o : KeyObject) → IsIn o objects → text_below key o.key ≡ true) → object_at key objects ≡ None
-above key objects f = at-none key objects (λ o i e. differs key o.key (f o i) (sym e))
+above key objects f = at-none key objects (λ o i e. text_below-apart key o.key (f o i) (sym e))
 
 -- keys above one that is above
 above-first : (key : List ℕ) (o : KeyObject) (rest : List KeyObject) → IsMap (o ∷ rest) → text_below key o.key ≡ true → object_at key (o ∷ rest) ≡ None
@@ -48,7 +45,7 @@ above-first key o rest m l = above key (o ∷ rest) f
   where
     f : (p : KeyObject) → IsIn p (o ∷ rest) → text_below key p.key ≡ true
     f p (inl e) = subst (λ (q : KeyObject). text_below key q.key ≡ true) (sym e) l
-    f p (inr i) = below-trans key o.key p.key l (m.0 p i)
+    f p (inr i) = text_below-trans key o.key p.key l (m.0 p i)
 
 -- one object of a key before others
 keyed-at : (key : List ℕ) (object : Option (List Value)) (rest : List KeyObject) → object_at key rest ≡ None → object_at key (keyed key object ++ rest) ≡ object
@@ -134,7 +131,7 @@ put-map key object (o ∷ rest) m =
     (λ l. keyed-map key object (o ∷ rest) m (λ p i. up l p i))
     (λ l. (
       λ p i. elim (put-in key object rest p i) [
-        | inl e ↦ subst (λ (k : List ℕ). text_below o.key k ≡ true) (sym e) (below-other key o.key (λ e. false≢true (sym t ∙ text-same key o.key e)) l)
+        | inl e ↦ subst (λ (k : List ℕ). text_below o.key k ≡ true) (sym e) (text_below-other key o.key t l)
         | inr j ↦ m.0 p j
       ],
       put-map key object rest m.1,
@@ -143,7 +140,7 @@ put-map key object (o ∷ rest) m =
   where
     up : text_below key o.key ≡ true → (p : KeyObject) → IsIn p (o ∷ rest) → text_below key p.key ≡ true
     up l p (inl e) = subst (λ (q : KeyObject). text_below key q.key ≡ true) (sym e) l
-    up l p (inr i) = below-trans key o.key p.key l (m.0 p i)
+    up l p (inr i) = text_below-trans key o.key p.key l (m.0 p i)
 
 -- ---- two maps in which each key has the same
 
@@ -155,7 +152,7 @@ same-maps (o ∷ xs) (p ∷ ys) m n f = elim (cases_Bool (same_text o.key p.key)
   | inl t ↦ (let e = eq_of_same_text o.key p.key t in one e (same-maps xs ys m.1 n.1 (tails e)))
   | inr t ↦ elim (cases_Bool (text_below o.key p.key)) [
     | inl l ↦ absurd (let e : Some o.object ≡ None = sym (at-first o xs) ∙ f o.key ∙ above-first o.key p ys n l in cc)
-    | inr l ↦ absurd (let e : None ≡ Some p.object = sym (above-first p.key o xs m (below-other o.key p.key (λ e. false≢true (sym t ∙ text-same o.key p.key e)) l)) ∙ f p.key ∙ at-first p ys in cc)
+    | inr l ↦ absurd (let e : None ≡ Some p.object = sym (above-first p.key o xs m (text_below-other o.key p.key t l)) ∙ f p.key ∙ at-first p ys in cc)
   ]
 ]
   where

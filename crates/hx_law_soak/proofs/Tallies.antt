@@ -8,7 +8,8 @@ use Rattle.hx_law_lemmas.proofs.Lemmas.Vocabulary.{Value, when_some, zero, ℕ, 
 use Rattle.hx_types.specs.declared.calls.Answer.TheVariants as an_answer
 use Rattle.hx_history.specs.declared.key_histories.KeyHistory.{KeyHistory}
 use Rattle.hx_history.specs.Listed.{AreHistories, IsHistory, keys_of_histories}
-use Rattle.hx_law_lemmas.proofs.Lemmas.{atomic-both, all-in, Ascend, below-differs}
+use Rattle.hx_law_lemmas.proofs.Lemmas.{atomic-both, all-in, Ascend}
+use Rattle.hx_types.proofs.Lemmas.{text_below-apart}
 use Rattle.hx_soak.specs.Soaking.{script_drawn, soak}
 use Rattle.hx_soak.specs.declared.counting.Counted.{Counted}
 use Rattle.hx_soak.specs.declared.counting.Counted.TheVariants as a_count
@@ -17,7 +18,7 @@ use Rattle.hx_law_soak.specs.Sequence.{object_at, one_if, op_at, tally_in_order,
 use Rattle.hx_law_soak.specs.Soaks.{IsSoak}
 use Rattle.hx_law_soak.proofs.Cutting.{cut_below}
 use Rattle.hx_law_soak.proofs.Histories.{ended-at, is-map, objects-end, objects-put, objects-searched, objects-are, one-more, takes}
-use Rattle.hx_law_soak.proofs.Maps.{IsMap, at-first, at-none, at-rest, same-maps, text-same}
+use Rattle.hx_law_soak.proofs.Maps.{IsMap, at-first, at-none, at-rest, same-maps}
 use Rattle.hx_law_soak.proofs.Sums.{all-callers, count-joined}
 use Rattle.hx_law_soak.proofs.Turns.{caller_at}
 
@@ -96,10 +97,6 @@ counts-search what t other e = absurd (false≢true e)
 
 -- ---- objects of histories
 
--- a text below another is another
-below-differs-from : (a b : List ℕ) → text_below a b ≡ true → a ≡ b → ⊥
-below-differs-from a b l e = false≢true (sym (below-differs a b l) ∙ text-same a b e)
-
 -- what the test of keys says
 ascending : (listed : List KeyHistory) → keys_ascend (keys_of_histories listed) ≡ true → Ascend (λ (h : KeyHistory). h.key) listed
 ascending [] e = tt
@@ -144,7 +141,7 @@ listed-at [] a h i = absurd i
 listed-at (g ∷ rest) a h (inl e) = subst (λ (z : KeyHistory). object_at z.key (objects_of (g ∷ rest)) ≡ last_object z.items) (sym e) (by (last_object g.items))
   where
     above : (h : KeyHistory) → IsIn h rest → h.key ≡ g.key → ⊥
-    above h i e = below-differs-from g.key h.key (a.0 h i) (sym e)
+    above h i e = text_below-apart g.key h.key (a.0 h i) (sym e)
 
     by : (o : Option (List Value)) → object_at g.key (present g.key o ++ objects_of rest) ≡ o
     by None = not-listed rest g.key above
@@ -153,7 +150,7 @@ listed-at (g ∷ rest) a h (inr i) = by (last_object g.items) (listed-at rest a.
   where
     by : (o : Option (List Value)) → object_at h.key (objects_of rest) ≡ last_object h.items → object_at h.key (present g.key o ++ objects_of rest) ≡ last_object h.items
     by None e = e
-    by (Some v) e = at-rest h.key (record { key = g.key; object = v }) (objects_of rest) (below-differs-from g.key h.key (a.0 h i)) ∙ e
+    by (Some v) e = at-rest h.key (record { key = g.key; object = v }) (objects_of rest) (text_below-apart g.key h.key (a.0 h i)) ∙ e
 
 module _ (seed calls : ℕ) (trace : List Entry) (finished : IsSoak seed calls trace) where
   abbrev script : Script

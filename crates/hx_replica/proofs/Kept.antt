@@ -8,6 +8,7 @@ use Rattle.std.proofs.lemmas.List.{map-append, map-set}
 use Rattle.std.proofs.lemmas.List.Elements.{All-head, All-tail}
 use Rattle.std.proofs.lemmas.Option.{same_Some}
 use Rattle.hx_model.specs.Types.{Config, Kept, RegionId, ServerId, Space, Update, Version}
+use Rattle.hx_types.proofs.Lemmas.{text_below-back, text_below-differs}
 use Rattle.hx_types.specs.Configs.{lists}
 use Rattle.hx_types.specs.Spaces.{IsAscending}
 use Rattle.hx_types.specs.Subspaces.{is_key_region}
@@ -31,7 +32,7 @@ use Rattle.hx_replica.proofs.Offers.{acknowledging_append, marks_pending}
 use Rattle.hx_replica.proofs.Planning.{IsFound, found_nowhere, found_there}
 use Rattle.hx_replica.proofs.Resumed.{marks_of_ends}
 use Rattle.hx_replica.proofs.Starting.{numbers_ascend}
-use Rattle.hx_replica.proofs.Walking.{flat_more, lower_differs, not_above}
+use Rattle.hx_replica.proofs.Walking.{flat_more}
 
 -- one change after another
 pub changed_twice : (f g : KeyState → KeyState) (i : ℕ) (xs : List KeyState) → changed_at f i (changed_at g i xs) ≡ changed_at (λ (s : KeyState). f (g s)) i xs
@@ -63,8 +64,8 @@ put_at f k (x ∷ xs) zero t a e =
     ∙ ap (λ (s : KeyState). f s ∷ xs) (sym same)
 put_at f k (x ∷ xs) (suc i) t a e =
     let below : text_below x.base.key (f t).base.key ≡ true = ap (text_below x.base.key) (k t) ∙ all-at (λ (s : KeyState). text_below x.base.key s.base.key ≡ true) xs i t a.0 e in
-    cond-false (same_text x.base.key (f t).base.key) _ _ (lower_differs x.base.key (f t).base.key below)
-    ∙ cond-false (text_below (f t).base.key x.base.key) _ _ (not_above x.base.key (f t).base.key below)
+    cond-false (same_text x.base.key (f t).base.key) _ _ (text_below-differs x.base.key (f t).base.key below)
+    ∙ cond-false (text_below (f t).base.key x.base.key) _ _ (text_below-back x.base.key (f t).base.key below)
     ∙ ap (λ l. x ∷ l) (put_at f k xs i t a.1 e)
 
 pub step_at : (s : StoreState) (place i : ℕ) (step : RegionId → KeyState → KeyState) → ((t : KeyState) → (step s.region t).base.key ≡ t.base.key) → KeysAscend s.states → slice_get s.states i ≡ Some (state_at s (key_at s place))

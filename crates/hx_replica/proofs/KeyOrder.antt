@@ -6,14 +6,14 @@ use Rattle.std.proofs.lemmas.Bool.{cond_both, cond-true, cond-false, false_from_
 use Rattle.std.proofs.lemmas.List.{take-append-drop}
 use Rattle.std.proofs.lemmas.Option.{same_Some}
 use Rattle.hx_model.specs.Types.{Update}
+use Rattle.hx_types.proofs.Lemmas.{text_below-differs, text_below-other, text_below-trans}
 use Rattle.hx_types.specs.Words.{same_text, text_below}
 use Rattle.hx_model.proofs.Lemmas.{eq_of_same_text, same_text_self}
 use Rattle.hx_model.specs.ServerSteps.{keys_of, with_key}
-use Rattle.hx_law_folds.proofs.Lemmas.{all-weaker, above, below-trans}
+use Rattle.hx_law_folds.proofs.Lemmas.{all-weaker}
 use Rattle.hx_store.proofs.Lemmas.{at-map}
 use Rattle.hx_replica.specs.Installing.{TextsAscend, texts}
 use Rattle.hx_replica.proofs.Turns.{at_item, take_next}
-use Rattle.hx_replica.proofs.Walking.{lower_differs}
 
 -- a key that is put among these, so far as they were gone through
 pub record IsGone (key : List ℕ) (ks : List (List ℕ)) (i : ℕ) : Type 0 where
@@ -101,8 +101,8 @@ with_key_ascends key (x ∷ rest) h =
     (λ e. h)
     (
     λ e. cond_both (text_below key x) (key ∷ x ∷ rest) (x ∷ with_key key rest) TextsAscend
-    (λ b. ((b, all-weaker (λ (y : List ℕ). text_below x y ≡ true) (λ (y : List ℕ). text_below key y ≡ true) (λ y k. below-trans key x y b k) rest h.0), h))
-    (λ b. (all_with_key (λ (y : List ℕ). text_below x y ≡ true) key rest (above x key (differs x key (λ q. false≢true (sym e ∙ ap (same_text key) q ∙ same_text_self key))) b) h.0, with_key_ascends key rest h.1))
+    (λ b. ((b, all-weaker (λ (y : List ℕ). text_below x y ≡ true) (λ (y : List ℕ). text_below key y ≡ true) (λ y k. text_below-trans key x y b k) rest h.0), h))
+    (λ b. (all_with_key (λ (y : List ℕ). text_below x y ≡ true) key rest (text_below-other key x e b) h.0, with_key_ascends key rest h.1))
     )
 
 pub keys_ascend : (us : List Update) → TextsAscend (keys_of us)
@@ -113,7 +113,7 @@ keys_ascend (u ∷ us) = with_key_ascends u.key (keys_of us) (keys_ascend us)
 pub earlier_differ : (ks : List (List ℕ)) (i : ℕ) (k : List ℕ) → TextsAscend ks → slice_get ks i ≡ Some k → AllByRecursion (λ (y : List ℕ). same_text y k ≡ false) (take i ks)
 earlier_differ [] i k h e = absurd cc
 earlier_differ (x ∷ rest) zero k h e = tt
-earlier_differ (x ∷ rest) (suc i) k h e = (lower_differs x k (at rest i h.0 e), earlier_differ rest i k h.1 e)
+earlier_differ (x ∷ rest) (suc i) k h e = (text_below-differs x k (at rest i h.0 e), earlier_differ rest i k h.1 e)
   where
     at : (ys : List (List ℕ)) (i : ℕ) → AllByRecursion (λ (y : List ℕ). text_below x y ≡ true) ys → slice_get ys i ≡ Some k → text_below x k ≡ true
     at [] i h e = absurd cc

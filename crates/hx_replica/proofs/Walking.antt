@@ -1,12 +1,8 @@
 -- The slots of a store one after another, and those that are made of them.
-use Rattle.std.proofs.Common.{◌≡◌, ℕ, zero, suc, ◌+◌, ◌<◌, true, false, List, [], ◌∷◌, ◌++◌, drop, take, length, None, Some, add-one, ap, sym, ◌∙◌, append_assoc, append-nil, arith}
+use Rattle.std.proofs.Common.{◌≡◌, ℕ, zero, suc, ◌+◌, ◌<◌, List, [], ◌∷◌, ◌++◌, drop, take, length, None, Some, add-one, ap, sym, ◌∙◌, append_assoc, append-nil, arith}
 use Rattle.std.specs.List.{flat_map, slice_get}
-use Rattle.std.proofs.lemmas.Bool.{false_from_ne_true, false≢true}
 use Rattle.std.proofs.lemmas.Grind.{flat_map-append}
 use Rattle.std.proofs.lemmas.Option.{same_Some}
-use Rattle.hx_types.specs.Words.{same_text, text_below}
-use Rattle.hx_model.proofs.Lemmas.{eq_of_same_text, same_text_self}
-use Rattle.hx_law_folds.proofs.Lemmas.{below-differs, below-trans}
 use Rattle.hx_replica.proofs.Turns.{take_next}
 
 -- what is posted of one item more
@@ -29,13 +25,3 @@ pub none_within : {A : Type 0} (xs : List A) (i : ℕ) → None ≡ slice_get xs
 none_within [] i e l = omega (arith, l)
 none_within (x ∷ xs) zero e l = cc
 none_within (x ∷ xs) (suc i) e l = none_within xs i e (omega (arith, l))
-
--- no text is below itself, nor below one that is below it
-pub not_below_itself : (a : List ℕ) → text_below a a ≡ true → ⊥
-not_below_itself a e = false≢true (sym (below-differs a a e) ∙ same_text_self a)
-
-pub not_above : (a b : List ℕ) → text_below a b ≡ true → text_below b a ≡ false
-not_above a b e = false_from_ne_true (text_below b a) (λ f. not_below_itself a (below-trans a b a e f))
-
-pub lower_differs : (a b : List ℕ) → text_below a b ≡ true → same_text a b ≡ false
-lower_differs a b e = false_from_ne_true (same_text a b) (λ s. not_below_itself a (ap (text_below a) (eq_of_same_text a b s) ∙ e))

@@ -1,5 +1,4 @@
 pub mod Lengths
-pub mod ByteOrder
 pub mod Taken
 pub mod NumbersRead
 pub mod ValuesRead

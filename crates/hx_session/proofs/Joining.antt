@@ -15,10 +15,11 @@ use Rattle.std.proofs.lemmas.Bool.{cond-true, cond-false}
 use Rattle.std.proofs.lemmas.Cmp.{alike_right, nat_list_cmp_total, tied_itself}
 use Rattle.std.proofs.lemmas.List.Sorted.{ranks_by, sorted_far}
 use Rattle.hx_model.specs.Types.{Row}
+use Rattle.hx_types.proofs.Lemmas.{text_below-is_lt}
 use Rattle.hx_types.specs.Words.{same_text, text_below}
 use Rattle.hx_model.specs.SessionSteps.{Part, merged_parts, rows_joined, with_row}
 use Rattle.hx_session.specs.Joined.{row_key, rows_in}
-use Rattle.hx_session.proofs.Texts.{below_is, equal_from, order, same_is}
+use Rattle.hx_session.proofs.Texts.{equal_from, order, same_is}
 
 -- rows that are joined to joined ones are joined together
 joined-append : (front back rows : List Row) → rows_joined (front ++ back) rows ≡ rows_joined front (rows_joined back rows)
@@ -65,7 +66,7 @@ turned a b o h = nat_list_cmp_total.antisymm b a ∙ ap ordering_reverse h
 -- where a row comes among rows, by how its key compares to that of the first
 comes : (r x : Row) (rest : List Row) (o : Ordering) → order r.key x.key ≡ o
     → with_row r (x ∷ rest) ≡ match_ordering o (r ∷ x ∷ rest) (kept_of r x ∷ rest) (x ∷ with_row r rest)
-comes r x rest o h = by o (same_is r.key x.key ∙ ap is_eq h) (below_is r.key x.key ∙ ap is_lt h)
+comes r x rest o h = by o (same_is r.key x.key ∙ ap is_eq h) (text_below-is_lt r.key x.key ∙ ap is_lt h)
   where
     by : (o : Ordering) → same_text r.key x.key ≡ is_eq o → text_below r.key x.key ≡ is_lt o
         → with_row r (x ∷ rest) ≡ match_ordering o (r ∷ x ∷ rest) (kept_of r x ∷ rest) (x ∷ with_row r rest)

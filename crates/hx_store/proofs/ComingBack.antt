@@ -3,9 +3,10 @@ use Rattle.std.proofs.Common.{◌≡◌, ℕ, ◌<◌, nat_lt, Bool, true, false
 use Rattle.std.specs.List.{AllByRecursion, filter}
 use Rattle.std.proofs.lemmas.Bool.{cond_both, cond-false, cond-true, eq-eqb, lt-ltb, ltb-true, ne_eqb, false≢true}
 use Rattle.hx_model.specs.Types.{Kept, RegionId}
+use Rattle.hx_types.proofs.Lemmas.{same_text-symm, text_below-differs}
 use Rattle.hx_types.specs.Words.{same_text, text_below, when_some}
 use Rattle.hx_law_folds.specs.Folding.{KeysAscend}
-use Rattle.hx_law_folds.proofs.Lemmas.{below-differs, from-key}
+use Rattle.hx_law_folds.proofs.Lemmas.{from-key}
 use Rattle.hx_model.proofs.Lemmas.{eq_of_same_text}
 use Rattle.hx_model.specs.ServerSteps.{state_from}
 use Rattle.hx_model.specs.Slots.{KeyState, kept_of, new_state, snapshot_of, state_among}
@@ -14,7 +15,7 @@ use Rattle.hx_store.specs.Reading.{come_back}
 -- a key below all others has no slot
 absent : (marks : Bool) (key : List ℕ) (states : List KeyState) → AllByRecursion (λ (t : KeyState). text_below key t.base.key ≡ true) states → state_among marks key states ≡ new_state marks key
 absent marks key [] h = refl
-absent marks key (s ∷ rest) h = cond-false (same_text s.base.key key) s _ (below-differs key s.base.key h.0) ∙ absent marks key rest h.1
+absent marks key (s ∷ rest) h = cond-false (same_text s.base.key key) s _ (same_text-symm s.base.key key ∙ text_below-differs key s.base.key h.0) ∙ absent marks key rest h.1
 
 module _ (g : RegionId) (marks : Bool) (key : List ℕ) where
   abbrev back : List KeyState → KeyState

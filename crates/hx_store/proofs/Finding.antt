@@ -5,12 +5,12 @@ use Rattle.std.specs.Map.{keys_of, lookup}
 use Rattle.std.proofs.lemmas.Bool.{cond_both, cond-false, false≢true, false_from_ne_true, or_left, or_right}
 use Rattle.std.proofs.lemmas.List.Quantifiers.{position-Some}
 use Rattle.std.proofs.lemmas.Option.{same_Some, slice_get-get_or}
+use Rattle.hx_types.proofs.Lemmas.{same_text-symm}
 use Rattle.hx_types.specs.Words.{same_text, when_some}
 use Rattle.hx_model.proofs.Lemmas.{eq_of_same_text}
 use Rattle.hx_store.specs.Invariant.{key_in}
 use Rattle.hx_store.specs.Slots.{Entry}
 use Rattle.hx_store.proofs.Lists.{at-map, at-within, length-of-map}
-use Rattle.hx_store.proofs.Order.{differ-back}
 
 abbrev first : Entry → List ℕ
 first e = e.0
@@ -31,7 +31,7 @@ none-any key [] e = refl
 none-any key (x ∷ es) e =
     cond_both (same_text key x.0) (Some x.1) (lookup (same_text key) es) (λ (o : Option _). is_some o ≡ false → list_any (λ (e : Entry). same_text e.0 key) (x ∷ es) ≡ false)
     (λ t f. absurd (false≢true (sym f)))
-    (λ t f. (λ j. differ-back key x.0 t j || none-any key es f j))
+    (λ t f. (λ j. (same_text-symm x.0 key ∙ t) j || none-any key es f j))
     e
 
 -- and where none is found the key has none
@@ -43,5 +43,5 @@ place-none key es (Some p) e = tt
 pub none-lookup : (key : List ℕ) (es : List Entry) → list_any (λ (e : Entry). same_text e.0 key) es ≡ false → lookup (same_text key) es ≡ None
 none-lookup key [] e = refl
 none-lookup key (x ∷ es) e =
-    cond-false (same_text key x.0) (Some x.1) (lookup (same_text key) es) (differ-back x.0 key (false_from_ne_true (same_text x.0 key) (λ t. false≢true (sym e ∙ or_left (same_text x.0 key) _ t))))
+    cond-false (same_text key x.0) (Some x.1) (lookup (same_text key) es) (same_text-symm key x.0 ∙ false_from_ne_true (same_text x.0 key) (λ t. false≢true (sym e ∙ or_left (same_text x.0 key) _ t)))
     ∙ none-lookup key es (false_from_ne_true (list_any (λ (y : Entry). same_text y.0 key) es) (λ t. false≢true (sym e ∙ or_right (same_text x.0 key) _ t)))

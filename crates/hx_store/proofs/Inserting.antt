@@ -10,17 +10,15 @@ use Rattle.std.specs.List.Sorted.{IsPartitionedBy, IsPartitionPoint}
 use Rattle.std.specs.Ordering.{is_lt, nat_cmp}
 use Rattle.std.proofs.lemmas.Bool.{cond-false, cond-true, eq-eqb, ltb-true}
 use Rattle.std.proofs.lemmas.List.Sorted.{IsPartitionPoint-from_clause}
+use Rattle.hx_types.proofs.Lemmas.{text_below-back, text_below-is_lt, text_below-other, text_below-trans}
 use Rattle.hx_types.specs.Words.{text_below}
-use Rattle.hx_law_folds.proofs.Lemmas.{above, below-trans}
 use Rattle.hx_index.specs.Orders.{stands_in}
 use Rattle.hx_store.specs.Indexed.{one_if, times}
 use Rattle.hx_store.specs.Invariant.{AscendAt, IsSplit, KeysApart, key_in, put_place}
 use Rattle.hx_store.specs.Slots.{Entry}
 use Rattle.hx_store.proofs.Lists.{all-among}
-use Rattle.hx_store.proofs.Order.{differ-back, not-below-back}
 use Rattle.hx_store.proofs.Ordering.{IsApart, put-ascends, take-stands}
 use Rattle.hx_store.proofs.Sorting.{differ, stands-times}
-use Rattle.hx_store.proofs.Texts.{below_is}
 use Rattle.hx_store.proofs.Walking.{stands-at}
 
 -- what stands before an item stays there where the item is taken out
@@ -66,7 +64,7 @@ module _ (es : List Entry) where
   partitioned : (key : List ℕ) (xs : List ℕ) → AscendAt es xs → IsPartitionedBy (λ j. text_below (key_in es j) key) xs
   partitioned key [] h i j d l m e = absurd (omega (arith, m))
   partitioned key (x ∷ xs) h zero zero d l m e = e
-  partitioned key (x ∷ xs) h zero (suc j) d l m e = below-trans (key_in es x) (key_in es (slice_index_or xs j d)) key (at xs j h.0 (omega (arith, m))) e
+  partitioned key (x ∷ xs) h zero (suc j) d l m e = text_below-trans (key_in es x) (key_in es (slice_index_or xs j d)) key (at xs j h.0 (omega (arith, m))) e
     where
       at : (ys : List ℕ) (j : ℕ) → AllByRecursion (λ k. text_below (key_in es x) (key_in es k) ≡ true) ys → j < length ys
           → text_below (key_in es x) (key_in es (slice_index_or ys j d)) ≡ true
@@ -95,7 +93,7 @@ module _ (es : List Entry) where
   split-from key xs p ascend l found calls =
       let below = λ (j : ℕ). text_below (key_in es j) key in
       let point = IsPartitionPoint-from_clause below xs p found (partitioned key xs ascend)
-      (λ a r f' k. ((calls a r f' k).0 ∙ sym (below_is (key_in es a.0.now) key), (calls a r f' k).1)) in
+      (λ a r f' k. ((calls a r f' k).0 ∙ sym (text_below-is_lt (key_in es a.0.now) key), (calls a r f' k).1)) in
       split-at key p xs l (λ i b. point.0 i 0 (omega arith) b) (λ i b n. point.1 i 0 b n)
 
   split-within : (key : List ℕ) (p : ℕ) (xs : List ℕ) → IsSplit es key p xs → p ≤ length xs
@@ -108,12 +106,12 @@ module _ (es : List Entry) where
   insert-put j zero [] a s = refl
   insert-put j zero (k ∷ rest) a s =
       sym (cond-true (text_below (key_in es j) (key_in es k)) (j ∷ k ∷ rest) (k ∷ put_place es j rest)
-      (above (key_in es j) (key_in es k) (differ-back (key_in es k) (key_in es j) a.0) s))
+      (text_below-other (key_in es k) (key_in es j) a.0 s))
   insert-put j (suc p) [] a s = absurd s
   insert-put j (suc p) (k ∷ rest) a s =
       ap (λ (ys : List ℕ). k ∷ ys) (insert-put j p rest a.1 s.1)
       ∙ sym (cond-false (text_below (key_in es j) (key_in es k)) (j ∷ k ∷ rest) (k ∷ put_place es j rest)
-      (not-below-back (key_in es k) (key_in es j) s.0))
+      (text_below-back (key_in es k) (key_in es j) s.0))
 
   module _ (apart : KeysApart es) (xs : List ℕ) (within : (i : ℕ) → stands_in xs i ≡ true → i < length es) (once : (i : ℕ) → times i xs ≤ 1)
       (at d : ℕ) (l : at < length xs) where

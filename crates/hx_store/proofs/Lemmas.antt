@@ -2,4 +2,3 @@
 pub use Rattle.hx_store.proofs.Lists.{at-map, at-within, all-at}
 pub use Rattle.hx_store.proofs.Moves.{moved_all_parts}
 pub use Rattle.hx_store.proofs.Showing.{keeps-same, keeps-trans}
-pub use Rattle.hx_store.proofs.Texts.{below_is}

@@ -1,6 +1,5 @@
 pub mod Moves
 pub mod Acknowledging
-pub mod Texts
 pub mod Following
 pub mod Entries
 pub mod Sorting

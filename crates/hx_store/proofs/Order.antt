@@ -5,25 +5,15 @@ use Rattle.std.proofs.lemmas.Bool.{cases_eq, cond_both, cond-false, cond-true, e
 use Rattle.std.proofs.lemmas.Option.{same_Some}
 use Rattle.indexmap.specs.IndexMap.{set_value_at}
 use Rattle.hx_model.specs.Types.{RegionId}
+use Rattle.hx_types.proofs.Lemmas.{same_text-symm, text_below-apart, text_below-back, text_below-other, text_below-trans}
 use Rattle.hx_types.specs.Words.{same_text, text_below, when_some}
 use Rattle.hx_model.proofs.Lemmas.{eq_of_same_text, same_text_self}
 use Rattle.hx_model.specs.Slots.{KeyState, new_state, state_among, with_state}
 use Rattle.hx_law_folds.specs.Folding.{KeysAscend}
-use Rattle.hx_law_folds.proofs.Lemmas.{above, below-differs, below-trans}
 use Rattle.hx_store.specs.Slots.{StoreSlot, Entry}
 use Rattle.hx_store.specs.Invariant.{IsSplit, IsStoreSlot, KeysApart, is_listed, is_place, key_in, state_in, states_in}
 use Rattle.hx_store.specs.Stores.{has_slot}
 use Rattle.hx_store.proofs.Lists.{all-at, set-elsewhere, set-here}
-
--- no text stands before itself, nor two before each other
-pub not-below-self : (a : List ℕ) → text_below a a ≡ true → ⊥
-not-below-self a e = false≢true (sym (below-differs a a e) ∙ same_text_self a)
-
-pub not-below-back : (a b : List ℕ) → text_below a b ≡ true → text_below b a ≡ false
-not-below-back a b e = false_from_ne_true (text_below b a) (λ f. not-below-self a (below-trans a b a e f))
-
-pub differ-back : (a b : List ℕ) → same_text a b ≡ false → same_text b a ≡ false
-differ-back a b e = false_from_ne_true (same_text b a) (λ f. false≢true (sym e ∙ ap (same_text a) (eq_of_same_text b a f) ∙ same_text_self a))
 
 -- keys that ascend stay so with a slot more
 above-with : (key : List ℕ) (s : KeyState) (states : List KeyState) → text_below key s.base.key ≡ true → AllByRecursion (λ (t : KeyState). text_below key t.base.key ≡ true) states
@@ -40,7 +30,7 @@ above-with key s (x ∷ rest) b h =
 
 above-lower : (low key : List ℕ) (states : List KeyState) → text_below low key ≡ true → AllByRecursion (λ (t : KeyState). text_below key t.base.key ≡ true) states → AllByRecursion (λ (t : KeyState). text_below low t.base.key ≡ true) states
 above-lower low key [] b h = tt
-above-lower low key (x ∷ rest) b h = (below-trans low key x.base.key b h.0, above-lower low key rest b h.1)
+above-lower low key (x ∷ rest) b h = (text_below-trans low key x.base.key b h.0, above-lower low key rest b h.1)
 
 pub ascend-with : (s : KeyState) (states : List KeyState) → KeysAscend states → KeysAscend (with_state s states)
 ascend-with s [] h = (tt, tt)
@@ -50,7 +40,7 @@ ascend-with s (x ∷ rest) h =
     (
     λ e. cond_both (text_below s.base.key x.base.key) (s ∷ x ∷ rest) (x ∷ with_state s rest) KeysAscend
     (λ b. ((b, above-lower s.base.key x.base.key rest b h.0), h))
-    (λ b. (above-with x.base.key s rest (above x.base.key s.base.key e b) h.0, ascend-with s rest h.1))
+    (λ b. (above-with x.base.key s rest (text_below-other s.base.key x.base.key (same_text-symm s.base.key x.base.key ∙ e) b) h.0, ascend-with s rest h.1))
     )
 
 -- a slot that is put twice stands as it was put last
@@ -93,7 +83,7 @@ same-place [] i j e f h at there s = absurd cc
 same-place (x ∷ es) zero zero e f h at there s = refl
 same-place (x ∷ es) zero (suc j) e f h at there s =
     let same : x ≡ e = same_Some x e at in
-    let differs = differ-back e.0 f.0 (subst (λ (y : Entry). same_text y.0 f.0 ≡ false) same (all-at (λ (y : Entry). same_text x.0 y.0 ≡ false) es j f h.0 there)) in
+    let differs = same_text-symm f.0 e.0 ∙ subst (λ (y : Entry). same_text y.0 f.0 ≡ false) same (all-at (λ (y : Entry). same_text x.0 y.0 ≡ false) es j f h.0 there) in
     absurd (false≢true (sym differs ∙ s))
 same-place (x ∷ es) (suc i) zero e f h at there s =
     let same : x ≡ f = same_Some x f there in
@@ -169,7 +159,7 @@ module _ (g : RegionId) (marks : Bool) (es : List Entry) (each : AllByRecursion 
     unchanged : (order : List ℕ) → AreThere order → AllByRecursion (λ (t : KeyState). text_below e.0 t.base.key ≡ true) (states_in es order) → states_in new order ≡ states_in es order
     unchanged [] h a = refl
     unchanged (j ∷ rest) h a = elim (which j h.0) [
-      | inl p ↦ absurd (not-below-self e.0 (sym (ap (text_below e.0) (ap (λ (s : KeyState). s.base.key) p.1 ∙ key_here)) ∙ a.0))
+      | inl p ↦ absurd (text_below-apart e.0 e.0 (sym (ap (text_below e.0) (ap (λ (s : KeyState). s.base.key) p.1 ∙ key_here)) ∙ a.0) refl)
       | inr o ↦ λ k. state-other j o.0 k ∷ unchanged rest h.1 a.1 k
     ]
 
@@ -190,7 +180,7 @@ module _ (g : RegionId) (marks : Bool) (es : List Entry) (each : AllByRecursion 
       | inr o ↦ (let more : list_any (is_place i) rest ≡ true = later j rest o.0 t in
           let low : text_below (state_in es j).base.key e.0 ≡ true = below (state_in es j).base.key rest h.1 a.0 more in
           cond-false (same_text (state_in es j).base.key w.slot.state.base.key) _ _ (ap (same_text (state_in es j).base.key) key_is ∙ o.1)
-          ∙ cond-false (text_below w.slot.state.base.key (state_in es j).base.key) _ _ (ap (λ (k : List ℕ). text_below k (state_in es j).base.key) key_is ∙ not-below-back (state_in es j).base.key e.0 low)
+          ∙ cond-false (text_below w.slot.state.base.key (state_in es j).base.key) _ _ (ap (λ (k : List ℕ). text_below k (state_in es j).base.key) key_is ∙ text_below-back (state_in es j).base.key e.0 low)
           ∙ (λ k. sym (state-other j o.0) k ∷ replaced rest h.1 a.1 more k))
     ]
       where
@@ -215,13 +205,13 @@ module _ (g : RegionId) (marks : Bool) (es : List Entry) (each : AllByRecursion 
       | inl p ↦ absurd (false≢true (sym n ∙ or_left (eqb j i) _ (eq-eqb j i p.0)))
       | inr o ↦ (let low : text_below (state_in es j).base.key e.0 ≡ false = ap (λ (k : List ℕ). text_below k e.0) o.2 ∙ s in
           cond-false (same_text (state_in es j).base.key w.slot.state.base.key) _ _ (ap (same_text (state_in es j).base.key) key_is ∙ o.1)
-          ∙ cond-true (text_below w.slot.state.base.key (state_in es j).base.key) _ _ (ap (λ (k : List ℕ). text_below k (state_in es j).base.key) key_is ∙ above e.0 (state_in es j).base.key (differ-back (state_in es j).base.key e.0 o.1) low)
+          ∙ cond-true (text_below w.slot.state.base.key (state_in es j).base.key) _ _ (ap (λ (k : List ℕ). text_below k (state_in es j).base.key) key_is ∙ text_below-other (state_in es j).base.key e.0 o.1 low)
           ∙ (λ k. sym state-here k ∷ sym (others (j ∷ rest) h n) k))
     ]
     inserted (suc p) (j ∷ rest) h n s = elim (which j h.0) [
       | inl q ↦ absurd (false≢true (sym n ∙ or_left (eqb j i) _ (eq-eqb j i q.0)))
       | inr o ↦ (let low : text_below (state_in es j).base.key e.0 ≡ true = ap (λ (k : List ℕ). text_below k e.0) o.2 ∙ s.0 in
           cond-false (same_text (state_in es j).base.key w.slot.state.base.key) _ _ (ap (same_text (state_in es j).base.key) key_is ∙ o.1)
-          ∙ cond-false (text_below w.slot.state.base.key (state_in es j).base.key) _ _ (ap (λ (k : List ℕ). text_below k (state_in es j).base.key) key_is ∙ not-below-back (state_in es j).base.key e.0 low)
+          ∙ cond-false (text_below w.slot.state.base.key (state_in es j).base.key) _ _ (ap (λ (k : List ℕ). text_below k (state_in es j).base.key) key_is ∙ text_below-back (state_in es j).base.key e.0 low)
           ∙ (λ k. sym (state-other j o.0) k ∷ inserted p rest h.1 (false_from_ne_true (list_any (is_place i) rest) (λ t. false≢true (sym n ∙ or_right (eqb j i) _ t))) s.1 k))
     ]

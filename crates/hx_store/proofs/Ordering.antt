@@ -5,8 +5,8 @@ use Rattle.std.proofs.lemmas.Bool.{cases_eq, cond_both, eq-eqb, eqb-true, false�
 use Rattle.indexmap.specs.IndexMap.{set_value_at}
 use Rattle.hx_model.specs.Slots.{KeyState}
 use Rattle.hx_model.specs.Types.{RegionId}
+use Rattle.hx_types.proofs.Lemmas.{same_text-symm, text_below-other, text_below-trans}
 use Rattle.hx_types.specs.Words.{same_text, text_below, when_some}
-use Rattle.hx_law_folds.proofs.Lemmas.{above, below-trans}
 use Rattle.hx_index.specs.Orders.{stands_in}
 use Rattle.hx_index.proofs.Lemmas.{stands-filter, within-at}
 use Rattle.hx_store.specs.Indexed.{one_if, times}
@@ -83,12 +83,12 @@ module _ (es : List Entry) where
   put-ascends j [] a h = (tt, tt)
   put-ascends j (k ∷ rest) a h = cond_both (text_below (key_in es j) (key_in es k)) (j ∷ k ∷ rest) (k ∷ put_place es j rest) (AscendAt es)
       (λ t. ((t, over rest t h.0), h))
-      (λ f. (put-all (λ m. text_below (key_in es k) (key_in es m) ≡ true) j rest (above (key_in es k) (key_in es j) a.0 f) h.0, put-ascends j rest a.1 h.1))
+      (λ f. (put-all (λ m. text_below (key_in es k) (key_in es m) ≡ true) j rest (text_below-other (key_in es j) (key_in es k) (same_text-symm (key_in es j) (key_in es k) ∙ a.0) f) h.0, put-ascends j rest a.1 h.1))
     where
       over : (ms : List ℕ) → text_below (key_in es j) (key_in es k) ≡ true → AllByRecursion (λ m. text_below (key_in es k) (key_in es m) ≡ true) ms
           → AllByRecursion (λ m. text_below (key_in es j) (key_in es m) ≡ true) ms
       over [] t h = tt
-      over (m ∷ ms) t h = (below-trans (key_in es j) (key_in es k) (key_in es m) t h.0, over ms t h.1)
+      over (m ∷ ms) t h = (text_below-trans (key_in es j) (key_in es k) (key_in es m) t h.0, over ms t h.1)
 
   module _ (apart : KeysApart es) where
     sorts : (xs : List ℕ) → ((i : ℕ) → times i xs ≤ 1) → ((i : ℕ) → stands_in xs i ≡ true → i < length es) → AscendAt es (in_order es xs)

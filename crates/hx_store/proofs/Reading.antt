@@ -4,14 +4,13 @@ use Rattle.std.specs.List.{All, AllByRecursion, filter, slice_get}
 use Rattle.std.proofs.lemmas.Bool.{cond-true, cond-false, lt-ltb, ne_eqb}
 use Rattle.std.proofs.lemmas.List.Elements.{All-push, filter-append}
 use Rattle.hx_model.specs.Types.{Kept, RegionId, Update}
+use Rattle.hx_types.proofs.Lemmas.{text_below-back, text_below-differs}
 use Rattle.hx_types.specs.Words.{list_of, same_text, text_below}
 use Rattle.hx_law_folds.specs.Folding.{KeysAscend}
 use Rattle.hx_model.specs.Slots.{KeyState, kept_of, pending_of, pending_of_all, snapshot_of, with_state}
-use Rattle.hx_law_folds.proofs.Lemmas.{below-differs}
 use Rattle.hx_slot.specs.States.{SlotState}
 use Rattle.hx_store.specs.Reading.{committed_of}
 use Rattle.hx_store.proofs.Lists.{take_next}
-use Rattle.hx_store.proofs.Order.{differ-back, not-below-back}
 
 one_kept : (n : ℕ) (k : Kept) (g : RegionId) (s : KeyState) → kept_of g s ≡ k → map (kept_of g) (cond (nat_lt 0 n) (s ∷ []) []) ≡ list_of (cond (n == 0) None (Some k))
 one_kept zero k g s e = refl
@@ -58,8 +57,8 @@ ascend-take (suc i) (s ∷ rest) h = (all-take (λ (t : KeyState). text_below s.
 pub put-last : (s : KeyState) (states : List KeyState) → AllByRecursion (λ (t : KeyState). text_below t.base.key s.base.key ≡ true) states → with_state s states ≡ states ++ s ∷ []
 put-last s [] h = refl
 put-last s (x ∷ rest) h =
-    cond-false (same_text x.base.key s.base.key) _ _ (differ-back s.base.key x.base.key (below-differs x.base.key s.base.key h.0))
-    ∙ cond-false (text_below s.base.key x.base.key) _ _ (not-below-back x.base.key s.base.key h.0)
+    cond-false (same_text x.base.key s.base.key) _ _ (text_below-differs x.base.key s.base.key h.0)
+    ∙ cond-false (text_below s.base.key x.base.key) _ _ (text_below-back x.base.key s.base.key h.0)
     ∙ ap (λ (l : List KeyState). x ∷ l) (put-last s rest h.1)
 
 -- what holds of all holds with one more

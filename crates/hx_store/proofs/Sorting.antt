@@ -14,14 +14,14 @@ use Rattle.std.specs.List.Sorted.{IsPermutation, IsSortedBy}
 use Rattle.std.proofs.lemmas.Bool.{cases_eq, cond_both, eq-eqb, eqb-true, false≢true, false_from_ne_true, lt-ltb, ne_eqb, or_cases, or_left, or_right}
 use Rattle.std.proofs.lemmas.List.Sums.{sum_by-cons}
 use Rattle.std.proofs.lemmas.List.Sorted.{ranks_by, sum_by-IsPermutation}
+use Rattle.hx_types.proofs.Lemmas.{text_below-apart, text_below-back, text_below-other, text_below-trans}
 use Rattle.hx_types.specs.Words.{same_text, text_below, when_some}
-use Rattle.hx_law_folds.proofs.Lemmas.{above, below-trans}
 use Rattle.hx_index.specs.Orders.{stands_in}
 use Rattle.hx_store.specs.Invariant.{AscendAt, KeysApart, key_in}
 use Rattle.hx_store.specs.Indexed.{one_if, times}
 use Rattle.hx_store.specs.Slots.{Entry}
 use Rattle.hx_store.proofs.Lists.{at-within}
-use Rattle.hx_store.proofs.Order.{not-below-back, not-below-self, same-place}
+use Rattle.hx_store.proofs.Order.{same-place}
 
 -- whether it is this number
 abbrev pub is-it : ℕ → ℕ → ℕ
@@ -86,13 +86,13 @@ module _ (es : List Entry) where
       let more = ascend-from apart (y ∷ rest) (λ i t. within i (or_right (eqb x i) (stands_in (y ∷ rest) i) t)) (λ i. (let n = once i in omega (arith, n))) up.1 in
       let apart_here : x ≡ y → ⊥ = λ e. (let n = once y in let a : is-it y x ≡ 1 = ap (λ (b : Bool). cond {A = ℕ} b 1 0) (eq-eqb x y e) in let b : is-it y y ≡ 1 = ap (λ (b : Bool). cond {A = ℕ} b 1 0) (eq-eqb y y refl) in omega (arith, n, a, b)) in
       let below : text_below (key_in es x) (key_in es y) ≡ true =
-      above (key_in es x) (key_in es y) (differ apart x y (within x (or_left (eqb x x) _ (eq-eqb x x refl))) (within y (or_right (eqb x y) _ (or_left (eqb y y) _ (eq-eqb y y refl)))) apart_here) up.0
+      text_below-other (key_in es y) (key_in es x) (differ apart y x (within y (or_right (eqb x y) _ (or_left (eqb y y) _ (eq-eqb y y refl)))) (within x (or_left (eqb x x) _ (eq-eqb x x refl))) (λ e. apart_here (sym e))) up.0
       in
       ((below, over x y rest below more.0), more)
     where
       over : (x y : ℕ) (zs : List ℕ) → text_below (key_in es x) (key_in es y) ≡ true → AllByRecursion (λ k. text_below (key_in es y) (key_in es k) ≡ true) zs → AllByRecursion (λ k. text_below (key_in es x) (key_in es k) ≡ true) zs
       over x y [] b h = tt
-      over x y (z ∷ zs) b h = (below-trans (key_in es x) (key_in es y) (key_in es z) b h.0, over x y zs b h.1)
+      over x y (z ∷ zs) b h = (text_below-trans (key_in es x) (key_in es y) (key_in es z) b h.0, over x y zs b h.1)
 
   all-stand : (Q : ℕ → Type 0) (xs : List ℕ) (i : ℕ) → AllByRecursion Q xs → stands_in xs i ≡ true → Q i
   all-stand Q [] i h t = absurd (false≢true t)
@@ -102,7 +102,7 @@ module _ (es : List Entry) where
   ]
 
   never-first : (x : ℕ) (xs : List ℕ) → AllByRecursion (λ k. text_below (key_in es x) (key_in es k) ≡ true) xs → stands_in xs x ≡ false
-  never-first x xs h = false_from_ne_true (stands_in xs x) (λ t. not-below-self (key_in es x) (all-stand (λ k. text_below (key_in es x) (key_in es k) ≡ true) xs x h t))
+  never-first x xs h = false_from_ne_true (stands_in xs x) (λ t. text_below-apart (key_in es x) (key_in es x) (all-stand (λ k. text_below (key_in es x) (key_in es k) ≡ true) xs x h t) refl)
 
   -- two such lists of the same places are one
   pub same-list : (xs ys : List ℕ) → AscendAt es xs → AscendAt es ys → ((i : ℕ) → stands_in xs i ≡ stands_in ys i) → xs ≡ ys
@@ -114,7 +114,7 @@ module _ (es : List Entry) where
         | inl t ↦ sym (eqb-true y x t)
         | inr t ↦ elim (or_cases (eqb x y) (stands_in xs y) (s y ∙ or_left (eqb y y) _ (eq-eqb y y refl))) [
           | inl u ↦ eqb-true x y u
-          | inr u ↦ absurd (false≢true (sym (not-below-back (key_in es y) (key_in es x) (all-stand (λ k. text_below (key_in es y) (key_in es k) ≡ true) ys x b.0 t)) ∙ all-stand (λ k. text_below (key_in es x) (key_in es k) ≡ true) xs y a.0 u))
+          | inr u ↦ absurd (false≢true (sym (text_below-back (key_in es y) (key_in es x) (all-stand (λ k. text_below (key_in es y) (key_in es k) ≡ true) ys x b.0 t)) ∙ all-stand (λ k. text_below (key_in es x) (key_in es k) ≡ true) xs y a.0 u))
         ]
       ] in
       λ k. first k ∷ same-list xs ys a.1 b.1 (rests first) k

@@ -1,3 +1,4 @@
+pub mod ByteOrder
 pub mod Counting
 pub mod Differing
 pub mod Writing

@@ -1,7 +1,7 @@
 use Rattle.std.proofs.Common.{List, ℕ, ap, sym, ◌∙◌}
 use Rattle.std.specs.Cmp.Lexicographic.{slice_cmp}
 use Rattle.std.specs.Ordering.{is_lt, nat_cmp}
-use Rattle.hx_audit.proofs.Keys.{below_is}
+use Rattle.hx_types.proofs.Lemmas.{text_below-is_lt}
 use Rattle.hx_audit.proofs.histories.is_below.Goals as goal
 
 pub returns : goal.returns
@@ -9,4 +9,4 @@ returns c =
     c.lt.ensures
     ∙ ap (λ (k : List ℕ). is_lt (slice_cmp nat_cmp k c.as_str-2.result.now)) c.as_str.ensures
     ∙ ap (λ (k : List ℕ). is_lt (slice_cmp nat_cmp c.args.text.now k)) c.as_str-2.ensures
-    ∙ sym (below_is c.args.text.now c.args.other.now)
+    ∙ sym (text_below-is_lt c.args.text.now c.args.other.now)

@@ -2,7 +2,7 @@ use Rattle.std.proofs.Common.{◌≡◌, ℕ, ◌+◌, ◌≤◌, add-one, false
 use Rattle.hx_types.specs.Words.{text_below}
 use Rattle.hx_store.specs.Invariant.{key_in}
 use Rattle.hx_store.proofs.Sorting.{ascend-from, permuted-stands, permuted-times, rises-from, sorted-from}
-use Rattle.hx_store.proofs.Texts.{below_is}
+use Rattle.hx_types.proofs.Lemmas.{text_below-is_lt}
 use Rattle.hx_store.proofs.slots.Slots.sort_places.Goals as goal
 
 pub returns-clause-same : goal.returns-clause-same
@@ -19,5 +19,5 @@ returns-clause-ascend c =
     (
     rises-from es now
     (λ k d l. subst (λ n. text_below (key_in es (get_or now n d)) (key_in es (get_or now k d)) ≡ false) (add-one k)
-    (below_is (key_in es (get_or now (k + 1) d)) (key_in es (get_or now k d)) ∙ sorted-from (λ (x : ℕ). key_in es x) now c.sort_unstable_by.ensures.sorted (λ a r f' called. search rules) k d (omega arith) (omega (arith, l))))
+    (text_below-is_lt (key_in es (get_or now (k + 1) d)) (key_in es (get_or now k d)) ∙ sorted-from (λ (x : ℕ). key_in es x) now c.sort_unstable_by.ensures.sorted (λ a r f' called. search rules) k d (omega arith) (omega (arith, l))))
     )
