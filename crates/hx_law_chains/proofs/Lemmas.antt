@@ -1,6 +1,5 @@
 -- What proofs of other crates may cite. Declares nothing.
-pub use Rattle.hx_law_epochs.specs.Senders.{IsOfCoordinator as OfCoordinator}
-pub use Rattle.hx_law_epochs.proofs.Lemmas.{AnySnapshot, AssignsOne, Issues, OfServer, coordinator-plain, server-plain}
+pub use Rattle.hx_law_epochs.proofs.Lemmas.{AnySnapshot, AssignsOne, Issues, coordinator-plain, server-plain}
 pub use Rattle.hx_law_chains.proofs.Doubts.{lost-place}
 pub use Rattle.hx_law_chains.proofs.DoubtsTold.{doubts-told}
 pub use Rattle.hx_law_chains.proofs.Elsewhere.{issued-line}

@@ -1,11 +1,12 @@
 -- Every run keeps what is said of calls.
 use Rattle.hx_law_lemmas.proofs.Lemmas.Vocabulary.{[], Actor, ap, arith, Caller, cond-true, Coordinator, coordinator_of, coordinator_step, DeliversCall, Entry}
-use Rattle.hx_law_lemmas.proofs.Lemmas.Vocabulary.{eq-eqb, eqb, Facts, inl, inr, IsIn, IsRun, IsStep, line_notes, line_of, List, made_of, MayTake, Output, Post}
-use Rattle.hx_law_lemmas.proofs.Lemmas.Vocabulary.{post, refl, Script, Server, server_of, ServerId, Session, session_after, session_of, session_step, SessionId}
+use Rattle.hx_law_lemmas.proofs.Lemmas.Vocabulary.{eq-eqb, eqb, Facts, inl, inr, IsIn, IsRun, IsStep, line_notes, line_of, List, made_of, MayTake, Output}
+use Rattle.hx_law_lemmas.proofs.Lemmas.Vocabulary.{post, refl, Script, Server, ServerId, Session, session_after, session_of, session_step, SessionId}
 use Rattle.hx_law_lemmas.proofs.Lemmas.Vocabulary.{subst, sym, true≢false, Update, upto, ℕ, ◌-◌, ◌<◌, ◌∙◌, ◌∷◌, ◌≡◌, ◌⊎◌}
 use Rattle.hx_types.specs.declared.messages.Message.TheVariants as a_message
 use Rattle.hx_law_lemmas.proofs.Lemmas.{arrived, in-upto, SessionTurn, session_turn, line-numbered, numbered-within as in-below}
-use Rattle.hx_law_chains.proofs.Lemmas.{issued-line, named, OfCoordinator, coordinator-plain, AnySnapshot, OfServer, server-plain}
+use Rattle.hx_law_epochs.proofs.Lemmas.{entry-posts}
+use Rattle.hx_law_chains.proofs.Lemmas.{coordinator-plain, issued-line, named}
 use Rattle.hx_law_searches.proofs.Calls.{Calls, IsKnown, WasPosted}
 use Rattle.hx_law_searches.proofs.CallsElsewhere.{other_calls}
 use Rattle.hx_law_searches.proofs.CallsOfSessions.{session_calls}
@@ -45,7 +46,7 @@ module _ (script : Script) (facts : Facts script) (older : List Entry) (calls : 
   of-coordinator acts =
       let made : made_of script older Coordinator x.input ≡ record { posts = x.outputs; notes = x.notes } = subst (λ (a : Actor). made_of script older a x.input ≡ record { posts = x.outputs; notes = x.notes }) acts run.0.made in
       let plain = coordinator-plain (coordinator_of script older) x.input in
-      let says : (p : Post) → IsIn p x.outputs → OfCoordinator p.message = λ p i. plain.posts p (subst (λ (ps : List Post). IsIn p ps) (sym (ap (λ (m : Output). m.posts) made)) i) in
+      let says = entry-posts script older x run.0 Coordinator acts in
       let same : (key : List ℕ) → line_of key (x ∷ older) ≡ line_of key older = λ key. ap (λ ns. line_notes key (line_of key older) ns) (sym (ap (λ (m : Output). m.notes) made)) ∙ issued-line key (line_of key older) (coordinator_step (coordinator_of script older) x.input).notes plain.notes in
       other_calls script older calls x
       (λ u e. (let q : Coordinator ≡ Session u = sym acts ∙ e in cc))
@@ -57,10 +58,8 @@ module _ (script : Script) (facts : Facts script) (older : List Entry) (calls : 
   -- an entry of a server
   of-server : (i : ServerId) → x.actor ≡ Server i → Calls script (x ∷ older)
   of-server i acts =
-      let made : made_of script older (Server i) x.input ≡ record { posts = x.outputs; notes = x.notes } = subst (λ (a : Actor). made_of script older a x.input ≡ record { posts = x.outputs; notes = x.notes }) acts run.0.made in
       let may : MayTake older (Server i) x.input = subst (λ (a : Actor). MayTake older a x.input) acts run.0.input in
-      let plain = server-plain AnySnapshot script.space (server_of script i older) x.input (λ r j. tt) (λ g. tt) in
-      let says : (p : Post) → IsIn p x.outputs → OfServer AnySnapshot p.message = λ p j. plain.posts p (subst (λ (ps : List Post). IsIn p ps) (sym (ap (λ (m : Output). m.posts) made)) j) in
+      let says = entry-posts script older x run.0 (Server i) acts in
       let posted : (c : Caller) → DeliversCall x c → WasPosted older c =
       λ c d. (Server i, d.epoch, d.op, arrived d.id older (post (Session c.session) (Server i) (a_message.Call d.epoch c.number d.op)) (subst (MayTake older (Server i)) d.input may)) in
       other_calls script older calls x

@@ -1,14 +1,16 @@
 -- What every run keeps for searches: who asks is a session's search that has begun, and each part that a session has was shown to it.
-use Rattle.hx_law_lemmas.proofs.Lemmas.Vocabulary.{[], Actor, ap, call_of, Caller, cases_eq, cond-false, Coordinator, coordinator_of, Entry, Epoch, Facts}
-use Rattle.hx_law_lemmas.proofs.Lemmas.Vocabulary.{false≢true, inl, inr, IsIn, IsPartOf, IsRun, List, made_of, MayTake, Message, ne_eqb, numbered, Op, Output}
-use Rattle.hx_law_lemmas.proofs.Lemmas.Vocabulary.{Post, post, posts_of, refl, RegionId, Row, same_session, Script, Search, Server, server_of, ServerId}
+use Rattle.hx_law_lemmas.proofs.Lemmas.Vocabulary.{[], Actor, ap, call_of, Caller, cases_eq, cond-false, Coordinator, Entry, Epoch, Facts}
+use Rattle.hx_law_lemmas.proofs.Lemmas.Vocabulary.{false≢true, inl, inr, IsIn, IsPartOf, IsRun, List, MayTake, Message, ne_eqb, numbered, Op}
+use Rattle.hx_law_lemmas.proofs.Lemmas.Vocabulary.{Post, post, posts_of, refl, RegionId, Row, same_session, Script, Search, Server, ServerId}
 use Rattle.hx_law_lemmas.proofs.Lemmas.Vocabulary.{Session, session_after, session_of, session_step, SessionId, SessionState, ShowsRows, Some, subst, sym, Term}
 use Rattle.hx_law_lemmas.proofs.Lemmas.Vocabulary.{true, ℕ, ⊤, ◌∙◌, ◌∷◌, ◌≡◌}
 use Rattle.hx_types.specs.declared.messages.Message.TheVariants as a_message
 use Rattle.hx_law_lemmas.proofs.Lemmas.{in-append, BeganAt, arrived, Asks, HasParts, SearchTurn, search-turn}
+use Rattle.hx_law_epochs.specs.Senders.{IsOf}
+use Rattle.hx_law_epochs.proofs.Lemmas.{entry-posts}
 use Rattle.hx_law_searches.proofs.Calls.{Calls}
 use Rattle.hx_law_searches.proofs.CallsKept.{calls_kept, step_is}
-use Rattle.hx_law_chains.proofs.Lemmas.{named, OfCoordinator, coordinator-plain, AnySnapshot, OfServer, server-plain}
+use Rattle.hx_law_chains.proofs.Lemmas.{named}
 
 -- who asks is a session whose search has begun
 abbrev pub AskedBy : Script → List Entry → Actor → ℕ → List Term → Type 0
@@ -99,24 +101,19 @@ module _ (script : Script) (facts : Facts script) (older : List Entry) (x : Entr
   -- an entry of the coordinator
   of-coordinator : x.actor ≡ Coordinator → Searched script (x ∷ older)
   of-coordinator acts =
-      let made : made_of script older Coordinator x.input ≡ record { posts = x.outputs; notes = x.notes } = subst (λ (a : Actor). made_of script older a x.input ≡ record { posts = x.outputs; notes = x.notes }) acts run.0.made in
-      let plain = coordinator-plain (coordinator_of script older) x.input in
       keeps (keeps-parts Coordinator acts (λ u. refl))
-      (λ p i. quiet p.from p.to p.message (plain.posts p (subst (λ (ps : List Post). IsIn p ps) (sym (ap (λ (m : Output). m.posts) made)) i)))
+      (λ p i. quiet p.from p.to p.message (entry-posts script older x run.0 Coordinator acts p i))
     where
-      quiet : (from to : Actor) (m : Message) → OfCoordinator m → TellsOf script (x ∷ older) from to m
-      quiet from to (a_message.Install config) h = tt
-      quiet from to a_message.Die h = tt
-      quiet from to (a_message.Outcome number answer) h = tt
-      quiet from to other h = absurd h
+      quiet : (from to : Actor) (m : Message) → IsOf Coordinator m → TellsOf script (x ∷ older) from to m
+      quiet from to (a_message.Ask epoch number g terms) h = absurd h
+      quiet from to (a_message.Found epoch number g rows) h = absurd h
+      quiet from to other h = tt
 
   -- an entry of a server
   of-server : (i : ServerId) → x.actor ≡ Server i → Searched script (x ∷ older)
   of-server i acts =
-      let made : made_of script older (Server i) x.input ≡ record { posts = x.outputs; notes = x.notes } = subst (λ (a : Actor). made_of script older a x.input ≡ record { posts = x.outputs; notes = x.notes }) acts run.0.made in
-      let plain = server-plain AnySnapshot script.space (server_of script i older) x.input (λ r j. tt) (λ g. tt) in
       keeps (keeps-parts (Server i) acts (λ u. refl))
-      (λ p j. says p.from p.to p.message j (plain.posts p (subst (λ (ps : List Post). IsIn p ps) (sym (ap (λ (m : Output). m.posts) made)) j)))
+      (λ p j. says p.from p.to p.message j (entry-posts script older x run.0 (Server i) acts p j))
     where
       may : MayTake older (Server i) x.input
       may = subst (λ (a : Actor). MayTake older a x.input) acts run.0.input
@@ -126,18 +123,12 @@ module _ (script : Script) (facts : Facts script) (older : List Entry) (x : Entr
       shown (Server v) epoch number g rows s a = tt
       shown (Session u) epoch number g rows s a = record { entry = x; older = older; part = inl refl; epoch = epoch; shows = s; called = a.0; begin = a.1.0; begun = a.1.1 }
 
-      says : (from to : Actor) (m : Message) → IsIn (post from to m) x.outputs → OfServer AnySnapshot m → TellsOf script (x ∷ older) from to m
+      says : (from to : Actor) (m : Message) → IsIn (post from to m) x.outputs → IsOf (Server i) m → TellsOf script (x ∷ older) from to m
       says from to (a_message.Found epoch number g rows) j h =
           let s = facts.founds x older run i acts from to epoch number g rows j in
           shown to epoch number g rows s (had.tells (post to (Server i) (a_message.Ask epoch number g s.terms)) (arrived s.id older (post to (Server i) (a_message.Ask epoch number g s.terms)) (subst (MayTake older (Server i)) s.input may)))
-      says from to (a_message.Reply number version answer) j h = tt
-      says from to (a_message.Update epoch g u) j h = tt
-      says from to (a_message.Ack epoch g by key version) j h = tt
-      says from to (a_message.Poll epoch) j h = tt
-      says from to a_message.Gone j h = tt
-      says from to (a_message.Snap epoch g snapshot pending) j h = tt
-      says from to (a_message.Ready epoch g) j h = tt
-      says from to other j h = absurd h
+      says from to (a_message.Ask epoch number g terms) j h = absurd h
+      says from to other j h = tt
 
   -- what a session's step does
   pub turn-of : (v : SessionId) → x.actor ≡ Session v
