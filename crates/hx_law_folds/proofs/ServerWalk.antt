@@ -1,16 +1,14 @@
 -- A server's step, walked once: what each step of a slot keeps of the slots of its replica, each step of the server keeps of all.
-use Rattle.hx_law_folds.proofs.Vocabulary.{[], accepting, ack_step, acked, acked_of, Actor, adopted, adopted_replica, adopted_state, AllByRecursion, ap, asked}
-use Rattle.hx_law_folds.proofs.Vocabulary.{at_slot, Bool, call_at, call_step, called, called_by, Caller, cond_both, Config, context_of, Deliver, Epoch}
-use Rattle.hx_law_folds.proofs.Vocabulary.{eq_of_same_text, eqb-true, false, filter, Halt, hears_ack, hears_snap, hears_update, if_installed, IfSome, Input}
-use Rattle.hx_law_folds.proofs.Vocabulary.{input_step, install_at, installed_slots, is_active, is_key_region, is_lost, IsAfter, join_keys, join_slot, Kept}
-use Rattle.hx_law_folds.proofs.Vocabulary.{key_of, key_region, keys_of, KeyState, leads, List, listed_regions, ltb, map, Message, message_step, moved_all, None}
-use Rattle.hx_law_folds.proofs.Vocabulary.{not, offered_all, Op, Option, pending_with, place_number, ready_post, refl, RegionId, Replica, replica_for}
-use Rattle.hx_law_folds.proofs.Vocabulary.{replica_of, replica_or_new, same_region, same_text, saying, server_step, ServerState, ServerStep, Session}
-use Rattle.hx_law_folds.proofs.Vocabulary.{SlotContext, Slots, SlotStep, snapped, Some, Space, state_among, state_from, state_in, subst, sym, Term, Tick}
-use Rattle.hx_law_folds.proofs.Vocabulary.{unmoved, Update, update_step, updated, when_some, with_config, with_replica, with_state, ℕ, ⊤, ◌∙◌, ◌∷◌, ◌≡◌}
+use Rattle.hx_law_folds.proofs.Vocabulary.{[], accepting, ack_step, Actor, adopted_replica, adopted_state, AllByRecursion, ap, at_slot, Bool, call_step, Caller}
+use Rattle.hx_law_folds.proofs.Vocabulary.{cond_both, Config, context_of, Deliver, eq_of_same_text, eqb-true, false, filter, if_installed, IfSome, Input}
+use Rattle.hx_law_folds.proofs.Vocabulary.{is_active, is_key_region, is_lost, IsAfter, join_keys, join_slot, Kept, key_region, keys_of, KeyState, List}
+use Rattle.hx_law_folds.proofs.Vocabulary.{listed_regions, map, Message, moved_all, None, offered_all, Op, Option, RegionId, Replica, replica_for, replica_of}
+use Rattle.hx_law_folds.proofs.Vocabulary.{replica_or_new, same_region, same_text, server_step, ServerState, ServerStep, SlotContext, Slots, SlotStep, Some}
+use Rattle.hx_law_folds.proofs.Vocabulary.{Space, state_among, state_from, state_in, subst, sym, Update, update_step, when_some, with_config, with_replica}
+use Rattle.hx_law_folds.proofs.Vocabulary.{with_state, ℕ, ⊤, ◌∙◌, ◌∷◌, ◌≡◌}
 use Rattle.hx_model.specs.Types.{PostId}
+use Rattle.hx_model.proofs.Lemmas.{server-cases}
 use Rattle.hx_types.specs.declared.messages.Message.TheVariants as a_message
-use Rattle.hx_model.specs.ServerSteps.{with_slots}
 use Rattle.hx_law_folds.proofs.Lists.{all-filter, all-made, all-map}
 use Rattle.hx_law_folds.proofs.States.{among-key}
 
@@ -101,58 +99,6 @@ module _ {space : Space} {P : Replica → Type 0} {Has : RegionId → List KeySt
       → Stays (at_slot s r (state_in space r key) step)
   slot-stays r k key step j = with-replicas P _ s.replicas (w.makes _ (w.more r.region (moved_all step.moves (state_in space r key)) r.states j (w.shows r k))) h
 
-  -- Call
-  call-stays : (key : List ℕ) (caller : Caller) (op : Op) (o : Option Replica) → IfSome o (IsTaking P (key_region space key))
-      → Stays (when_some o (unmoved s) (λ (r : Replica). call_at space s r key caller op))
-  call-stays key caller op None k = h
-  call-stays key caller op (Some r) k =
-      cond_both (leads space s.config s.id r.region) _ (unmoved s) Stays
-      (
-      λ e. slot-stays r k.replica key (call_step (context_of space s r.region) (state_in space r key) caller op)
-      (w.calls (context_of space s r.region) (state_in space r key) (here r k.replica key) (k.region ∙ sym (ap (key_region space) (among-key (is_key_region space r.region) key r.states))) caller op)
-      )
-      (λ e. h)
-
-  called-stays : (caller : Caller) (op : Op) (key : Option (List ℕ)) → Stays (called space s caller op key)
-  called-stays caller op None = h
-  called-stays caller op (Some key) = call-stays key caller op (replica_for s (key_region space key)) (taking P s h (key_region space key))
-
-  called_by-stays : (from : Actor) (number : ℕ) (op : Op) → Stays (called_by space s from number op)
-  called_by-stays (Session session) number op = called-stays (record { session = session; number = number }) op (key_of op)
-  called_by-stays other number op = h
-
-  -- Update
-  updated-stays : (from : Actor) (u : Update) → IsAfter u → (g : RegionId) (o : Option Replica) → IfSome o (IsTaking P g) → Stays (updated space s from u o)
-  updated-stays from u after g None k = h
-  updated-stays from u after g (Some r) k =
-      cond_both (hears_update s.config u (place_number r.region u.places) s.id from) _ (unmoved s) Stays
-      (
-      λ e. slot-stays r k.replica u.key (update_step (context_of space s r.region) (state_in space r u.key) u)
-      (w.updates (context_of space s r.region) (state_in space r u.key) (here r k.replica u.key) u after (sym (among-key (is_key_region space r.region) u.key r.states)))
-      )
-      (λ e. h)
-
-  -- Ack
-  acked-stays : (from : Actor) (key : List ℕ) (v : ℕ) (region g : RegionId) (o : Option Replica) → IfSome o (IsTaking P g)
-      → Stays (acked space s from key v region o)
-  acked-stays from key v region g None k = h
-  acked-stays from key v region g (Some r) k = of (pending_with v (state_in space r key))
-    where
-      of : (o : Option Update) → Stays (acked_of space s from region r (state_in space r key) v o)
-      of None = h
-      of (Some u) =
-          cond_both (hears_ack s.config u (place_number r.region u.places) s.id from region) _ (unmoved s) Stays
-          (
-          λ e. slot-stays r k.replica key (ack_step (context_of space s r.region) (state_in space r key) v)
-          (w.acks (context_of space s r.region) (state_in space r key) (here r k.replica key) v)
-          )
-          (λ e. h)
-
-  -- Ask
-  asked-stays : (from : Actor) (epoch : Epoch) (number : ℕ) (terms : List Term) (o : Option Replica) → Stays (asked s from epoch number terms o)
-  asked-stays from epoch number terms None = h
-  asked-stays from epoch number terms (Some r) = h
-
   -- Snap: each key's slot takes its pending updates
   join-slots : (g : RegionId) (us : List Update) → AllByRecursion IsAfter us → (slots : Slots) (keys : List (List ℕ)) → Has g slots.states
       → Has g (join_keys (context_of space s g) us slots keys).states
@@ -165,48 +111,43 @@ module _ {space : Space} {P : Replica → Type 0} {Has : RegionId → List KeySt
       let goes = w.joins context state (w.one g key slots.states k) some (all-filter IsAfter (λ (u : Update). same_text u.key key) us after) own in
       join-slots g us after (join_slot context some slots state) rest (w.more g (moved_all (accepting context state (offered_all g state some)) state) slots.states goes k)
 
-  snapped-stays : (from : Actor) (snapshot : List Kept) (pending : List Update) → Sent snapshot → AllByRecursion IsAfter pending → (o : Option Replica)
-      → Stays (snapped space s from snapshot pending o)
-  snapped-stays from snapshot pending sent after None = h
-  snapped-stays from snapshot pending sent after (Some r) =
-      cond_both (not (hears_snap s.config r.region s.id from)) (unmoved s) _ Stays
-      (λ e. h)
-      (
-      λ d. cond_both r.installed (saying s (ready_post s r.region)) (with_slots s r (installed_slots (context_of space s r.region) snapshot pending)) Stays
-      (λ e. h)
-      (
-      λ e. with-replicas P _ s.replicas
-      (w.makes _ (join-slots r.region pending after (record { states = map (state_from (is_key_region space r.region)) snapshot; posts = [] }) (keys_of pending) (w.sent r.region snapshot sent)))
-      h
-      )
-      )
+  -- a replica that takes messages is such
+  takes : (g : RegionId) (r : Replica) → replica_for s g ≡ Some r → IsTaking P g r
+  takes g r e = subst (λ (o : Option Replica). IfSome o (IsTaking P g)) e (taking P s h g)
 
-  -- Install
-  install-stays : (config : Config) → Stays (install_at space s config)
-  install-stays config =
-      let next = with_config s config in
-      cond_both (ltb s.config.epoch.0 config.epoch.0) (adopted space next) (unmoved s) Stays
-      (
-      λ e. all-map P P (adopted_replica space next) (λ r k. w.makes _ (w.adopts (context_of space next r.region) (is_active config r) r.states (w.shows r k))) next.replicas
-      (config-replicas P (λ g. w.makes _ (w.none g)) s config h)
-      )
-      (λ e. h)
-
-  message-stays : (from : Actor) (m : Message) → Brings Sent m → Stays (message_step space s from m)
-  message-stays from (a_message.Call epoch number op) f = called_by-stays from number op
-  message-stays from (a_message.Update epoch g u) f = updated-stays from u f g (if_installed (replica_for s g)) (taking_installed P s h g)
-  message-stays from (a_message.Ack epoch g region key version) f = acked-stays from key version.0 region g (if_installed (replica_for s g)) (taking_installed P s h g)
-  message-stays from (a_message.Ask epoch number g terms) f = asked-stays from epoch number terms (if_installed (replica_for s g))
-  message-stays from (a_message.Install config) f = install-stays config
-  message-stays from (a_message.Snap epoch g snapshot pending) f = snapped-stays from snapshot pending f.0 f.1 (replica_for s g)
-  message-stays from other f = h
+  takes-installed : (g : RegionId) (r : Replica) → if_installed (replica_for s g) ≡ Some r → P r
+  takes-installed g r e = (subst (λ (o : Option Replica). IfSome o (IsTaking P g)) e (taking_installed P s h g)).replica
 
   -- each input
   pub step-stays : (input : Input) → ((id : PostId) (from : Actor) (m : Message) → input ≡ Deliver id from m → Brings Sent m)
       → Stays (server_step space s input)
-  step-stays input f = cond_both s.halted (unmoved s) (input_step space s input) Stays (λ e. h) (λ e. by input f)
-    where
-      by : (input : Input) → ((id : PostId) (from : Actor) (m : Message) → input ≡ Deliver id from m → Brings Sent m) → Stays (input_step space s input)
-      by Tick f = h
-      by Halt f = h
-      by (Deliver id from m) f = message-stays from m (f id from m refl)
+  step-stays input f = server-cases space s input Stays (record {
+    rests = h;
+    met = λ epoch step k. k;
+    ticks = h;
+    halts = λ e. h;
+    dies = λ id from e. h;
+    call = λ id u epoch number op key r e z q l. (let k = takes (key_region space key) r q in
+        let caller : Caller = record { session = u; number = number } in
+        slot-stays r k.replica key (call_step (context_of space s r.region) (state_in space r key) caller op)
+        (w.calls (context_of space s r.region) (state_in space r key) (here r k.replica key)
+        (k.region ∙ sym (ap (key_region space) (among-key (is_key_region space r.region) key r.states))) caller op));
+    update = λ id from epoch g u r e z t. (let k = takes-installed g r z in
+        slot-stays r k u.key (update_step (context_of space s r.region) (state_in space r u.key) u)
+        (w.updates (context_of space s r.region) (state_in space r u.key) (here r k u.key) u (f id from _ e)
+        (sym (among-key (is_key_region space r.region) u.key r.states))));
+    ack = λ id from epoch g by key v r u e z q t. (let k = takes-installed g r z in
+        slot-stays r k key (ack_step (context_of space s r.region) (state_in space r key) v.0)
+        (w.acks (context_of space s r.region) (state_in space r key) (here r k key) v.0));
+    ask = λ id from epoch number g terms r e z t. h;
+    ready = λ id from epoch g snapshot pending r e z t i. h;
+    installs = λ id from epoch g snapshot pending r e z t i. (let brings = f id from _ e in
+        with-replicas P _ s.replicas
+        (w.makes _ (join-slots r.region pending brings.1 (record { states = map (state_from (is_key_region space r.region)) snapshot; posts = [] })
+        (keys_of pending) (w.sent r.region snapshot brings.0)))
+        h);
+    adopts = λ id from config e l. (let next = with_config s config in
+        all-map P P (adopted_replica space next)
+        (λ r k. w.makes _ (w.adopts (context_of space next r.region) (is_active config r) r.states (w.shows r k))) next.replicas
+        (config-replicas P (λ g. w.makes _ (w.none g)) s config h));
+  })
