@@ -8,17 +8,18 @@ use Rattle.hx_model.specs.Types.{Actor, At, Coordinator, Deliver, Epoch, Input, 
 use Rattle.hx_model.specs.Types.{Term, Update, Version}
 use Rattle.hx_types.specs.declared.messages.Message.TheVariants as a_message
 use Rattle.hx_types.specs.Words.{IsIn, post, provided}
-use Rattle.hx_types.specs.Configs.{head_of, is_lost, is_server, leads, lists, lists_ready}
+use Rattle.hx_types.specs.Configs.{head_of, is_lost, is_server, leads, lists}
 use Rattle.hx_types.specs.Effects.{key_of}
 use Rattle.hx_types.specs.Spaces.{IsSpace}
 use Rattle.hx_types.specs.Subspaces.{is_key_region}
-use Rattle.hx_model.specs.Hearing.{hears_ack, hears_snap, hears_update}
+use Rattle.hx_model.specs.Hearing.{hears_ack, hears_update}
 use Rattle.hx_model.specs.Neighbours.{next_of, place_number, prev_of, region_at}
 use Rattle.hx_model.specs.Regions.{key_region}
-use Rattle.hx_model.specs.ServerSteps.{Replica, ServerState, ServerStep, ack_step, asked as asked_rows, asking_last, at_slot, call_step, context_of, halting}
-use Rattle.hx_model.specs.ServerSteps.{if_installed, meeting, pending_with, poll_post, replica_for, replica_of, replica_tick, saying, server_step, state_in}
-use Rattle.hx_model.specs.ServerSteps.{update_step}
+use Rattle.hx_model.specs.ServerSteps.{Replica, ServerState, ServerStep, ack_step, asking_last, at_slot, call_step, context_of, halting, if_installed}
+use Rattle.hx_model.specs.ServerSteps.{installed_slots, meeting, pending_with, poll_post, ready_post, replica_for, replica_of, replica_tick, saying}
+use Rattle.hx_model.specs.ServerSteps.{server_step, state_in, update_step, with_slots}
 use Rattle.hx_model.specs.Slots.{found_in, pending_of}
+use Rattle.hx_model.proofs.Lemmas.{ServerCases, server-cases}
 use Rattle.hx_law_lemmas.proofs.Lemmas.{at_session, in-append, in-find, in-provided, in_left, in_right, pending-in, replica-found, same_version, server-same}
 use Rattle.hx_law_lemmas.specs.Words.{standing}
 use Rattle.hx_law_folds.specs.Folding.{IsJoinableServer}
@@ -31,12 +32,11 @@ use Rattle.hx_law_chains.proofs.Messages.{ack-served, call-served, update-served
 use Rattle.hx_law_chains.proofs.Moves.{find-true}
 use Rattle.hx_law_chains.proofs.Renewed.{renewed-scene, renewed-stays}
 use Rattle.hx_law_chains.proofs.Saying.{accepted-here}
-use Rattle.hx_law_chains.proofs.Serving.{Asked, IsSilent, Posted, Scene, Served, Stage, after, installed-now, installed-then, saying-served, seated-now, silent}
-use Rattle.hx_law_chains.proofs.Serving.{silent-served, st, world}
-use Rattle.hx_law_chains.proofs.SlotPosts.{each-one, each-under}
+use Rattle.hx_law_chains.proofs.Serving.{Asked, IsSilent, Posted, Scene, Served, Stage, after, installed-now, installed-then, ready-silent, saying-served}
+use Rattle.hx_law_chains.proofs.Serving.{seated-now, silent, silent-served, st, world}
+use Rattle.hx_law_chains.proofs.SlotPosts.{each-one}
 use Rattle.hx_law_chains.proofs.Snapped.{snapped-served}
 use Rattle.hx_law_chains.proofs.Snapshots.{Carries, Sends, replica-sent}
-use Rattle.hx_law_epochs.proofs.Lemmas.{Rows, by-input, snap_row}
 use Rattle.hx_law_chains.proofs.Ticks.{tick-served}
 use Rattle.hx_law_chains.proofs.World.{AckOk, KeyOk, Ordered, Stays, UpdateOk, Valid, lawful-sorted, stays-then}
 
@@ -170,22 +170,21 @@ module _ (stage : Stage) (epochs : EpochsKept stage.scene.Real stage.scene.serve
   -- ---- a search
   ask : (from : Actor) (epoch : Epoch) (number : ℕ) (g : RegionId) (terms : List Term) (r : Replica)
       → Arrives e asked i from (a_message.Ask epoch number g terms) → if_installed (replica_for s0 g) ≡ Some r
-      → Keeping (asked_rows s0 from epoch number terms (Some r))
+      → Keeping (saying s0 (post (Server i) from (a_message.Found epoch number r.region (found_in r.region terms r.states)) ∷ []))
   ask from epoch number g terms r a z =
       let h = takes g r (installed-is (replica_for s0 g) r z).0 in
       let found = post (Server i) from (a_message.Found epoch number r.region (found_in r.region terms r.states)) in
-      let Good = λ (p : Post). Posted e asked i s0 (world e) p × NoSnap p.message in
       let here = subst (λ (x : ServerState). if_installed (replica_for x r.region) ≡ Some r) (sym stage.same)
       (subst (λ (x : RegionId). if_installed (replica_for s0 x) ≡ Some r) (sym h.region) z) in
-      saying-served stage (provided (lists_ready s0.config r.region i) (found ∷ []))
-      (each-under Good (lists_ready s0.config r.region i) (found ∷ []) (each-one Good found (
+      saying-served stage (found ∷ [])
+      (each-one (λ (p : Post). Posted e asked i s0 (world e) p × NoSnap p.message) found (
         record {
           valid = tt;
           late = (terms, subst (λ (x : RegionId). asked.ask from epoch number x terms) (sym h.region) a.asks, (r, here, refl));
           says = tt;
         },
         tt,
-      )))
+      ))
 
   -- ---- a call
 
@@ -213,27 +212,31 @@ module _ (stage : Stage) (epochs : EpochsKept stage.scene.Real stage.scene.serve
 
   -- ---- a snapshot
   snap : (from : Actor) (epoch : Epoch) (g : RegionId) (snapshot : List Kept) (pending : List Update) (r : Replica)
-      → Arrives e asked i from (a_message.Snap epoch g snapshot pending) → replica_for s0 g ≡ Some r → hears_snap s0.config r.region i from ≡ true
-      → Keeping (snap_row e.script.space s0 r snapshot pending)
-  snap from epoch g snapshot pending r a z t =
+      → Arrives e asked i from (a_message.Snap epoch g snapshot pending) → replica_for s0 g ≡ Some r → r.installed ≡ false
+      → Keeping (with_slots s0 r (installed_slots (context_of e.script.space s0 r.region) snapshot pending))
+  snap from epoch g snapshot pending r a z empty =
       let h = takes g r z in
-      snapped-served stage r h.found from epoch snapshot pending h.listed
+      snapped-served stage r h.found from epoch snapshot pending empty h.listed
       (subst (λ (x : RegionId). IsIn (post from (Server i) (a_message.Snap epoch x snapshot pending)) e.posts) (sym h.region) a.posted)
       (subst (λ (x : RegionId). Carries e.script.space x snapshot pending) (sym h.region) a.sends)
 
   -- ---- each input
-  rows : Rows e.script.space s0 (Arrives e asked i) Keeping
-  rows = record {
-    still = silent-served stage [] (λ p j. absurd j);
+  cases : (input : Input) → ((id : PostId) (from : Actor) (m : Message) → input ≡ Deliver id from m → Arrives e asked i from m)
+      → ServerCases e.script.space s0 input Keeping
+  cases input arrives = record {
+    rests = silent-served stage [] (λ p j. absurd j);
     met = met;
     ticks = asked-last (flat_map (replica_tick e.script.space s0) s0.replicas) (tick-served stage shaped.once joinable);
-    halts = halts;
-    call = call;
-    update = update;
-    ack = ack;
-    ask = ask;
-    snap = snap;
-    install = λ from config a higher. adopted-served stage joinable config (epochs.says (post from (Server i) (a_message.Install config)) a.posted) higher;
+    halts = λ z. halts;
+    dies = λ id from z. halts;
+    call = λ id u epoch number op key r z. call u epoch number op key r (arrives id (Session u) (a_message.Call epoch number op) z);
+    update = λ id from epoch g u r z. update from epoch g u r (arrives id from (a_message.Update epoch g u) z);
+    ack = λ id from epoch g by key v r u z. ack from epoch g by key v r u (arrives id from (a_message.Ack epoch g by key v) z);
+    ask = λ id from epoch number g terms r z q t. ask from epoch number g terms r (arrives id from (a_message.Ask epoch number g terms) z) q;
+    ready = λ id from epoch g snapshot pending r z q t there. silent-served stage (ready_post s0 r.region) (ready-silent s0 r.region);
+    installs = λ id from epoch g snapshot pending r z q t. snap from epoch g snapshot pending r (arrives id from (a_message.Snap epoch g snapshot pending) z) q;
+    adopts = λ id from config z higher. (let m = a_message.Install config in
+        adopted-served stage joinable config (epochs.says (post from (Server i) m) (arrives id from m z).posted) higher);
   }
 
 -- what each input of a server keeps
@@ -244,8 +247,8 @@ pub input-served : (e : Scene) (asked : Asked) (valid : IsSpace e.script.space) 
     → let step = server_step e.script.space (e.servers i) input in Served e asked i step.state step.notes step.posts
 input-served e asked valid o ok epochs i here shaped joinable input arrives =
     subst (λ (x : ServerState). let step = server_step e.script.space x input in Served e asked i step.state step.notes step.posts) (sym same)
-    (by-input e.script.space (st stage) (Arrives e asked i) (λ (step : ServerStep). Served e asked i step.state step.notes step.posts)
-    (rows stage epochs (subst (Shaped i) same shaped) (subst (IsJoinableServer e.script.space) same joinable)) input arrives)
+    (server-cases e.script.space (st stage) input (λ (step : ServerStep). Served e asked i step.state step.notes step.posts)
+    (cases stage epochs (subst (Shaped i) same shaped) (subst (IsJoinableServer e.script.space) same joinable) input arrives))
   where
     same : e.servers i ≡ standing (e.servers i).config i (e.servers i).replicas
     same = λ j. record { id = shaped.id j; config = (e.servers i).config; halted = here.1 j; replicas = (e.servers i).replicas }

@@ -8,13 +8,13 @@ use Rattle.hx_types.specs.Words.{provided}
 use Rattle.hx_model.specs.Hearing.{hears_ack, hears_snap, hears_update}
 use Rattle.hx_model.specs.Neighbours.{place_number}
 use Rattle.hx_model.specs.Runs.{Output, has_halted, server_of}
-use Rattle.hx_model.specs.ServerSteps.{Replica, ServerState, ServerStep, ack_step, acked, acked_of, at_slot, context_of, if_installed, meeting, message_step}
-use Rattle.hx_model.specs.ServerSteps.{pending_with, poll_post, replica_for, server_step, snapped, state_in, unmoved, update_step, updated}
+use Rattle.hx_model.specs.ServerSteps.{Replica, ServerState, ServerStep, ack_step, acked, acked_of, at_slot, context_of, if_installed, installed_slots, meeting}
+use Rattle.hx_model.specs.ServerSteps.{message_step, pending_with, poll_post, ready_post, replica_for, saying, server_step, snapped, state_in, unmoved}
+use Rattle.hx_model.specs.ServerSteps.{update_step, updated, with_slots}
 use Rattle.hx_law_lemmas.proofs.Lemmas.{replica-found}
 use Rattle.hx_law_epochs.proofs.Lemmas.{epochs-run, installed-is, replica_for-is}
 use Rattle.hx_law_chains.specs.Chains.{HearsNeighbour, IsDropped, RunsHearNeighbours}
 use Rattle.hx_law_chains.proofs.Entered.{made-by, state-by}
-use Rattle.hx_law_epochs.proofs.Lemmas.{snap_row}
 
 -- the replica that takes messages for a region is of the region
 taken-region : (st : ServerState) (g : RegionId) (r : Replica) → replica_for st g ≡ Some r → r.region ≡ g
@@ -80,7 +80,10 @@ hears space st from (a_message.Snap epoch g snapshot pending) = by (replica_for 
     by None e = inr (dropped st epoch)
     by (Some r) e = of (hears_snap st.config r.region st.id from) refl
       where
-        of : (b : _) → hears_snap st.config r.region st.id from ≡ b → Good (cond (not b) (unmoved st) (snap_row space st r snapshot pending))
+        takes : ServerStep
+        takes = cond r.installed (saying st (ready_post st r.region)) (with_slots st r (installed_slots (context_of space st r.region) snapshot pending))
+
+        of : (b : _) → hears_snap st.config r.region st.id from ≡ b → Good (cond (not b) (unmoved st) takes)
         of true t = inl (r, e, subst (λ (x : RegionId). hears_snap st.config x st.id from ≡ true) (taken-region st g r e) t)
         of false t = inr (dropped st epoch)
 hears space st from other = tt

@@ -1,14 +1,14 @@
 -- A snapshot of any epoch that a server hears: a replica that isn't installed goes on with what it was sent, and becomes what the snapshot under way was.
-use Rattle.std.proofs.Common.{◌≡◌, ℕ, inl, inr, true, false, List, [], ◌++◌, Some, refl, sym, ap, ◌∙◌, subst, cond}
+use Rattle.std.proofs.Common.{◌≡◌, ℕ, inl, inr, true, false, List, [], ◌++◌, Some, refl, sym, ap, ◌∙◌, subst}
 use Rattle.std.specs.List.{flat_map}
-use Rattle.std.proofs.lemmas.Bool.{cond_both, false≢true}
+use Rattle.std.proofs.lemmas.Bool.{false≢true}
 use Rattle.hx_model.specs.Types.{Actor, Epoch, Kept, Post, RegionId, Server, Update}
 use Rattle.hx_types.specs.declared.messages.Message.TheVariants as a_message
 use Rattle.hx_types.specs.Words.{IsIn, post}
 use Rattle.hx_types.specs.Configs.{lists}
 use Rattle.hx_model.specs.Holders.{snap_state}
-use Rattle.hx_model.specs.ServerSteps.{Replica, ServerState, ServerStep, SlotContext, installed_slots, move_posts, passed_on, ready_post, replica_of, resumed}
-use Rattle.hx_model.specs.ServerSteps.{saying, state_in, with_replica, with_slots}
+use Rattle.hx_model.specs.ServerSteps.{Replica, ServerState, SlotContext, installed_slots, move_posts, passed_on, ready_post, replica_of, resumed, state_in}
+use Rattle.hx_model.specs.ServerSteps.{with_replica}
 use Rattle.hx_model.specs.Slots.{KeyState, moved_all, pending_of}
 use Rattle.hx_law_lemmas.proofs.Lemmas.{in-append, listed-in, pending-in, replica-here, replica-other, which-region}
 use Rattle.hx_law_epochs.specs.Epochs.{order}
@@ -21,7 +21,7 @@ use Rattle.hx_law_chains.proofs.Moves.{AllAllowed}
 use Rattle.hx_law_chains.proofs.Posts.{Known, Seated}
 use Rattle.hx_law_chains.proofs.Saying.{Fine, known-in, moves-fine, passed-fine, resumed-nosnap}
 use Rattle.hx_law_chains.proofs.Serving.{Acts, Posted, Served, Stage, fine-posted, installed-now, installed-then, itself, own-grown, quiet-acts, quiet-key}
-use Rattle.hx_law_chains.proofs.Serving.{ready-silent, seated-turned, served-by, silent, silent-served, st, turned, turned-made, world}
+use Rattle.hx_law_chains.proofs.Serving.{ready-silent, seated-turned, served-by, silent, st, turned, turned-made, world}
 use Rattle.hx_law_chains.proofs.SlotPosts.{each-both, each-pending}
 use Rattle.hx_law_chains.proofs.Snapshots.{Carries}
 use Rattle.hx_law_chains.proofs.SnapshotsTaken.{taken-posts, taken-state}
@@ -170,18 +170,5 @@ module _ (stage : Stage) (r : Replica) (found : replica_of r.region stage.replic
             (turned-made stage q [] new (world e).holds acts r.region at-after key (joiner-moved key)))
 
     -- what the step keeps
-    joins-served : Served e asked i q [] new
-    joins-served = served-by stage q [] new (world e).holds acts fine (λ key. inl refl)
-
-  -- ---- the row
-
-  -- what a step keeps at which a replica hears a snapshot
-  pub snapped-served : lists (e.servers i).config r.region i ≡ true
-      → IsIn (post from (Server i) (a_message.Snap epoch r.region snapshot pending)) e.posts → Carries e.script.space r.region snapshot pending
-      → let step = cond r.installed (saying (st stage) (ready_post (st stage) r.region)) (with_slots (st stage) r (installed_slots at snapshot pending)) in
-      Served e asked i step.state step.notes step.posts
-  snapped-served lists_it arrived carries =
-      cond_both r.installed (saying (st stage) (ready_post (st stage) r.region)) (with_slots (st stage) r (installed_slots at snapshot pending))
-      (λ (step : ServerStep). Served e asked i step.state step.notes step.posts)
-      (λ t. silent-served stage (ready_post (st stage) r.region) (ready-silent (st stage) r.region))
-      (λ t. joins-served t lists_it arrived carries)
+    pub snapped-served : Served e asked i q [] new
+    snapped-served = served-by stage q [] new (world e).holds acts fine (λ key. inl refl)

@@ -22,5 +22,4 @@ pub use Rattle.hx_law_epochs.proofs.Servers.{Adopts, Does, Stays, Tells}
 pub use Rattle.hx_law_epochs.proofs.Serving.{head-ready, ready-listed}
 pub use Rattle.hx_law_epochs.proofs.Sessions.{session-config}
 pub use Rattle.hx_law_epochs.proofs.SlotPosts.{AssignsOne}
-pub use Rattle.hx_law_epochs.proofs.Table.{Rows, by-input, snap_row}
 pub use Rattle.hx_law_epochs.proofs.Widening.{MayIssue, Widens, from-map}

@@ -7,7 +7,6 @@ pub mod Makers
 pub mod Growing
 pub mod CoordinatorPosts
 pub mod SlotPosts
-pub mod Table
 pub mod ServerPosts
 pub mod Senders
 pub mod Facts

@@ -1,17 +1,16 @@
 -- What each step of a server posts and notes, whatever it takes: of snapshots its replicas'.
-use Rattle.hx_law_lemmas.proofs.Lemmas.Vocabulary.{[], adopted, adopted_posts, asking_last, at_slot, cond_both, Config, context_of, Coordinator, false}
-use Rattle.hx_law_lemmas.proofs.Lemmas.Vocabulary.{flat_map, found_in, inl, Input, input_step, installed_slots, is_active, is_key_region, IsIn, joiner_for}
-use Rattle.hx_law_lemmas.proofs.Lemmas.Vocabulary.{Kept, keys_of, KeyState, List, listed_regions, lists_joining, lists_ready, ltb, map, meeting, Message, None}
-use Rattle.hx_law_lemmas.proofs.Lemmas.Vocabulary.{Option, passed_on, pending_of, pending_of_all, pending_posts, poll_post, Post, post, provided, ready_post}
-use Rattle.hx_law_lemmas.proofs.Lemmas.Vocabulary.{refl, RegionId, Replica, replica_of, replica_or_new, replica_tick, resumed_posts, saying, Server}
-use Rattle.hx_law_lemmas.proofs.Lemmas.Vocabulary.{server_step, ServerId, ServerState, ServerStep, SlotContext, SlotStep, snap_posts, snap_to, snapshot_of}
-use Rattle.hx_law_lemmas.proofs.Lemmas.Vocabulary.{Some, Space, state_from, state_in, subst, sym, tick_step, unmoved, Update, with_config, with_slots, ⊤, ◌++◌}
-use Rattle.hx_law_lemmas.proofs.Lemmas.Vocabulary.{◌∷◌}
+use Rattle.hx_law_lemmas.proofs.Lemmas.Vocabulary.{[], adopted, adopted_posts, asking_last, at_slot, Config, context_of, Coordinator, false, flat_map, found_in}
+use Rattle.hx_law_lemmas.proofs.Lemmas.Vocabulary.{halting, inl, Input, installed_slots, is_active, is_key_region, IsIn, joiner_for, Kept, keys_of, KeyState}
+use Rattle.hx_law_lemmas.proofs.Lemmas.Vocabulary.{List, listed_regions, lists_joining, ltb, map, meeting, Message, None, Option, passed_on, pending_of}
+use Rattle.hx_law_lemmas.proofs.Lemmas.Vocabulary.{pending_of_all, pending_posts, poll_post, Post, post, provided, ready_post, refl, RegionId, Replica}
+use Rattle.hx_law_lemmas.proofs.Lemmas.Vocabulary.{replica_of, replica_or_new, replica_tick, resumed_posts, saying, Server, server_step, ServerId, ServerState}
+use Rattle.hx_law_lemmas.proofs.Lemmas.Vocabulary.{ServerStep, SlotContext, SlotStep, snap_posts, snap_to, snapshot_of, Some, Space, state_from, state_in}
+use Rattle.hx_law_lemmas.proofs.Lemmas.Vocabulary.{subst, sym, tick_step, Update, with_config, with_slots, ⊤, ◌++◌, ◌∷◌}
 use Rattle.hx_types.specs.declared.messages.Message.TheVariants as a_message
+use Rattle.hx_model.proofs.Lemmas.{ServerCases, server-cases}
 use Rattle.hx_law_lemmas.proofs.Lemmas.{each-append, each-flat, each-one, each-provided, in-map, replica-found, when_some_both}
 use Rattle.hx_law_epochs.specs.Senders.{IsOfServer}
 use Rattle.hx_law_epochs.proofs.SlotPosts.{AssignsOne, OfSlot, SlotSays, SlotTells, ack-tells, call-tells, joined-of, pending-of, resumed-of, update-tells}
-use Rattle.hx_law_epochs.proofs.Table.{Rows, by-input}
 
 -- what servers post, and of which snapshots
 abbrev pub OfServer : (RegionId → List Kept → List Update → Type 0) → Message → Type 0
@@ -83,6 +82,10 @@ module _ (Sent : RegionId → List Kept → List Update → Type 0) where
     notes = h.notes;
   }
 
+  -- a halt
+  halts : (s : ServerState) → Plain (halting s)
+  halts s = record { posts = each-one Of (post (Server s.id) Coordinator a_message.Gone) tt; notes = inl refl }
+
   -- a snapshot at a replica that isn't installed
   takes : (space : Space) (s : ServerState) (snapshot : List Kept) (pending : List Update) (r : Replica)
       → Plain (with_slots s r (installed_slots (context_of space s r.region) snapshot pending))
@@ -128,29 +131,28 @@ module _ (Sent : RegionId → List Kept → List Update → Type 0) where
         (λ e. new m.0)
         (λ y e. may y (replica-found m.0 s.replicas y e).0))
 
-    -- the rows
-    rows : Rows space s (λ from m. ⊤) Plain
-    rows = record {
-      still = says s [] (λ p i. absurd i);
+    -- each case
+    cases : (input : Input) → ServerCases space s input Plain
+    cases input = record {
+      rests = says s [] (λ p i. absurd i);
       met = meets s;
       ticks = ticks space s may;
-      halts = record { posts = each-one Of (post (Server s.id) Coordinator a_message.Gone) tt; notes = inl refl };
-      call = λ u epoch number op key r a z q l. (let context = context_of space s r.region in
+      halts = λ e. halts s;
+      dies = λ id from e. halts s;
+      call = λ id u epoch number op key r e z q l. (let context = context_of space s r.region in
           at-slot context s r (state_in space r key) _ (call-tells context (state_in space r key) (record { session = u; number = number }) op));
-      update = λ from epoch g u r a z t. (let context = context_of space s r.region in
+      update = λ id from epoch g u r e z t. (let context = context_of space s r.region in
           at-slot context s r (state_in space r u.key) _ (update-tells context (state_in space r u.key) u));
-      ack = λ from epoch g by key v r u a z f t. (let context = context_of space s r.region in
+      ack = λ id from epoch g by key v r u e z f t. (let context = context_of space s r.region in
           at-slot context s r (state_in space r key) _ (ack-tells context (state_in space r key) v.0));
-      ask = λ from epoch number g terms r a z. says s _ (each-provided Of (lists_ready s.config r.region s.id) _
-          (each-one Of (post (Server s.id) from (a_message.Found epoch number r.region (found_in r.region terms r.states))) tt));
-      snap = λ from epoch g snapshot pending r a z t. cond_both r.installed (saying s (ready_post s r.region)) _ Plain
-          (λ i. says s (ready_post s r.region) (readies s r.region))
-          (λ i. takes space s snapshot pending r);
-      install = λ from config a l. adopts space (with_config s config) (newer config);
+      ask = λ id from epoch number g terms r e z t. says s _
+          (each-one Of (post (Server s.id) from (a_message.Found epoch number r.region (found_in r.region terms r.states))) tt);
+      ready = λ id from epoch g snapshot pending r e z t i. says s (ready_post s r.region) (readies s r.region);
+      installs = λ id from epoch g snapshot pending r e z t i. takes space s snapshot pending r;
+      adopts = λ id from config e l. adopts space (with_config s config) (newer config);
     }
 
   -- each input
   pub server-plain : (space : Space) (s : ServerState) (input : Input) → ((r : Replica) → IsIn r s.replicas → MaySend r)
       → ((g : RegionId) → MaySend (record { region = g; installed = false; states = [] })) → Plain (server_step space s input)
-  server-plain space s input may new = cond_both s.halted (unmoved s) (input_step space s input) Plain (λ t. says s [] (λ p i. absurd i))
-      (λ t. by-input space s (λ from m. ⊤) Plain (rows space s may new) input (λ id from m e. tt))
+  server-plain space s input may new = server-cases space s input Plain (cases space s may new input)

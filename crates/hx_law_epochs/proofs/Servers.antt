@@ -1,25 +1,22 @@
 -- Each step of a server, as far as epochs go: what becomes of its configuration and its replicas, and what it posts.
-use Rattle.hx_law_lemmas.proofs.Lemmas.Vocabulary.{[], ack_step, acked, acked_of, Actor, adopted, adopted_posts, and_parts, ap, arith, asked, asking_last}
-use Rattle.hx_law_lemmas.proofs.Lemmas.Vocabulary.{at_slot, call_at, call_step, called, called_by, Caller, cond_both, Config, config_noted, context_of}
-use Rattle.hx_law_lemmas.proofs.Lemmas.Vocabulary.{Coordinator, Deliver, Epoch, false, false≢true, flat_map, Halt, halting, hears_ack, hears_snap, hears_update}
-use Rattle.hx_law_lemmas.proofs.Lemmas.Vocabulary.{if_installed, inl, Input, input_step, inr, install_at, installed_slots, is_active, is_key_region, is_lost}
-use Rattle.hx_law_lemmas.proofs.Lemmas.Vocabulary.{IsIn, joiner_for, Kept, key_of, key_region, keys_of, KeyState, leads, List, lists, lists_joining}
-use Rattle.hx_law_lemmas.proofs.Lemmas.Vocabulary.{lists_ready, ltb, ltb-true, map, meeting, Message, message_step, moved_all, None, not, not-true, Op, Option}
-use Rattle.hx_law_lemmas.proofs.Lemmas.Vocabulary.{passed_on, pending_of, pending_of_all, pending_posts, pending_with, place_number, poll_post, Post, post}
-use Rattle.hx_law_lemmas.proofs.Lemmas.Vocabulary.{PostId, provided, ready_post, refl, RegionId, Replica, replica_for, replica_of, replica_tick, resumed_posts}
-use Rattle.hx_law_lemmas.proofs.Lemmas.Vocabulary.{saying, Server, server_step, ServerId, ServerState, ServerStep, Session, Slots, SlotStep, snap_posts}
-use Rattle.hx_law_lemmas.proofs.Lemmas.Vocabulary.{snap_to, snapped, snapshot_of, Some, Space, state_from, state_in, subst, sym, Term, Tick, tick_step, true}
-use Rattle.hx_law_lemmas.proofs.Lemmas.Vocabulary.{unmoved, Update, update_step, updated, when_some, with_config, with_slots, ℕ, ◌++◌, ◌<◌, ◌∙◌, ◌∷◌, ◌≡◌, ◌≤◌}
-use Rattle.hx_law_lemmas.proofs.Lemmas.Vocabulary.{◌⊎◌}
+use Rattle.hx_law_lemmas.proofs.Lemmas.Vocabulary.{[], Actor, adopted, adopted_posts, and_parts, ap, arith, asking_last, at_slot, Config, config_noted}
+use Rattle.hx_law_lemmas.proofs.Lemmas.Vocabulary.{context_of, Coordinator, Deliver, Epoch, false, false≢true, flat_map, halting, inl, Input, inr}
+use Rattle.hx_law_lemmas.proofs.Lemmas.Vocabulary.{installed_slots, is_active, is_key_region, is_lost, IsIn, joiner_for, Kept, key_region, keys_of, KeyState}
+use Rattle.hx_law_lemmas.proofs.Lemmas.Vocabulary.{leads, List, lists, lists_joining, ltb, map, meeting, Message, moved_all, None, not, not-true, Option}
+use Rattle.hx_law_lemmas.proofs.Lemmas.Vocabulary.{passed_on, pending_of, pending_of_all, pending_posts, poll_post, post, Post, PostId, provided, ready_post}
+use Rattle.hx_law_lemmas.proofs.Lemmas.Vocabulary.{refl, RegionId, Replica, replica_for, replica_of, replica_tick, resumed_posts, saying, Server, server_step}
+use Rattle.hx_law_lemmas.proofs.Lemmas.Vocabulary.{ServerId, ServerState, ServerStep, Slots, SlotStep, snap_posts, snap_to, snapshot_of, Some, Space}
+use Rattle.hx_law_lemmas.proofs.Lemmas.Vocabulary.{state_from, state_in, subst, sym, tick_step, true, unmoved, Update, with_config, with_slots, ◌++◌, ◌<◌, ◌∙◌}
+use Rattle.hx_law_lemmas.proofs.Lemmas.Vocabulary.{◌∷◌, ◌≡◌, ◌≤◌, ◌⊎◌}
 use Rattle.hx_types.specs.declared.messages.Message.TheVariants as a_message
-use Rattle.hx_law_lemmas.proofs.Lemmas.{each-append, each-flat, each-one, each-provided, in-flat_map, in-provided, replica-found, replica-here}
-use Rattle.hx_law_lemmas.proofs.Lemmas.{with_slot_at, once-found}
+use Rattle.hx_model.proofs.Lemmas.{server-cases}
+use Rattle.hx_law_lemmas.proofs.Lemmas.{each-append, each-flat, each-one, each-provided, in-flat_map, in-provided, replica-found, replica-here, with_slot_at}
+use Rattle.hx_law_lemmas.proofs.Lemmas.{once-found}
 use Rattle.hx_law_epochs.specs.Senders.{IsOfServer}
 use Rattle.hx_law_epochs.proofs.Facts.{FromServer, Installed, SendsSnapshot}
 use Rattle.hx_law_epochs.proofs.Replicas.{Shaped, done-installed, done-shaped, replica_for-is, installed-is, mid-installed, mid-shaped, replaced-installed}
 use Rattle.hx_law_epochs.proofs.Replicas.{replaced-shaped}
-use Rattle.hx_law_epochs.proofs.SlotPosts.{OfSlot, SlotSays, SlotTells, ack-tells, assigns-none, call-tells, joined-of, pending-of, resumed-of}
-use Rattle.hx_law_epochs.proofs.SlotPosts.{update-tells}
+use Rattle.hx_law_epochs.proofs.SlotPosts.{OfSlot, SlotSays, SlotTells, ack-tells, assigns-none, call-tells, joined-of, pending-of, resumed-of, update-tells}
 
 -- the server goes on in its configuration
 pub record Stays (before after : ServerState) : Type 0 where
@@ -91,39 +88,11 @@ module _ (space : Space) (s : ServerId) (st : ServerState) (shaped : Shaped s st
     notes = λ epoch. assigns-none epoch step.notes tells.notes;
   }
 
-  -- a replica that is found by another name is found by its own
-  own-name : (g : RegionId) (r : Replica) → replica_of g st.replicas ≡ Some r → replica_of r.region st.replicas ≡ Some r
-  own-name g r e = subst (λ (h : RegionId). replica_of h st.replicas ≡ Some r) (sym (replica-found g st.replicas r e).1) e
-
-  -- ---- messages to replicas
-
-  -- where a key's leader hears, it is installed
-  module _ (leads_installed : (g : RegionId) → leads space st.config st.id g ≡ true → Installed st g) where
-    call-does : (g : RegionId) (r : Replica) → replica_for st g ≡ Some r → (key : List ℕ) (caller : Caller) (op : Op) → Does s st May (call_at space st r key caller op)
-    call-does g r e key caller op =
-        let h = replica_for-is st g r e in
-        cond_both (leads space st.config st.id r.region) (at_slot st r (state_in space r key) (call_step (context_of space st r.region) (state_in space r key) caller op)) (unmoved st) (Does s st May)
-        (
-        λ t. slot-does r (state_in space r key) (call_step (context_of space st r.region) (state_in space r key) caller op) (own-name g r h.found)
-        (same (own-name g r h.found) (leads_installed r.region t)) (call-tells (context_of space st r.region) (state_in space r key) caller op)
-        )
-        (λ t. rests)
-      where
-        same : replica_of r.region st.replicas ≡ Some r → Installed st r.region → r.installed ≡ true
-        same f i = let p : Some i.replica ≡ Some r = sym i.found ∙ f in let q : i.replica ≡ r = cc in sym (ap (λ (z : Replica). z.installed) q) ∙ i.installed
-
-    called-does : (from : Actor) (number : ℕ) (op : Op) → Does s st May (called_by space st from number op)
-    called-does Coordinator number op = rests
-    called-does (Server other) number op = rests
-    called-does (Session u) number op = on (key_of op)
-      where
-        hears : (key : List ℕ) (o : Option Replica) → replica_for st (key_region space key) ≡ o → Does s st May (when_some o (unmoved st) (λ (r : Replica). call_at space st r key (record { session = u; number = number }) op))
-        hears key None e = rests
-        hears key (Some r) e = call-does (key_region space key) r e key (record { session = u; number = number }) op
-
-        on : (o : Option (List ℕ)) → Does s st May (called space st (record { session = u; number = number }) op o)
-        on None = rests
-        on (Some key) = hears key (replica_for st (key_region space key)) refl
+  -- a replica that takes messages is found by its own name
+  own : (g : RegionId) (r : Replica) → replica_for st g ≡ Some r → replica_of r.region st.replicas ≡ Some r
+  own g r e =
+      let found = (replica_for-is st g r e).found in
+      subst (λ (h : RegionId). replica_of h st.replicas ≡ Some r) (sym (replica-found g st.replicas r found).1) found
 
   -- where an epoch above the server's own is met, it asks first
   meets : (epoch : Epoch) (step : ServerStep) → Does s st May step → Does s st May (meeting st epoch step)
@@ -141,79 +110,35 @@ module _ (space : Space) (s : ServerId) (st : ServerState) (shaped : Shaped s st
         | inr (config, may, k) ↦ (let e = ap (λ (x : Config). x.epoch.0) k.config_is in let h = k.higher in omega (arith, h, e))
       ]
 
-  -- Update
-  updated-does : (from : Actor) (g : RegionId) (u : Update) → Does s st May (updated space st from u (if_installed (replica_for st g)))
-  updated-does from g u = by (if_installed (replica_for st g)) refl
-    where
-      by : (o : Option Replica) → if_installed (replica_for st g) ≡ o → Does s st May (updated space st from u o)
-      by None e = rests
-      by (Some r) e =
-          let i = installed-is (replica_for st g) r e in
-          cond_both (hears_update st.config u (place_number r.region u.places) st.id from)
-          (at_slot st r (state_in space r u.key) (update_step (context_of space st r.region) (state_in space r u.key) u)) (unmoved st) (Does s st May)
-          (λ t. slot-does r (state_in space r u.key) (update_step (context_of space st r.region) (state_in space r u.key) u) (own-name g r (replica_for-is st g r i.0).found) i.1
-          (update-tells (context_of space st r.region) (state_in space r u.key) u))
-          (λ t. rests)
-
-  -- Ack
-  acked-does : (from : Actor) (g : RegionId) (key : List ℕ) (v : ℕ) (by : RegionId) → Does s st May (acked space st from key v by (if_installed (replica_for st g)))
-  acked-does from g key v by = at (if_installed (replica_for st g)) refl
-    where
-      at : (o : Option Replica) → if_installed (replica_for st g) ≡ o → Does s st May (acked space st from key v by o)
-      at None e = rests
-      at (Some r) e = of (pending_with v (state_in space r key))
-        where
-          of : (o : Option Update) → Does s st May (acked_of space st from by r (state_in space r key) v o)
-          of None = rests
-          of (Some u) =
-              let i = installed-is (replica_for st g) r e in
-              cond_both (hears_ack st.config u (place_number r.region u.places) st.id from by)
-              (at_slot st r (state_in space r key) (ack_step (context_of space st r.region) (state_in space r key) v)) (unmoved st) (Does s st May)
-              (λ t. slot-does r (state_in space r key) (ack_step (context_of space st r.region) (state_in space r key) v) (own-name g r (replica_for-is st g r i.0).found) i.1
-              (ack-tells (context_of space st r.region) (state_in space r key) v))
-              (λ t. rests)
-
-  -- Ask
-  asked-does : (from : Actor) (epoch : Epoch) (number : ℕ) (g : RegionId) (terms : List Term) → Does s st May (asked st from epoch number terms (if_installed (replica_for st g)))
-  asked-does from epoch number g terms = by (if_installed (replica_for st g))
-    where
-      by : (o : Option Replica) → Does s st May (asked st from epoch number terms o)
-      by None = rests
-      by (Some r) = says _ (λ p i. each-one (Mine st) _ (ap Server shaped.id, tt) p (in-provided (lists_ready st.config r.region st.id) _ p i).1)
-
   -- a post that says that a joiner is ready
   ready-mine : (after : ServerState) (g : RegionId) → after.config ≡ st.config → Installed after g → (p : Post) → IsIn p (ready_post st g) → Mine after p
   ready-mine after g e h =
       each-provided (Mine after) (lists_joining st.config g st.id) _
       (each-one (Mine after) (post (Server st.id) Coordinator (a_message.Ready st.config.epoch g)) (ap Server shaped.id, (ap (λ (c : Config). c.epoch) (sym e), h)))
 
-  -- Snap
-  snapped-does : (from : Actor) (g : RegionId) (snapshot : List Kept) (pending : List Update) → Does s st May (snapped space st from snapshot pending (replica_for st g))
-  snapped-does from g snapshot pending = by (replica_for st g) refl
+  -- a replica that isn't installed goes on with a snapshot
+  installs : (r : Replica) → replica_of r.region st.replicas ≡ Some r → (snapshot : List Kept) (pending : List Update)
+      → Does s st May (with_slots st r (installed_slots (context_of space st r.region) snapshot pending))
+  installs r found snapshot pending = record {
+    shaped = replaced-shaped s st shaped r x found (λ e. absurd (false≢true (sym e)));
+    change = inl (record { config = refl; halted = λ e. e; installed = replaced-installed s st shaped r x found (λ e. refl) });
+    posts = each-append (Mine after) slots.posts (ready_post st r.region) (λ p i. of-slot after r.region refl p (joined p i))
+        (ready-mine after r.region refl (record { replica = x; found = replica-here r.region x st.replicas r refl found; installed = refl }));
+    notes = λ epoch. refl;
+  }
     where
-      by : (o : Option Replica) → replica_for st g ≡ o → Does s st May (snapped space st from snapshot pending o)
-      by None e = rests
-      by (Some r) e =
-          let found = own-name g r (replica_for-is st g r e).found in
-          let slots = installed_slots (context_of space st r.region) snapshot pending in
-          cond_both (not (hears_snap st.config r.region st.id from)) (unmoved st) _ (Does s st May)
-          (λ t. rests)
-          (λ u. cond_both r.installed (saying st (ready_post st r.region)) (with_slots st r slots) (Does s st May)
-          (λ t. says (ready_post st r.region) (ready-mine st r.region refl (record { replica = r; found = found; installed = t })))
-          (λ t. installs r found slots (joined-of (context_of space st r.region) pending (keys_of pending)
-          (record { states = map (state_from (is_key_region space r.region)) snapshot; posts = [] }) (λ p i. absurd i))))
-        where
-          installs : (r : Replica) → replica_of r.region st.replicas ≡ Some r → (slots : Slots) → ((p : Post) → IsIn p slots.posts → OfSlot (context_of space st r.region) p) → Does s st May (with_slots st r slots)
-          installs r found slots f = record {
-            shaped = replaced-shaped s st shaped r x found (λ e. absurd (false≢true (sym e)));
-            change = inl (record { config = refl; halted = λ e. e; installed = replaced-installed s st shaped r x found (λ e. refl) });
-            posts = each-append (Mine (with_slots st r slots).state) slots.posts (ready_post st r.region) (λ p i. of-slot (with_slots st r slots).state r.region refl p (f p i))
-                (ready-mine (with_slots st r slots).state r.region refl (record { replica = x; found = replica-here r.region x st.replicas r refl found; installed = refl }));
-            notes = λ epoch. refl;
-          }
-            where
-              x : Replica
-              x = record { region = r.region; installed = true; states = slots.states }
+      slots : Slots
+      slots = installed_slots (context_of space st r.region) snapshot pending
+
+      x : Replica
+      x = record { region = r.region; installed = true; states = slots.states }
+
+      after : ServerState
+      after = (with_slots st r slots).state
+
+      joined : (p : Post) → IsIn p slots.posts → OfSlot (context_of space st r.region) p
+      joined = joined-of (context_of space st r.region) pending (keys_of pending)
+          (record { states = map (state_from (is_key_region space r.region)) snapshot; posts = [] }) (λ p i. absurd i)
 
   -- ---- halts
 
@@ -287,52 +212,53 @@ module _ (space : Space) (s : ServerId) (st : ServerState) (shaped : Shaped s st
       active-mine after e up r i (flat_map (resumed_posts (context_of space st r.region)) r.states)
       (each-flat (Mine after) (resumed_posts (context_of space st r.region)) r.states (λ t j p k. of-slot after r.region e p (resumed-of (context_of space st r.region) t p k)))
 
--- Install
-installs-does : (space : Space) (s : ServerId) (st : ServerState) → Shaped s st → (May : Config → Type 0) (config : Config) → May config → Does s st May (install_at space st config)
-installs-does space s st shaped May config may =
-    cond_both (ltb st.config.epoch.0 config.epoch.0) (adopted space (with_config st config)) (unmoved st) (Does s st May)
-    (
-    λ t. record {
-      shaped = done-shaped space s st shaped config;
-      change = inr (
-        config,
-        may,
-        record {
-          higher = ltb-true st.config.epoch.0 config.epoch.0 t;
-          config_is = refl;
-          halted = λ e. e;
-          installed = λ g l i. done-installed space s st shaped config g (mid-installed space s st shaped config g l i);
-        },
-      );
-      posts = λ p i. (let r = in-flat_map (adopted_posts space (with_config st config)) (with_config st config).replicas p i in
-          adopted-mine space s (with_config st config) (mid-shaped space s st shaped config) May (adopted space (with_config st config)).state refl (done-installed space s st shaped config) r.0 r.1 p r.2);
-      notes = λ epoch. refl;
-    }
-    )
-    (λ t. rests space s st shaped May)
-
--- each message to a server
-message-does : (space : Space) (s : ServerId) (st : ServerState) → Shaped s st → ((g : RegionId) → leads space st.config st.id g ≡ true → Installed st g)
-    → (May : Config → Type 0) (from : Actor) (m : Message) → ((config : Config) → m ≡ a_message.Install config → May config) → Does s st May (message_step space st from m)
-message-does space s st shaped l May from (a_message.Call epoch number op) f = meets space s st shaped May epoch (called_by space st from number op) (called-does space s st shaped May l from number op)
-message-does space s st shaped l May from (a_message.Update epoch g u) f =
-    meets space s st shaped May epoch (updated space st from u (if_installed (replica_for st g))) (updated-does space s st shaped May from g u)
-message-does space s st shaped l May from (a_message.Ack epoch g by key version) f =
-    meets space s st shaped May epoch (acked space st from key version.0 by (if_installed (replica_for st g))) (acked-does space s st shaped May from g key version.0 by)
-message-does space s st shaped l May from (a_message.Ask epoch number g terms) f =
-    meets space s st shaped May epoch (asked st from epoch number terms (if_installed (replica_for st g))) (asked-does space s st shaped May from epoch number g terms)
-message-does space s st shaped l May from (a_message.Install config) f = installs-does space s st shaped May config (f config refl)
-message-does space s st shaped l May from a_message.Die f = halts space s st shaped May
-message-does space s st shaped l May from (a_message.Snap epoch g snapshot pending) f =
-    meets space s st shaped May epoch (snapped space st from snapshot pending (replica_for st g)) (snapped-does space s st shaped May from g snapshot pending)
-message-does space s st shaped l May from other f = rests space s st shaped May
-
 -- each step of a server
 pub server-does : (space : Space) (s : ServerId) (st : ServerState) → Shaped s st → ((g : RegionId) → leads space st.config st.id g ≡ true → Installed st g)
     → (May : Config → Type 0) (input : Input) → ((id : PostId) (from : Actor) (config : Config) → input ≡ Deliver id from (a_message.Install config) → May config) → Does s st May (server_step space st input)
-server-does space s st shaped l May input f = cond_both st.halted (unmoved st) (input_step space st input) (Does s st May) (λ t. rests space s st shaped May) (λ t. by input f)
+server-does space s st shaped l May input f = server-cases space st input (Does s st May) (record {
+  rests = rests space s st shaped May;
+  met = meets space s st shaped May;
+  ticks = ticks space s st shaped May;
+  halts = λ e. halts space s st shaped May;
+  dies = λ id from e. halts space s st shaped May;
+  call = λ id u epoch number op key r e z q b. (let own = found (key_region space key) r q in
+      at-slot r (state_in space r key) _ own (led r own (l r.region b))
+      (call-tells (context_of space st r.region) (state_in space r key) (record { session = u; number = number }) op));
+  update = λ id from epoch g u r e z t. (let i = installed-is (replica_for st g) r z in
+      at-slot r (state_in space r u.key) _ (found g r i.0) i.1 (update-tells (context_of space st r.region) (state_in space r u.key) u));
+  ack = λ id from epoch g by key v r u e z q t. (let i = installed-is (replica_for st g) r z in
+      at-slot r (state_in space r key) _ (found g r i.0) i.1 (ack-tells (context_of space st r.region) (state_in space r key) v.0));
+  ask = λ id from epoch number g terms r e z t. says space s st shaped May _ (each-one (Mine space s st shaped May st) _ (ap Server shaped.id, tt));
+  ready = λ id from epoch g snapshot pending r e z t i. says space s st shaped May (ready_post st r.region)
+      (ready-mine space s st shaped May st r.region refl (record { replica = r; found = found g r z; installed = i }));
+  installs = λ id from epoch g snapshot pending r e z t i. installs space s st shaped May r (found g r z) snapshot pending;
+  adopts = λ id from config e higher. record {
+    shaped = done-shaped space s st shaped config;
+    change = inr (
+      config,
+      f id from config e,
+      record {
+        higher = higher;
+        config_is = refl;
+        halted = λ e. e;
+        installed = λ g l i. done-installed space s st shaped config g (mid-installed space s st shaped config g l i);
+      },
+    );
+    posts = λ p i. (let next = with_config st config in
+        let r = in-flat_map (adopted_posts space next) next.replicas p i in
+        adopted-mine space s next (mid-shaped space s st shaped config) May (adopted space next).state refl
+        (done-installed space s st shaped config) r.0 r.1 p r.2);
+    notes = λ epoch. refl;
+  };
+})
   where
-    by : (input : Input) → ((id : PostId) (from : Actor) (config : Config) → input ≡ Deliver id from (a_message.Install config) → May config) → Does s st May (input_step space st input)
-    by Tick f = ticks space s st shaped May
-    by Halt f = halts space s st shaped May
-    by (Deliver id from m) f = message-does space s st shaped l May from m (λ config e. f id from config (ap (Deliver id from) e))
+    found : (g : RegionId) (r : Replica) → replica_for st g ≡ Some r → replica_of r.region st.replicas ≡ Some r
+    found = own space s st shaped May
+
+    -- where a key's leader hears, it is installed
+    led : (r : Replica) → replica_of r.region st.replicas ≡ Some r → Installed st r.region → r.installed ≡ true
+    led r e i = let p : Some i.replica ≡ Some r = sym i.found ∙ e in let q : i.replica ≡ r = cc in sym (ap (λ (z : Replica). z.installed) q) ∙ i.installed
+
+    at-slot : (r : Replica) (t : KeyState) (step : SlotStep) → replica_of r.region st.replicas ≡ Some r → r.installed ≡ true
+        → SlotTells (context_of space st r.region) step → Does s st May (at_slot st r t step)
+    at-slot = slot-does space s st shaped May
