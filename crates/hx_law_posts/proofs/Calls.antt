@@ -1,18 +1,16 @@
 -- Calls, updates, acknowledgements and searches: what a server does on them, in every configuration of the space.
-use Rattle.hx_law_lemmas.proofs.Lemmas.Vocabulary.{[], accepting, ack_step, acked, acked_of, acknowledged, Actor, ActorExists, ap, arith, asked, at_slot}
-use Rattle.hx_law_lemmas.proofs.Lemmas.Vocabulary.{by_moves, by_posts, call_at, call_step, called, called_by, Caller, cond_both, context_of, decide, decided}
-use Rattle.hx_law_lemmas.proofs.Lemmas.Vocabulary.{Decision, doubt_in, Epoch, Fits, found_in, get_answer, get_step, hears_ack, hears_update, inl, inr}
-use Rattle.hx_law_lemmas.proofs.Lemmas.Vocabulary.{is_session_actor, is_write, IsIn, IsMaybeObjectOf, IsMaybeRowUpTo, IsRowOf, IsSessionOf, IsSoundPost, key_of}
-use Rattle.hx_law_lemmas.proofs.Lemmas.Vocabulary.{key_region, KeyFits, KeyState, known_to, leads, leb, List, lists_ready, None, object_in, object_of, offered}
-use Rattle.hx_law_lemmas.proofs.Lemmas.Vocabulary.{Op, Option, pending_with, place_number, Post, post, refl, RegionId, Replica, replica_for, replica_of, reply}
-use Rattle.hx_law_lemmas.proofs.Lemmas.Vocabulary.{Row, Server, ServerId, ServerState, ServerStep, Session, SlotStep, Some, Space, state_in, stuck_of, subst}
-use Rattle.hx_law_lemmas.proofs.Lemmas.Vocabulary.{sym, Term, top_of, true, unmoved, Update, update_step, updated, waiting_doubt, write_step, ℕ, ◌+◌, ◌<◌, ◌∙◌}
-use Rattle.hx_law_lemmas.proofs.Lemmas.Vocabulary.{◌∷◌, ◌≡◌, ◌≤◌}
+use Rattle.hx_law_lemmas.proofs.Lemmas.Vocabulary.{[], accepting, ack_step, acknowledged, Actor, ActorExists, ap, arith, at_slot, by_moves, by_posts, call_step}
+use Rattle.hx_law_lemmas.proofs.Lemmas.Vocabulary.{Caller, cond_both, context_of, decide, decided, Decision, doubt_in, Epoch, Fits, found_in, get_answer}
+use Rattle.hx_law_lemmas.proofs.Lemmas.Vocabulary.{get_step, inl, inr, is_session_actor, is_write, IsIn, IsMaybeObjectOf, IsMaybeRowUpTo, IsRowOf, IsSessionOf}
+use Rattle.hx_law_lemmas.proofs.Lemmas.Vocabulary.{IsSoundPost, key_region, KeyFits, KeyState, known_to, leb, List, None, object_in, object_of, offered, Op}
+use Rattle.hx_law_lemmas.proofs.Lemmas.Vocabulary.{Option, post, Post, refl, RegionId, Replica, replica_of, reply, Row, saying, Server, ServerId, ServerState}
+use Rattle.hx_law_lemmas.proofs.Lemmas.Vocabulary.{ServerStep, SlotStep, Some, Space, state_in, stuck_of, subst, sym, Term, top_of, true, Update, update_step}
+use Rattle.hx_law_lemmas.proofs.Lemmas.Vocabulary.{waiting_doubt, write_step, ℕ, ◌+◌, ◌<◌, ◌∙◌, ◌∷◌, ◌≡◌, ◌≤◌}
 use Rattle.hx_types.specs.declared.outcomes.Decision.TheVariants as a_decision
 use Rattle.hx_types.specs.declared.messages.Message.TheVariants as a_message
-use Rattle.hx_law_lemmas.proofs.Lemmas.{each-one, all-of, in-provided, when_some_both, accepting-known-in_line as accepting-known}
+use Rattle.hx_law_lemmas.proofs.Lemmas.{each-one, all-of, in-provided, accepting-known-in_line as accepting-known}
 use Rattle.hx_law_lemmas.proofs.Lemmas.{acknowledged-known-in_line as acknowledged-known, offered-known-in_line as offered-known, replica-found, state-key}
-use Rattle.hx_law_lemmas.proofs.Lemmas.{fits-key, get-sound, found-row}
+use Rattle.hx_law_lemmas.proofs.Lemmas.{get-sound, found-row}
 use Rattle.hx_law_posts.proofs.Bounds.{IsSoundAt, bounds}
 use Rattle.hx_law_posts.proofs.Moves.{accepting-rise, acknowledged-rise, offered-rise}
 use Rattle.hx_law_posts.proofs.Slots.{IsSoundSlot, after-of, held-together, together, top-small}
@@ -20,7 +18,7 @@ use Rattle.hx_law_posts.proofs.Kept.{object-sound}
 use Rattle.hx_law_posts.proofs.SlotPosts.{ack_to-sound, reply-sound}
 use Rattle.hx_law_posts.proofs.Doubts.{doubt-sound, waiting-sound}
 use Rattle.hx_law_posts.proofs.Deciding.{IsSoundDecision, decide-at}
-use Rattle.hx_law_posts.proofs.Servers.{DoesWell, IsSoundServer, Relies, replica_for-found, here, moves-good, posts-good, saying-good, slot-sound, unmoved-good}
+use Rattle.hx_law_posts.proofs.Servers.{DoesWell, IsSoundServer, Relies, here, moves-good, posts-good, saying-good, slot-sound}
 
 module _ (space : Space) (sessions n : ℕ) (s : ServerId) (st : ServerState) (relies : Relies space sessions n s st) where
   -- a step that does well
@@ -88,31 +86,19 @@ module _ (space : Space) (sessions n : ℕ) (s : ServerId) (st : ServerState) (r
         (acknowledged-known (together [] t) t v (held-together [] t)) (acknowledged-rise t v h.ordered)
 
   -- an update, where a replica takes it
-  pub updated-good : (from : Actor) (g : RegionId) (u : Update) → IsSoundAt space sessions n g u → (o : Option Replica) → ((r : Replica) → o ≡ Some r → replica_of g st.replicas ≡ Some r) → IsGood (updated space st from u o)
-  updated-good from g u a None f = unmoved-good space sessions n s st relies
-  updated-good from g u a (Some r) f =
-      let k = replica-found g st.replicas r (f r refl) in
-      cond_both (hears_update st.config u (place_number r.region u.places) st.id from) (at_slot st r (state_in space r u.key) (update_step (context_of space st r.region) (state_in space r u.key) u)) (unmoved st) IsGood
-      (
-      λ t. update-good r k.0 (state_in space r u.key) (slot-sound space sessions n r (relies.sound.replicas r k.0) u.key a.sound.of_space.key) u
+  pub updated-good : (g : RegionId) (u : Update) → IsSoundAt space sessions n g u → (r : Replica) → replica_of g st.replicas ≡ Some r
+      → IsGood (at_slot st r (state_in space r u.key) (update_step (context_of space st r.region) (state_in space r u.key) u))
+  updated-good g u a r found =
+      let k = replica-found g st.replicas r found in
+      update-good r k.0 (state_in space r u.key) (slot-sound space sessions n r (relies.sound.replicas r k.0) u.key a.sound.of_space.key) u
       (subst (λ (h : RegionId). IsSoundAt space sessions n h u) (sym k.1) a)
-      )
-      (λ t. unmoved-good space sessions n s st relies)
-
-  -- an acknowledgement of a pending update
-  acked_of-good : (from : Actor) (by : RegionId) (r : Replica) → IsIn r st.replicas → (t : KeyState) → IsSoundSlot space sessions n r.region t → (v : ℕ) (o : Option Update) → IsGood (acked_of space st from by r t v o)
-  acked_of-good from by r i t h v None = unmoved-good space sessions n s st relies
-  acked_of-good from by r i t h v (Some u) =
-      cond_both (hears_ack st.config u (place_number r.region u.places) st.id from by) (at_slot st r t (ack_step (context_of space st r.region) t v)) (unmoved st) IsGood
-      (λ b. ack-good r i t h v)
-      (λ b. unmoved-good space sessions n s st relies)
 
   -- an acknowledgement, where a replica takes it
-  pub acked-good : (from : Actor) (g : RegionId) (key : List ℕ) → KeyFits key → (v : ℕ) (by : RegionId) (o : Option Replica) → ((r : Replica) → o ≡ Some r → replica_of g st.replicas ≡ Some r) → IsGood (acked space st from key v by o)
-  acked-good from g key fits v by None f = unmoved-good space sessions n s st relies
-  acked-good from g key fits v by (Some r) f =
-      let k = replica-found g st.replicas r (f r refl) in
-      acked_of-good from by r k.0 (state_in space r key) (slot-sound space sessions n r (relies.sound.replicas r k.0) key fits) v (pending_with v (state_in space r key))
+  pub acked-good : (g : RegionId) (key : List ℕ) → KeyFits key → (v : ℕ) (r : Replica) → replica_of g st.replicas ≡ Some r
+      → IsGood (at_slot st r (state_in space r key) (ack_step (context_of space st r.region) (state_in space r key) v))
+  acked-good g key fits v r found =
+      let k = replica-found g st.replicas r found in
+      ack-good r k.0 (state_in space r key) (slot-sound space sessions n r (relies.sound.replicas r k.0) key fits) v
 
   -- a row that is found
   row-good : (r : Replica) → IsIn r st.replicas → (terms : List Term) (row : Row) → IsIn row (found_in r.region terms r.states) → IsRowOf space row × (row.version.0 ≤ n + 1)
@@ -123,20 +109,19 @@ module _ (space : Space) (sessions n : ℕ) (s : ServerId) (st : ServerState) (r
       (a.0, (let v = a.1 in let f = h.floor in omega (arith, v, f)))
 
   -- a search, where a replica takes it
-  pub asked-good : (from : Actor) → ActorExists (bounds space sessions n) from → is_session_actor from ≡ true → (epoch : Epoch) → epoch.0 ≤ n + 1 → (number : ℕ) (g : RegionId) (terms : List Term) (o : Option Replica)
-      → ((r : Replica) → o ≡ Some r → replica_of g st.replicas ≡ Some r) → IsGood (asked st from epoch number terms o)
-  asked-good from x session epoch e number g terms None f = unmoved-good space sessions n s st relies
-  asked-good from x session epoch e number g terms (Some r) f =
-      let k = replica-found g st.replicas r (f r refl) in
+  pub asked-good : (from : Actor) → ActorExists (bounds space sessions n) from → is_session_actor from ≡ true → (epoch : Epoch) → epoch.0 ≤ n + 1
+      → (number : ℕ) (g : RegionId) (terms : List Term) (r : Replica) → replica_of g st.replicas ≡ Some r
+      → IsGood (saying st (post (Server st.id) from (a_message.Found epoch number r.region (found_in r.region terms r.states)) ∷ []))
+  asked-good from x session epoch e number g terms r found =
+      let k = replica-found g st.replicas r found in
       saying-good space sessions n s st relies _
-      (λ p i. each-one IsSound (post (Server st.id) from (a_message.Found epoch number r.region (found_in r.region terms r.states)))
+      (each-one IsSound (post (Server st.id) from (a_message.Found epoch number r.region (found_in r.region terms r.states)))
       (record {
         from = relies.exists;
         to = x;
         between = session;
         message = (e, (relies.sound.replicas r k.0).region, all-of (λ (row : Row). IsRowOf space row × (row.version.0 ≤ n + 1)) (found_in r.region terms r.states) (row-good r k.0 terms));
-      })
-      p (in-provided (lists_ready st.config r.region st.id) _ p i).1)
+      }))
 
   module _ (m : ℕ) (before : IsSoundServer space sessions m s st) (less : m < n) where
     -- a write of a key that fits
@@ -150,28 +135,13 @@ module _ (space : Space) (sessions n : ℕ) (s : ServerId) (st : ServerState) (r
         (decide-at space relies.valid sessions n st.config relies.sound.config r.region t (ap (key_region space) (state-key _ key r.states) ∙ sym e) h (omega (arith, low, less)) caller session op fits)
 
     -- a call at the replica that takes it
-    call-good : (key : List ℕ) → KeyFits key → (r : Replica) → replica_of (key_region space key) st.replicas ≡ Some r → (caller : Caller) → IsSessionOf sessions caller.session → (op : Op) → Fits space op
-        → IsGood (call_at space st r key caller op)
-    call-good key key_fits r found caller session op fits =
+    pub called-good : (key : List ℕ) → KeyFits key → (r : Replica) → replica_of (key_region space key) st.replicas ≡ Some r
+        → (caller : Caller) → IsSessionOf sessions caller.session → (op : Op) → Fits space op
+        → IsGood (at_slot st r (state_in space r key) (call_step (context_of space st r.region) (state_in space r key) caller op))
+    called-good key key_fits r found caller session op fits =
         let k = replica-found (key_region space key) st.replicas r found in
-        cond_both (leads space st.config st.id r.region) (at_slot st r (state_in space r key) (call_step (context_of space st r.region) (state_in space r key) caller op)) (unmoved st) IsGood
-        (
-        λ b. cond_both (is_write op) (write_step (context_of space st r.region) (state_in space r key) caller op) (get_step (context_of space st r.region) (state_in space r key) caller)
+        cond_both (is_write op) (write_step (context_of space st r.region) (state_in space r key) caller op)
+        (get_step (context_of space st r.region) (state_in space r key) caller)
         (λ (step : SlotStep). IsGood (at_slot st r (state_in space r key) step))
         (λ w. write-good r k.0 key key_fits k.1 caller session op fits)
         (λ w. get-good r k.0 (state_in space r key) (slot-sound space sessions n r (relies.sound.replicas r k.0) key key_fits) caller session)
-        )
-        (λ b. unmoved-good space sessions n s st relies)
-
-    -- a call
-    called-good : (caller : Caller) → IsSessionOf sessions caller.session → (op : Op) → Fits space op → (o : Option (List ℕ)) → key_of op ≡ o → IsGood (called space st caller op o)
-    called-good caller session op fits None e = unmoved-good space sessions n s st relies
-    called-good caller session op fits (Some key) e =
-        when_some_both (replica_for st (key_region space key)) (unmoved st) (λ (r : Replica). call_at space st r key caller op) IsGood
-        (λ q. unmoved-good space sessions n s st relies)
-        (λ (r : Replica) q. call-good key (fits-key space op key fits e) r (replica_for-found st (key_region space key) r q) caller session op fits)
-
-    -- a call of a session
-    pub called_by-good : (from : Actor) → ActorExists (bounds space sessions n) from → (number : ℕ) (op : Op) → Fits space op → IsGood (called_by space st from number op)
-    called_by-good (Session u) x number op fits = called-good (record { session = u; number = number }) x op fits (key_of op) refl
-    called_by-good other x number op fits = unmoved-good space sessions n s st relies

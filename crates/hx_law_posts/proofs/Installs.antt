@@ -1,20 +1,19 @@
 -- A configuration is adopted: what a server keeps, posts and makes of its slots is sound.
 use Rattle.hx_law_lemmas.proofs.Lemmas.Vocabulary.{[], adopted, adopted_posts, adopted_replica, adopted_state, ap, arith, asking_last, base-moved_all, below}
-use Rattle.hx_law_lemmas.proofs.Lemmas.Vocabulary.{Bool, cond_both, Config, context_of, false, flat_map, Forget, inl, inr, install_at, is_active, IsIn}
-use Rattle.hx_law_lemmas.proofs.Lemmas.Vocabulary.{IsRegionOf, IsSoundPost, KeyState, leader_doubts, length, List, listed_regions, lists, ltb, map, move_posts}
-use Rattle.hx_law_lemmas.proofs.Lemmas.Vocabulary.{moved_all, passed_on, pending_of, pending_posts, Post, provided, ready_post, refl, RegionId, Replica}
-use Rattle.hx_law_lemmas.proofs.Lemmas.Vocabulary.{replica_of, replica_or_new, replica_tick, resumed, resumed_posts, ServerId, ServerState, SlotContext}
-use Rattle.hx_law_lemmas.proofs.Lemmas.Vocabulary.{snap_posts, Space, subst, sym, tail_acks, tick_step, true, unmoved, with_config, ℕ, ◌++◌, ◌∷◌, ◌≡◌}
-use Rattle.hx_law_lemmas.proofs.Lemmas.{each-append, each-flat, each-map, each-provided, in-below, in-filter, in-flat_map, in-map}
-use Rattle.hx_law_lemmas.proofs.Lemmas.{when_some_both, AllKnownInLine as AllKnown}
-use Rattle.hx_law_lemmas.proofs.Lemmas.{KnownInLine as Known, marks-known-in_line as marks-known, with_commits-known-in_line as with_commits-known}
-use Rattle.hx_law_lemmas.proofs.Lemmas.{replica-found, state_key}
+use Rattle.hx_law_lemmas.proofs.Lemmas.Vocabulary.{Bool, Config, context_of, false, flat_map, Forget, inl, inr, is_active, IsIn, IsRegionOf, IsSoundPost}
+use Rattle.hx_law_lemmas.proofs.Lemmas.Vocabulary.{KeyState, leader_doubts, length, List, listed_regions, lists, map, move_posts, moved_all, passed_on}
+use Rattle.hx_law_lemmas.proofs.Lemmas.Vocabulary.{pending_of, pending_posts, Post, provided, ready_post, refl, RegionId, Replica, replica_of, replica_or_new}
+use Rattle.hx_law_lemmas.proofs.Lemmas.Vocabulary.{replica_tick, resumed, resumed_posts, ServerId, ServerState, SlotContext, snap_posts, Space, subst, sym}
+use Rattle.hx_law_lemmas.proofs.Lemmas.Vocabulary.{tail_acks, tick_step, true, with_config, ℕ, ◌++◌, ◌∷◌, ◌≡◌}
+use Rattle.hx_law_lemmas.proofs.Lemmas.{each-append, each-flat, each-map, each-provided, in-below, in-filter, in-flat_map, in-map, when_some_both}
+use Rattle.hx_law_lemmas.proofs.Lemmas.{AllKnownInLine as AllKnown, KnownInLine as Known, marks-known-in_line as marks-known}
+use Rattle.hx_law_lemmas.proofs.Lemmas.{with_commits-known-in_line as with_commits-known, replica-found, state_key}
 use Rattle.hx_law_posts.proofs.Bounds.{IsSoundConfig}
 use Rattle.hx_law_posts.proofs.Moves.{resumed-rise}
 use Rattle.hx_law_posts.proofs.Slots.{IsSoundSlot, held-together, pending-sound, slot-moved, together, together-sound}
 use Rattle.hx_law_posts.proofs.SlotPosts.{moves-sound, update_to-sound}
 use Rattle.hx_law_posts.proofs.Doubts.{leader-sound}
-use Rattle.hx_law_posts.proofs.Servers.{DoesWell, IsSoundReplica, IsSoundServer, Relies, asking-sound, here, saying-good, unmoved-good}
+use Rattle.hx_law_posts.proofs.Servers.{DoesWell, IsSoundReplica, IsSoundServer, Relies, asking-sound, here, saying-good}
 use Rattle.hx_law_posts.proofs.Snapshots.{map-ascends, ready-sound, snap-sound}
 
 -- what a slot does when it goes on in another configuration is known
@@ -129,11 +128,8 @@ module _ (space : Space) (sessions n : ℕ) (s : ServerId) (st : ServerState) (r
           (λ r e. relies.sound.replicas r (replica-found g st.replicas r e).0)
 
 -- a configuration of an earlier entry
-pub install-good : (space : Space) (sessions n : ℕ) (s : ServerId) (st : ServerState) → Relies space sessions n s st → (config : Config) → IsSoundConfig space n config → DoesWell space sessions n s (install_at space st config)
+pub install-good : (space : Space) (sessions n : ℕ) (s : ServerId) (st : ServerState) → Relies space sessions n s st
+    → (config : Config) → IsSoundConfig space n config → DoesWell space sessions n s (adopted space (with_config st config))
 install-good space sessions n s st relies config h =
-    cond_both (ltb st.config.epoch.0 config.epoch.0) (adopted space (with_config st config)) (unmoved st) (DoesWell space sessions n s)
-    (
-    λ t. adopted-good space sessions n s (with_config st config)
+    adopted-good space sessions n s (with_config st config)
     (record { valid = relies.valid; exists = relies.exists; sound = with_config-sound space sessions n s st relies config h })
-    )
-    (λ t. unmoved-good space sessions n s st relies)

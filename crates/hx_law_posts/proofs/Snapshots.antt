@@ -1,16 +1,14 @@
 -- Snapshots: what a server posts to a joiner is sound, and what a joiner makes of it is too.
-use Rattle.hx_law_lemmas.proofs.Lemmas.Vocabulary.{[], accepting, Actor, All-nil, and_parts, any_ready, ap, arith, Bool, cond, cond_both, context_of}
-use Rattle.hx_law_lemmas.proofs.Lemmas.Vocabulary.{Coordinator, false, filter, first_of_list, has_place_in, hears_snap, inl, inr, installed_slots}
-use Rattle.hx_law_lemmas.proofs.Lemmas.Vocabulary.{is_key_region, IsIn, IsServerOf, IsSoundKept, IsSoundPost, IsSoundUpdate, join_keys, join_slot, joiner_for}
-use Rattle.hx_law_lemmas.proofs.Lemmas.Vocabulary.{joiner_in, Kept, kept_of, KeyFits, keys_ascend, keys_of, KeyState, List, list_all, lists_joining, ltb, map}
-use Rattle.hx_law_lemmas.proofs.Lemmas.Vocabulary.{Member, members_of, moved_all, None, not, offered_all, Option, option_map, pending_of, pending_of_all, Post}
-use Rattle.hx_law_lemmas.proofs.Lemmas.Vocabulary.{post, ready_post, refl, RegionId, Replica, replica_of, same_server, same_text, saying, Server, ServerId}
-use Rattle.hx_law_lemmas.proofs.Lemmas.Vocabulary.{ServerState, SlotContext, Slots, snap_posts, snap_to, snapped, snapshot_of, Some, Space, state_among}
-use Rattle.hx_law_lemmas.proofs.Lemmas.Vocabulary.{state_from, subst, sym, text_below, true, unmoved, Update, with_key, with_slots, ℕ, ◌&&◌, ◌++◌, ◌+◌, ◌∙◌}
-use Rattle.hx_law_lemmas.proofs.Lemmas.Vocabulary.{◌∷◌, ◌≡◌, ◌≤◌, ◌⊎◌}
-use Rattle.hx_law_lemmas.proofs.Lemmas.{each-append, each-flat, each-map, each-one, each-provided, all-of, in-filter, in-map}
-use Rattle.hx_law_lemmas.proofs.Lemmas.{in_left, accepting-known-in_line as accepting-known}
-use Rattle.hx_law_lemmas.proofs.Lemmas.{in-with_state, replica-found, state-from, Ascend, ascend-test, state_key}
+use Rattle.hx_law_lemmas.proofs.Lemmas.Vocabulary.{[], accepting, All-nil, and_parts, any_ready, ap, arith, Bool, cond, cond_both, context_of, Coordinator}
+use Rattle.hx_law_lemmas.proofs.Lemmas.Vocabulary.{false, filter, first_of_list, has_place_in, inl, inr, installed_slots, is_key_region, IsIn, IsServerOf}
+use Rattle.hx_law_lemmas.proofs.Lemmas.Vocabulary.{IsSoundKept, IsSoundPost, IsSoundUpdate, join_keys, join_slot, joiner_for, joiner_in, Kept, kept_of, KeyFits}
+use Rattle.hx_law_lemmas.proofs.Lemmas.Vocabulary.{keys_ascend, keys_of, KeyState, List, list_all, lists_joining, ltb, map, Member, members_of, moved_all, None}
+use Rattle.hx_law_lemmas.proofs.Lemmas.Vocabulary.{offered_all, Option, option_map, pending_of, pending_of_all, post, Post, ready_post, refl, RegionId, Replica}
+use Rattle.hx_law_lemmas.proofs.Lemmas.Vocabulary.{replica_of, same_server, same_text, Server, ServerId, ServerState, SlotContext, Slots, snap_posts, snap_to}
+use Rattle.hx_law_lemmas.proofs.Lemmas.Vocabulary.{snapshot_of, Some, Space, state_among, state_from, subst, sym, text_below, true, Update, with_key}
+use Rattle.hx_law_lemmas.proofs.Lemmas.Vocabulary.{with_slots, ℕ, ◌&&◌, ◌++◌, ◌+◌, ◌∙◌, ◌∷◌, ◌≡◌, ◌≤◌, ◌⊎◌}
+use Rattle.hx_law_lemmas.proofs.Lemmas.{each-append, each-flat, each-map, each-one, each-provided, all-of, in-filter, in-map, in_left}
+use Rattle.hx_law_lemmas.proofs.Lemmas.{accepting-known-in_line as accepting-known, in-with_state, replica-found, state-from, Ascend, ascend-test, state_key}
 use Rattle.hx_types.specs.declared.messages.Message.TheVariants as a_message
 use Rattle.hx_law_posts.proofs.Texts.{with_state-ascends}
 use Rattle.hx_law_posts.proofs.Bounds.{IsSoundAt, bounds, kept-up, received}
@@ -19,7 +17,7 @@ use Rattle.hx_law_posts.proofs.Moves.{accepting-rise, offered_all-known, offered
 use Rattle.hx_law_posts.proofs.Slots.{IsSoundSlot, after-of, base-sound, held-together, new-sound, pending-sound, slot-moved, together, together-sound}
 use Rattle.hx_law_posts.proofs.Kept.{kept_of-sound}
 use Rattle.hx_law_posts.proofs.SlotPosts.{IsContext, moves-sound}
-use Rattle.hx_law_posts.proofs.Servers.{DoesWell, IsSoundReplica, Relies, here, saying-good, unmoved-good, with_replica-sound}
+use Rattle.hx_law_posts.proofs.Servers.{DoesWell, IsSoundReplica, Relies, here, with_replica-sound}
 
 -- ---- what a server posts
 
@@ -209,31 +207,23 @@ from-key true k = refl
 from-key false k = refl
 
 module _ (space : Space) (sessions n : ℕ) (s : ServerId) (st : ServerState) (relies : Relies space sessions n s st) where
-  -- a snapshot of an earlier entry
-  pub snapped-good : (from : Actor) (k : ℕ) → k + 1 ≤ n → (g : RegionId) (snapshot : List Kept) → ((x : Kept) → IsIn x snapshot → IsSoundKept (bounds space sessions k) x) → keys_ascend (map kept_key snapshot) ≡ true
+  -- a snapshot of an earlier entry, at a replica that isn't installed
+  pub snapped-good : (k : ℕ) → k + 1 ≤ n → (g : RegionId) (snapshot : List Kept) → ((x : Kept) → IsIn x snapshot → IsSoundKept (bounds space sessions k) x)
+      → keys_ascend (map kept_key snapshot) ≡ true
       → (pending : List Update) → ((u : Update) → IsIn u pending → IsSoundUpdate (bounds space sessions k) u × (has_place_in g u.places ≡ true))
-      → (o : Option Replica) → ((r : Replica) → o ≡ Some r → replica_of g st.replicas ≡ Some r) → DoesWell space sessions n s (snapped space st from snapshot pending o)
-  snapped-good from k l g snapshot kept ascends pending updates None f = unmoved-good space sessions n s st relies
-  snapped-good from k l g snapshot kept ascends pending updates (Some r) f =
-      let installs = with_slots st r (installed_slots (context_of space st r.region) snapshot pending) in
-      cond_both (not (hears_snap st.config r.region st.id from)) (unmoved st) (cond r.installed (saying st (ready_post st r.region)) installs) (DoesWell space sessions n s)
-      (λ t. unmoved-good space sessions n s st relies)
-      (
-      λ t. cond_both r.installed (saying st (ready_post st r.region)) installs (DoesWell space sessions n s)
-      (λ b. saying-good space sessions n s st relies (ready_post st r.region) (ready-sound space sessions n s st relies r inside))
-      (
-      λ b. record {
-        state = with_replica-sound space sessions n s st relies _ (record { region = (relies.sound.replicas r inside).region; slots = all.each; ascend = all.ascend });
-        posts = each-append (λ (p : Post). IsSoundPost space sessions n p) _ (ready_post st r.region) all.posts (ready-sound space sessions n s st relies r inside);
-      }
-      )
-      )
+      → (r : Replica) → replica_of g st.replicas ≡ Some r
+      → DoesWell space sessions n s (with_slots st r (installed_slots (context_of space st r.region) snapshot pending))
+  snapped-good k l g snapshot kept ascends pending updates r found = record {
+    state = with_replica-sound space sessions n s st relies _
+        (record { region = (relies.sound.replicas r inside).region; slots = all.each; ascend = all.ascend });
+    posts = each-append (λ (p : Post). IsSoundPost space sessions n p) _ (ready_post st r.region) all.posts (ready-sound space sessions n s st relies r inside);
+  }
     where
       inside : IsIn r st.replicas
-      inside = (replica-found g st.replicas r (f r refl)).0
+      inside = (replica-found g st.replicas r found).0
 
       may-hold : (u : Update) → IsIn u pending → IsSoundAt space sessions n r.region u
-      may-hold u i = let a = updates u i in subst (λ (h : RegionId). IsSoundAt space sessions n h u) (sym (replica-found g st.replicas r (f r refl)).1) (received space sessions k n l g u a.0 a.1)
+      may-hold u i = let a = updates u i in subst (λ (h : RegionId). IsSoundAt space sessions n h u) (sym (replica-found g st.replicas r found).1) (received space sessions k n l g u a.0 a.1)
 
       each : (t : KeyState) → IsIn t (map (state_from (is_key_region space r.region)) snapshot) → IsSoundSlot space sessions n r.region t
       each t i =
