@@ -1,21 +1,20 @@
 -- The rows of a server's table: where whom the server and its input name is known, each step's posts name known actors alone.
-use Rattle.std.proofs.Common.{◌≡◌, ℕ, inl, false, not, List, [], ◌∷◌, map, nat_lt, Option, Some, None, refl, sym, subst, ltb}
+use Rattle.std.proofs.Common.{◌≡◌, ℕ, inl, false, List, [], ◌∷◌, map, nat_lt, Option, Some, None, refl, sym, subst}
 use Rattle.std.specs.Prelude.{⊤}
 use Rattle.std.specs.List.{flat_map, slice_get}
-use Rattle.std.proofs.lemmas.Bool.{cond_both}
-use Rattle.hx_model.specs.Types.{Actor, Caller, Config, Coordinator, Deliver, Epoch, Halt, Input, Kept, Mark, Member, Message, Op, Post, RegionId, Server}
-use Rattle.hx_model.specs.Types.{ServerId, Session, Space, Term, Tick, Update}
+use Rattle.hx_model.specs.Types.{Actor, Config, Coordinator, Deliver, Epoch, Halt, Input, Kept, Mark, Member, Message, Post, RegionId, Server, ServerId}
+use Rattle.hx_model.specs.Types.{Session, Space, Tick, Update, PostId}
 use Rattle.hx_types.specs.declared.messages.Message.TheVariants as a_message
-use Rattle.hx_types.specs.Configs.{leads, lists_ready, members_of}
-use Rattle.hx_types.specs.Effects.{key_of}
+use Rattle.hx_types.specs.Configs.{members_of}
 use Rattle.hx_types.specs.Posted.{actors_of_config, actors_of_message, servers_among, sessions_marked}
 use Rattle.hx_types.specs.Subspaces.{is_key_region}
 use Rattle.hx_types.specs.Words.{IsIn, post, provided, when_some}
-use Rattle.hx_model.specs.Hearing.{hears_ack, hears_snap, hears_update}
-use Rattle.hx_model.specs.Neighbours.{place_number}
 use Rattle.hx_model.specs.Regions.{key_region}
-use Rattle.hx_model.specs.ServerSteps.{Replica, ServerState, ServerStep, acked, acked_of, adopted, adopted_posts, asked, asking_last, call_at, called, called_by, context_of, halting, if_installed, input_step, install_at, installed_slots, listed_regions, meeting, message_step, pending_with, poll_post, ready_post, replica_for, replica_of, replica_or_new, replica_tick, saying, server_step, snapped, state_in, tick_step, unmoved, updated, with_config}
+use Rattle.hx_model.specs.ServerSteps.{Replica, ServerState, ServerStep, adopted, adopted_posts, asking_last, context_of, halting, if_installed}
+use Rattle.hx_model.specs.ServerSteps.{installed_slots, listed_regions, meeting, poll_post, ready_post, replica_for, replica_of, replica_or_new, replica_tick}
+use Rattle.hx_model.specs.ServerSteps.{server_step, state_in, tick_step, with_config, with_slots}
 use Rattle.hx_model.specs.Slots.{KeyState}
+use Rattle.hx_model.proofs.Lemmas.{server-cases}
 use Rattle.hx_law_lemmas.proofs.Lemmas.{in-flat, in-map, in-slice_get, in_left, in_right, map-in, when_some_both, replica-found}
 use Rattle.hx_law_posts.proofs.Lemmas.{installed-found, replica_for-found}
 use Rattle.hx_replica.proofs.NamedReplicas.{Knows, adopted-good, installed-good, ready-good, tick-good}
@@ -47,15 +46,10 @@ module _ (Known : Actor → Type 0) where
   KnowsInput Halt = ⊤
   KnowsInput (Deliver id from m) = Known from × KnowsMessage m
 
-  stays : (s : ServerState) → IsGoodStep (unmoved s)
-  stays s = none-good Known
-
   tells-coordinator : (s : ServerState) → Knows Known s → (m : Message) → KnowsMessage m → AreGood Known (post (Server s.id) Coordinator m ∷ [])
   tells-coordinator s knows m names = one-good Known _ (record { to = knows.coordinator; names = names })
 
   module _ (space : Space) (s : ServerState) (knows : Knows Known s) where
-    -- ---- calls, updates, acknowledgements and searches
-
     -- the slot of a key at a replica
     slot-known : (r : Replica) → IsIn r s.replicas → (key : List ℕ) → KnowsSlot Known (state_in space r key)
     slot-known r i key = among-known Known (is_key_region space r.region) key r.states (knows.slots r i)
@@ -74,43 +68,6 @@ module _ (Known : Actor → Type 0) where
         (provided-good Known (nat_lt s.config.epoch.0 epoch.0) (poll_post s ∷ []) (tells-coordinator s knows (a_message.Poll s.config.epoch) (λ a i. absurd i)))
         good
 
-    called-good : (caller : Caller) → Known (Session caller.session) → (op : Op) (o : Option (List ℕ)) → IsGoodStep (called space s caller op o)
-    called-good caller known op None = stays s
-    called-good caller known op (Some key) =
-        when_some_both (replica_for s (key_region space key)) (unmoved s) (λ (r : Replica). call_at space s r key caller op) IsGoodStep
-        (λ e. stays s)
-        (
-        λ (r : Replica) e. cond_both (leads space s.config s.id r.region) _ (unmoved s) IsGoodStep
-        (λ t. call-good Known (context_of space s r.region) knows.members (state_in space r key) (slot-known r (taking-in (key_region space key) r e) key) caller known op)
-        (λ t. stays s)
-        )
-
-    called_by-good : (from : Actor) → Known from → (number : ℕ) (op : Op) → IsGoodStep (called_by space s from number op)
-    called_by-good (Session u) known number op = called-good (record { session = u; number = number }) known op (key_of op)
-    called_by-good other known number op = stays s
-
-    updated-good : (from : Actor) (u : Update) → Known (Session u.caller.session) → (o : Option Replica) → ((r : Replica) → o ≡ Some r → IsIn r s.replicas) → IsGoodStep (updated space s from u o)
-    updated-good from u known None f = stays s
-    updated-good from u known (Some r) f =
-        cond_both (hears_update s.config u (place_number r.region u.places) s.id from) _ (unmoved s) IsGoodStep
-        (λ t. update-good Known (context_of space s r.region) knows.members (state_in space r u.key) (slot-known r (f r refl) u.key) u known)
-        (λ t. stays s)
-
-    acked_of-good : (from : Actor) (by : RegionId) (r : Replica) (state : KeyState) → KnowsSlot Known state → (v : ℕ) (o : Option Update) → IsGoodStep (acked_of space s from by r state v o)
-    acked_of-good from by r state known v None = stays s
-    acked_of-good from by r state known v (Some u) =
-        cond_both (hears_ack s.config u (place_number r.region u.places) s.id from by) _ (unmoved s) IsGoodStep
-        (λ t. ack-good Known (context_of space s r.region) knows.members state known v)
-        (λ t. stays s)
-
-    acked-good : (from : Actor) (key : List ℕ) (v : ℕ) (by : RegionId) (o : Option Replica) → ((r : Replica) → o ≡ Some r → IsIn r s.replicas) → IsGoodStep (acked space s from key v by o)
-    acked-good from key v by None f = stays s
-    acked-good from key v by (Some r) f = acked_of-good from by r (state_in space r key) (slot-known r (f r refl) key) v (pending_with v (state_in space r key))
-
-    asked-good : (from : Actor) → Known from → (epoch : Epoch) (number : ℕ) (terms : List Term) (o : Option Replica) → IsGoodStep (asked s from epoch number terms o)
-    asked-good from known epoch number terms None = stays s
-    asked-good from known epoch number terms (Some r) = provided-good Known (lists_ready s.config r.region s.id) _ (one-good Known _ (record { to = known; names = λ a i. absurd i }))
-
     -- ---- ticks, snapshots and configurations
 
     -- the newest configuration is asked for last
@@ -127,20 +84,12 @@ module _ (Known : Actor → Type 0) where
     halt-good : IsGoodStep (halting s)
     halt-good = tells-coordinator s knows a_message.Gone (λ a i. absurd i)
 
-    snapped-good : (from : Actor) (snapshot : List Kept) (pending : List Update) (epoch : Epoch) (g : RegionId) → KnowsMessage (a_message.Snap epoch g snapshot pending) → (o : Option Replica) → IsGoodStep (snapped space s from snapshot pending o)
-    snapped-good from snapshot pending epoch g names None = stays s
-    snapped-good from snapshot pending epoch g names (Some r) =
-        cond_both (not (hears_snap s.config r.region s.id from)) (unmoved s) _ IsGoodStep
-        (λ t. stays s)
-        (
-        λ t. cond_both r.installed (saying s (ready_post s r.region)) _ IsGoodStep
-        (λ b. ready-good Known space s knows r.region)
-        (
-        λ b. both-good Known (installed_slots (context_of space s r.region) snapshot pending).posts (ready_post s r.region)
+    snapped-good : (snapshot : List Kept) (pending : List Update) (epoch : Epoch) (g : RegionId) → KnowsMessage (a_message.Snap epoch g snapshot pending)
+        → (r : Replica) → IsGoodStep (with_slots s r (installed_slots (context_of space s r.region) snapshot pending))
+    snapped-good snapshot pending epoch g names r =
+        both-good Known (installed_slots (context_of space s r.region) snapshot pending).posts (ready_post s r.region)
         (installed-good Known (context_of space s r.region) knows.members pending callers snapshot marks)
         (ready-good Known space s knows r.region)
-        )
-        )
       where
         marked : List Actor
         marked = flat_map sessions_marked snapshot
@@ -171,35 +120,33 @@ module _ (Known : Actor → Type 0) where
             (λ e t i. absurd i)
             (λ r e. knows.slots r (replica-found g s.replicas r e).0)
 
-    install-good : (config : Config) → KnowsMessage (a_message.Install config) → IsGoodStep (install_at space s config)
-    install-good config names =
+    adopt-good : (config : Config) → KnowsMessage (a_message.Install config) → IsGoodStep (adopted space (with_config s config))
+    adopt-good config names =
         let next = with_config s config in
-        cond_both (ltb s.config.epoch.0 config.epoch.0) (adopted space next) (unmoved s) IsGoodStep
-        (λ t. each-good Known (adopted_posts space next) next.replicas (λ r i. adopted-good Known space next (with_config-known config names) r i))
-        (λ t. stays s)
+        each-good Known (adopted_posts space next) next.replicas (λ r i. adopted-good Known space next (with_config-known config names) r i)
 
     -- ---- each input
 
-    message-good : (from : Actor) → Known from → (m : Message) → KnowsMessage m → IsGoodStep (message_step space s from m)
-    message-good from known (a_message.Call epoch number op) names = meeting-good epoch (called_by space s from number op) (called_by-good from known number op)
-    message-good from known (a_message.Update epoch g u) names =
-        meeting-good epoch (updated space s from u (if_installed (replica_for s g)))
-        (updated-good from u (names (Session u.caller.session) (inl refl)) (if_installed (replica_for s g)) (installed-in g))
-    message-good from known (a_message.Ack epoch g by key version) names =
-        meeting-good epoch (acked space s from key version.0 by (if_installed (replica_for s g)))
-        (acked-good from key version.0 by (if_installed (replica_for s g)) (installed-in g))
-    message-good from known (a_message.Ask epoch number g terms) names =
-        meeting-good epoch (asked s from epoch number terms (if_installed (replica_for s g))) (asked-good from known epoch number terms (if_installed (replica_for s g)))
-    message-good from known (a_message.Install config) names = install-good config names
-    message-good from known a_message.Die names = halt-good
-    message-good from known (a_message.Snap epoch g snapshot pending) names =
-        meeting-good epoch (snapped space s from snapshot pending (replica_for s g)) (snapped-good from snapshot pending epoch g names (replica_for s g))
-    message-good from known other names = stays s
-
-    input-good : (input : Input) → KnowsInput input → IsGoodStep (input_step space s input)
-    input-good Tick k = ticked-good
-    input-good Halt k = halt-good
-    input-good (Deliver id from m) k = message-good from k.0 m k.1
-
     pub server-good : (input : Input) → KnowsInput input → IsGoodStep (server_step space s input)
-    server-good input k = cond_both s.halted (unmoved s) (input_step space s input) IsGoodStep (λ t. stays s) (λ t. input-good input k)
+    server-good input k = server-cases space s input IsGoodStep (record {
+      rests = none-good Known;
+      met = meeting-good;
+      ticks = ticked-good;
+      halts = λ e. halt-good;
+      dies = λ id from e. halt-good;
+      call = λ id u epoch number op key r e z q l.
+          call-good Known (context_of space s r.region) knows.members (state_in space r key) (slot-known r (taking-in (key_region space key) r q) key)
+          (record { session = u; number = number }) (given id (Session u) _ e).0 op;
+      update = λ id from epoch g u r e z t.
+          update-good Known (context_of space s r.region) knows.members (state_in space r u.key) (slot-known r (installed-in g r z) u.key)
+          u ((given id from _ e).1 (Session u.caller.session) (inl refl));
+      ack = λ id from epoch g by key v r u e z q t.
+          ack-good Known (context_of space s r.region) knows.members (state_in space r key) (slot-known r (installed-in g r z) key) v.0;
+      ask = λ id from epoch number g terms r e z t. one-good Known _ (record { to = (given id from _ e).0; names = λ a i. absurd i });
+      ready = λ id from epoch g snapshot pending r e z t i. ready-good Known space s knows r.region;
+      installs = λ id from epoch g snapshot pending r e z t i. snapped-good snapshot pending epoch g (given id from _ e).1 r;
+      adopts = λ id from config e l. adopt-good config (given id from _ e).1;
+    })
+      where
+        given : (id : PostId) (from : Actor) (m : Message) → input ≡ Deliver id from m → Known from × KnowsMessage m
+        given id from m e = subst KnowsInput e k
