@@ -1,17 +1,14 @@
 -- Where no server is halted and no call asks for another configuration, none is issued: the coordinator stays as it started, and no server halts.
-use Rattle.hx_law_lemmas.proofs.Lemmas.Vocabulary.{[], ack_step, acked, acked_of, Actor, Add, and_parts, any_joining, any_ready, ap, arith, asked, at_slot}
-use Rattle.hx_law_lemmas.proofs.Lemmas.Vocabulary.{call_at, call_of, called, Caller, calls_of, cond_both, Config, config_of, context_of, Coordinator}
-use Rattle.hx_law_lemmas.proofs.Lemmas.Vocabulary.{coordinator_after, coordinator_at_start, coordinator_message, coordinator_of, coordinator_step}
-use Rattle.hx_law_lemmas.proofs.Lemmas.Vocabulary.{CoordinatorState, CoordinatorStep, Deliver, Entry, Epoch, false, false≢true, first_config, flat_map, Halt}
-use Rattle.hx_law_lemmas.proofs.Lemmas.Vocabulary.{hears_ack, hears_snap, hears_update, if_installed, if◌then◌else◌, inl, Input, input_step, inr}
-use Rattle.hx_law_lemmas.proofs.Lemmas.Vocabulary.{installed_slots, is_actor, is_administrative, is_lost, IsIn, IsRun, IsScript, join_posts, key_region}
-use Rattle.hx_law_lemmas.proofs.Lemmas.Vocabulary.{last_ready_pair, leads, length, List, lists_joining, ltb, made_of, map, MayTake, Member, members_of, Message}
-use Rattle.hx_law_lemmas.proofs.Lemmas.Vocabulary.{message_step, None, not, numbered, Op, Option, Output, pending_with, place_number, Post, post, posts_of}
-use Rattle.hx_law_lemmas.proofs.Lemmas.Vocabulary.{ready_post, refl, RegionId, Replica, replica_for, resting, same_server, saying, Script, Server, server_after}
-use Rattle.hx_law_lemmas.proofs.Lemmas.Vocabulary.{server_of, server_step, ServerId, ServerState, ServerStep, Session, session_of, SessionId, SessionState}
-use Rattle.hx_law_lemmas.proofs.Lemmas.Vocabulary.{snapped, Some, Space, state_in, Stop, subst, sym, telling, Tick, to_server, true, unmoved, Update}
-use Rattle.hx_law_lemmas.proofs.Lemmas.Vocabulary.{update_step, updated, when_some, with_slots, ℕ, ⊤, ◌&&◌, ◌∙◌, ◌∷◌, ◌≡◌, ◌≢◌}
+use Rattle.hx_law_lemmas.proofs.Lemmas.Vocabulary.{[], Actor, Add, and_parts, any_joining, any_ready, ap, arith, call_of, Caller, calls_of, cond_both, Config}
+use Rattle.hx_law_lemmas.proofs.Lemmas.Vocabulary.{config_of, Coordinator, coordinator_after, coordinator_at_start, coordinator_message, coordinator_of}
+use Rattle.hx_law_lemmas.proofs.Lemmas.Vocabulary.{coordinator_step, CoordinatorState, CoordinatorStep, Deliver, Entry, Epoch, false, false≢true, first_config}
+use Rattle.hx_law_lemmas.proofs.Lemmas.Vocabulary.{flat_map, Halt, inl, Input, inr, is_actor, is_administrative, is_lost, IsIn, IsRun, IsScript, join_posts}
+use Rattle.hx_law_lemmas.proofs.Lemmas.Vocabulary.{last_ready_pair, length, List, lists_joining, ltb, made_of, map, MayTake, Member, members_of, Message, not}
+use Rattle.hx_law_lemmas.proofs.Lemmas.Vocabulary.{numbered, Op, Output, Post, post, posts_of, refl, RegionId, resting, same_server, Script, Server}
+use Rattle.hx_law_lemmas.proofs.Lemmas.Vocabulary.{server_after, server_of, server_step, ServerId, ServerState, ServerStep, Session, session_of, SessionId}
+use Rattle.hx_law_lemmas.proofs.Lemmas.Vocabulary.{SessionState, Some, Space, Stop, subst, sym, telling, Tick, to_server, true, ℕ, ⊤, ◌&&◌, ◌∙◌, ◌∷◌, ◌≡◌, ◌≢◌}
 use Rattle.hx_types.specs.declared.messages.Message.TheVariants as a_message
+use Rattle.hx_model.proofs.Lemmas.{server-cases}
 use Rattle.hx_law_lemmas.proofs.Lemmas.{all-ready, any-in, in-append, in-flat_map, in-map, in-provided, arrived}
 use Rattle.hx_law_epochs.proofs.Lemmas.{epochs-run, server-does-well, Tells}
 use Rattle.hx_law_chains.proofs.Lemmas.{named}
@@ -50,62 +47,22 @@ module _ (space : Space) (s : ServerState) (up : s.halted ≡ false) where
   abbrev Up : ServerStep → Type 0
   Up step = step.state.halted ≡ false
 
-  up-called : (c : Caller) (op : Op) (o : Option (List ℕ)) → Up (called space s c op o)
-  up-called c op None = up
-  up-called c op (Some key) = by (replica_for s (key_region space key))
-    where
-      by : (o : Option Replica) → Up (when_some o (unmoved s) (λ (r : Replica). call_at space s r key c op))
-      by None = up
-      by (Some r) = cond_both (leads space s.config s.id r.region) _ (unmoved s) Up (λ t. up) (λ t. up)
-
-  up-message : (from : Actor) (m : Message) → Calm m → Up (message_step space s from m)
-  up-message Coordinator (a_message.Call epoch number op) c = up
-  up-message (Server i) (a_message.Call epoch number op) c = up
-  up-message (Session u) (a_message.Call epoch number op) c = up-called (record { session = u; number = number }) op _
-  up-message from (a_message.Update epoch g u) c = by (if_installed (replica_for s g))
-    where
-      by : (o : Option Replica) → Up (updated space s from u o)
-      by None = up
-      by (Some r) =
-          cond_both (hears_update s.config u (place_number r.region u.places) s.id from)
-          (at_slot s r (state_in space r u.key) (update_step (context_of space s r.region) (state_in space r u.key) u)) (unmoved s) Up (λ t. up) (λ t. up)
-  up-message from (a_message.Ack epoch g region key version) c = by (if_installed (replica_for s g))
-    where
-      pending : (r : Replica) (o : Option Update) → Up (acked_of space s from region r (state_in space r key) version.0 o)
-      pending r None = up
-      pending r (Some u) =
-          cond_both (hears_ack s.config u (place_number r.region u.places) s.id from region)
-          (at_slot s r (state_in space r key) (ack_step (context_of space s r.region) (state_in space r key) version.0)) (unmoved s) Up (λ t. up) (λ t. up)
-
-      by : (o : Option Replica) → Up (acked space s from key version.0 region o)
-      by None = up
-      by (Some r) = pending r (pending_with version.0 (state_in space r key))
-  up-message from (a_message.Ask epoch number g terms) c = by (if_installed (replica_for s g))
-    where
-      by : (o : Option Replica) → Up (asked s from epoch number terms o)
-      by None = up
-      by (Some r) = up
-  up-message from (a_message.Install config) c = cond_both (ltb s.config.epoch.0 config.epoch.0) _ (unmoved s) Up (λ t. up) (λ t. up)
-  up-message from (a_message.Snap epoch g snapshot pending) c = by (replica_for s g)
-    where
-      by : (o : Option Replica) → Up (snapped space s from snapshot pending o)
-      by None = up
-      by (Some r) =
-          let now = saying s (ready_post s r.region) in
-          let joined = with_slots s r (installed_slots (context_of space s r.region) snapshot pending) in
-          cond_both (not (hears_snap s.config r.region s.id from)) (unmoved s) (if r.installed then now else joined) Up (λ t. up)
-          (λ t. cond_both r.installed now joined Up (λ q. up) (λ q. up))
-  up-message from a_message.Die c = absurd c
-  up-message from other c = up
-
   -- a server that hasn't halted goes on
   pub up-step : (input : Input) → HaltsNone input → Up (server_step space s input)
-  up-step input h = cond_both s.halted (unmoved s) _ Up (λ t. absurd (false≢true (sym up ∙ t))) (λ t. by input h)
-    where
-      by : (input : Input) → HaltsNone input → Up (input_step space s input)
-      by Tick h = up
-      by Halt h = absurd h
-      by (Deliver id from m) h = up-message from m h
+  up-step input h = server-cases space s input Up (record {
+    rests = up;
+    met = λ epoch step e. e;
+    ticks = up;
+    halts = λ e. absurd (subst HaltsNone e h);
+    dies = λ id from e. absurd (subst HaltsNone e h);
+    call = λ id u epoch number op key r e z q l. up;
+    update = λ id from epoch g u r e z t. up;
+    ack = λ id from epoch g by key v r u e z q t. up;
+    ask = λ id from epoch number g terms r e z t. up;
+    ready = λ id from epoch g snapshot pending r e z t i. up;
+    installs = λ id from epoch g snapshot pending r e z t i. up;
+    adopts = λ id from config e l. up;
+  })
 
 -- what a server tells that hasn't halted is calm
 calm-told : (s : ServerId) (st : ServerState) → st.halted ≡ false → (to : Actor) (m : Message) → Tells s st to m → Calm m
