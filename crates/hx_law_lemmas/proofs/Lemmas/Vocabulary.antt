@@ -55,7 +55,6 @@ pub use Rattle.hx_model.specs.CoordinatorSteps.{CoordinatorStep, die_for, gone_s
 pub use Rattle.hx_model.specs.CoordinatorSteps.{members_without, Newest, newest_answered, newest_of, next_config, outcome, poll_step, ready_if, ready_step}
 pub use Rattle.hx_model.specs.CoordinatorSteps.{resting, session_posts, stop_step, stops, stops_answered, stops_left, stops_server, Task, telling, to_server}
 pub use Rattle.hx_model.specs.CoordinatorSteps.{with_answer, with_newest, with_number, with_task}
-pub use Rattle.hx_model.specs.Hearing.{hears_ack, hears_snap, hears_update}
 pub use Rattle.hx_model.specs.Histories.{begin_of, begins_in, CallEnd, callers_of, end_of, ends_in, get_item, get_items, gets_of, history_of, history_on}
 pub use Rattle.hx_model.specs.Histories.{in_place, is_get_of, is_session, line_note, line_notes, line_of, not_refused, note_of_end, record_at, record_of}
 pub use Rattle.hx_model.specs.Histories.{records_of, write_item}
@@ -76,14 +75,13 @@ pub use Rattle.hx_model.specs.Schedule.{delivery_of, entries_of, entry_by, first
 pub use Rattle.hx_model.specs.Schedule.{same_name, scheduled, stepped, undelivered, with_entry}
 pub use Rattle.hx_model.specs.Searching.{changes_object, FinishedSearch, IsChangeShown, IsSearchTrue, IsSearchWhole, IsShown, IsTrueRow, items_with_newer}
 pub use Rattle.hx_model.specs.Searching.{ItemWithNewer, last_change, no_change_before, rows_in, search_of, terms_of, with_rows}
-pub use Rattle.hx_model.specs.ServerSteps.{accepting, ack_step, ack_to, acked, acked_of, adopted, adopted_posts, adopted_replica, adopted_state, asked}
-pub use Rattle.hx_model.specs.ServerSteps.{asking_last, at_slot, by_moves, by_posts, call_at, call_step, called, called_by, context_of, decided, doubt_in}
-pub use Rattle.hx_model.specs.ServerSteps.{doubts_from, get_answer, get_step, halting, if_installed, input_step, install_at, installed_slots, is_active}
-pub use Rattle.hx_model.specs.ServerSteps.{join_keys, join_slot, keys_of, known_to, leader_doubts, listed_regions, meeting, message_step, move_posts, next_at}
-pub use Rattle.hx_model.specs.ServerSteps.{offered_all, passed_on, pending_posts, pending_with, poll_post, prev_at, ready_post, Replica, replica_for}
+pub use Rattle.hx_model.specs.ServerSteps.{accepting, ack_step, ack_to, adopted, adopted_posts, adopted_replica, adopted_state, asking_last, at_slot, by_moves}
+pub use Rattle.hx_model.specs.ServerSteps.{by_posts, call_step, context_of, decided, doubt_in, doubts_from, get_answer, get_step, halting, if_installed}
+pub use Rattle.hx_model.specs.ServerSteps.{installed_slots, is_active, join_keys, join_slot, keys_of, known_to, leader_doubts, listed_regions, meeting}
+pub use Rattle.hx_model.specs.ServerSteps.{move_posts, next_at, offered_all, passed_on, pending_posts, poll_post, prev_at, ready_post, Replica, replica_for}
 pub use Rattle.hx_model.specs.ServerSteps.{replica_of, replica_or_new, replica_tick, reply, resumed, resumed_posts, saying, server_at_start, server_step}
-pub use Rattle.hx_model.specs.ServerSteps.{ServerState, ServerStep, SlotContext, Slots, SlotStep, snap_posts, snap_to, snapped, state_from, state_in, tail_acks}
-pub use Rattle.hx_model.specs.ServerSteps.{tick_step, told_to, unmoved, update_step, update_to, updated, waiting_doubt, with_commits, with_config, with_key}
+pub use Rattle.hx_model.specs.ServerSteps.{ServerState, ServerStep, SlotContext, Slots, SlotStep, snap_posts, snap_to, state_from, state_in, tail_acks}
+pub use Rattle.hx_model.specs.ServerSteps.{tick_step, told_to, unmoved, update_step, update_to, waiting_doubt, with_commits, with_config, with_key}
 pub use Rattle.hx_model.specs.ServerSteps.{with_replica, with_slot, with_slots, write_step}
 pub use Rattle.hx_model.specs.SessionSteps.{all_parts, ask_regions, ask_to, awaits, begin, call_to, call_under_way, end_with_parts, ending, found_step}
 pub use Rattle.hx_model.specs.SessionSteps.{is_administrative, is_key_call, is_search, lacks_part, lost_answer, merged_parts, Part, rows_joined, send, send_to}
