@@ -55,7 +55,7 @@ fn file_input(deliveries: &mut Vec<Input>, input: Input) -> InputHead
 /// Puts an entry at the end, whose posts and notes move out of the lists in which they lie. There
 /// is room, so it takes no memory.
 #[inline(always)]
-pub fn file(
+pub fn append_parts(
     lists: &mut PartLists,
     stamp: Stamp,
     actor: Actor,

@@ -2,7 +2,7 @@ ghost use Rattle.std.specs.Prelude.{◌≡◌, ◌++◌, [], ◌∷◌, ◌↔�
 ghost use Rattle.hx_clock.specs.Parts.{stamped};
 ghost use Rattle.hx_clock.specs.Rooms.{IsRoomFor};
 
-use crate::filing::{file, has_room, reserve};
+use crate::filing::{append_parts, has_room, reserve};
 use crate::part_lists::{PartLists, count, empty};
 use crate::parts::Part;
 use crate::rooms::Room;
@@ -101,7 +101,7 @@ impl GrowingPart {
         ensures notes { notes.new ≡ [] }
     {
         self.room = None;
-        file(&mut self.lists, stamp, actor, input, posts, notes);
+        append_parts(&mut self.lists, stamp, actor, input, posts, notes);
     }
 
     /// The entries as a part that grows no more.

@@ -7,7 +7,7 @@ ghost use Rattle.std.specs.Cmp.{partial_order_from_own_ties};
 ghost use Rattle.std.specs.Cmp.Rules.{comparing};
 ghost use Rattle.std.specs.Ordering.{as_partial_cmp, nat_cmp, on};
 
-use crate::filing::{file, reserve};
+use crate::filing::{append_parts, reserve};
 use crate::lent::EntryRef;
 use crate::part_lists::{PartLists, count, empty, entry_at, notes_at, posts_at, stamp_at};
 use hx_types::{Entry, Exact, Memory, Post, Sequence, Stamp};
@@ -78,7 +78,7 @@ impl Part {
         let actor = entry.actor;
         let (mut posts, mut notes) = entry.into_outputs_and_notes();
         reserve(&mut self.lists, posts.len(), notes.len())?;
-        file(&mut self.lists, stamp, actor, input, &mut posts, &mut notes);
+        append_parts(&mut self.lists, stamp, actor, input, &mut posts, &mut notes);
         Ok(())
     }
 

@@ -1,6 +1,6 @@
 use Rattle.std.proofs.Common.{◌≡◌, ◌∙◌, length}
 use Rattle.hx_clock.proofs.Filed.{filed}
-use Rattle.hx_clock.proofs.filing.file.Goals as goal
+use Rattle.hx_clock.proofs.filing.append_parts.Goals as goal
 
 pub returns-clause-whole : goal.returns-clause-whole
 returns-clause-whole c =
