@@ -65,6 +65,7 @@ mod draft;
 mod drafts;
 mod edits;
 mod errors;
+mod heading;
 mod keyword;
 mod laws;
 mod line;
