@@ -141,7 +141,7 @@ impl PartialEq for Stamped {
     ghost laws = { Prim.search (comparing, rules) };
 
     fn eq(&self, other: &Stamped) -> bool {
-        self.stamp.0 == other.stamp.0
+        self.stamp == other.stamp
     }
 }
 

@@ -12,23 +12,21 @@ pub fn place_of(pending: &[AcceptedUpdate], version: Version) -> Option<usize>
 {
     pending
         .iter()
-        .position(|taken| taken.update.version.0 == version.0)
+        .position(|taken| taken.update.version == version)
 }
 
 /// Whether one of the updates has the version.
 pub fn has_update(pending: &[AcceptedUpdate], version: Version) -> bool
     ensures { result ≡ list_any (is_of_version version.0) pending.now }
 {
-    pending
-        .iter()
-        .any(|taken| taken.update.version.0 == version.0)
+    pending.iter().any(|taken| taken.update.version == version)
 }
 
 /// Whether the update of the version is there and acknowledged.
 pub fn is_acknowledged(pending: &[AcceptedUpdate], version: Version) -> bool
     ensures { result ≡ list_any (is_acknowledged_as version.0) pending.now }
 {
-    pending.iter().any(|taken| taken.acknowledged && taken.update.version.0 == version.0)
+    pending.iter().any(|taken| taken.acknowledged && taken.update.version == version)
 }
 
 /// Whether an update of a lower version isn't acknowledged.
@@ -57,7 +55,7 @@ pub fn acknowledged_with(pending: &[AcceptedUpdate], version: Version) -> usize
     ensures within { result ≤ length pending.now }
 {
     for (count, taken) in pending.iter().enumerate() {
-        if !taken.acknowledged && taken.update.version.0 != version.0 {
+        if !taken.acknowledged && taken.update.version != version {
             return count;
         }
     }

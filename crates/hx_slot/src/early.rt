@@ -9,7 +9,7 @@ use hx_types::{Shared, Update, Version};
 pub fn early_after(early: &[PlacedUpdate], top: Version) -> Option<usize>
     ensures { result ≡ position (λ (p : PlacedUpdate). p.after.0 == top.0) early.now }
 {
-    early.iter().position(|placed| placed.after.0 == top.0)
+    early.iter().position(|placed| placed.after == top)
 }
 
 /// Takes the updates of a version out.
@@ -22,7 +22,7 @@ pub fn drop_version(early: &mut Vec<PlacedUpdate>, version: Version)
     if early.is_empty() {
         return;
     }
-    early.retain(|placed| placed.update.version.0 != version.0);
+    early.retain(|placed| placed.update.version != version);
 }
 
 /// The update at a place of the list, from 0.

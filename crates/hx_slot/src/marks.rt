@@ -30,7 +30,7 @@ fn newer_call<'a>(
 ) -> Option<&'a Update>
     ensures { option_map mark_by (option_copied result) ≡ newest_with session (mark_by update.now) (option_map mark_by (option_copied newest.entry)) }
 {
-    if update.caller.session.0 != session.0 {
+    if update.caller.session != session {
         return newest;
     }
     match newest {
@@ -44,7 +44,7 @@ pub fn mark_of(marks: &[Mark], session: SessionId) -> Option<&Mark>
     ensures { option_copied result ≡ mark_among session marks.now }
 {
     for mark in marks {
-        if mark.session.0 == session.0 {
+        if mark.session == session {
             return Some(mark);
         }
     }

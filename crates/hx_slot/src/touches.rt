@@ -44,7 +44,7 @@ pub fn last_touch(line: &[AcceptedUpdate], touches: &[Touch], region: RegionId) 
 fn has_place(places: &[Place], region: RegionId) -> bool
     ensures { result ≡ list_any (λ (p : Place). p.region.0 == region.0) places.now }
 {
-    places.iter().any(|place| place.region.0 == region.0)
+    places.iter().any(|place| place.region == region)
 }
 
 /// Notes the version as the last one at each of the places. There is room for a touch a place.
