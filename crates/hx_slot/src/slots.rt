@@ -89,9 +89,9 @@ impl Model for Slot {
 impl Slot {
     /// A slot of the key with floor 0, no object and no room. At a key region it keeps marks and
     /// touches.
-    pub fn new(alloc: Global, region: RegionId, key: Text, marks: bool) -> Slot
+    pub fn new(alloc: Global, region: RegionId, key: Text, keeps_marks: bool) -> Slot
         ensures region { result.region ≡ region }
-        ensures state { result.state ≡ new_state marks key }
+        ensures state { result.state ≡ new_state keeps_marks key }
         ensures held { result.held ≡ 0 }
     {
         let base = Kept {
@@ -101,35 +101,35 @@ impl Slot {
             marks: Marks::new(alloc),
             touches: Touches::new(alloc),
         };
-        Slot::over(alloc, region, base, marks)
+        Slot::over(alloc, region, base, keeps_marks)
     }
 
     /// A slot of a committed state, with nothing pending and no room. Where it keeps no marks,
     /// those of the state are left out with its touches.
-    pub fn of_kept(alloc: Global, region: RegionId, kept: Kept, marks: bool) -> Slot
+    pub fn of_kept(alloc: Global, region: RegionId, kept: Kept, keeps_marks: bool) -> Slot
         requires { IsOrderly kept }
         ensures region { result.region ≡ region }
-        ensures state { result.state ≡ state_from marks kept }
+        ensures state { result.state ≡ state_from keeps_marks kept }
         ensures held { result.held ≡ 0 }
     {
-        if marks {
-            return Slot::over(alloc, region, kept, marks);
+        if keeps_marks {
+            return Slot::over(alloc, region, kept, keeps_marks);
         }
-        Slot::over(alloc, region, without_marks(alloc, kept), marks)
+        Slot::over(alloc, region, without_marks(alloc, kept), keeps_marks)
     }
 
-    fn over(alloc: Global, region: RegionId, base: Kept, marks: bool) -> Slot
+    fn over(alloc: Global, region: RegionId, base: Kept, keeps_marks: bool) -> Slot
         requires orderly { IsOrderly base }
-        requires bare { IsBare region (state_of_kept marks base) }
+        requires bare { IsBare region (state_of_kept keeps_marks base) }
         ensures region { result.region ≡ region }
-        ensures state { result.state ≡ state_of_kept marks base }
+        ensures state { result.state ≡ state_of_kept keeps_marks base }
         ensures held { result.held ≡ 0 }
     {
         let floor = base.floor;
         Slot {
             region,
             spare: 0,
-            keeps_marks: marks,
+            keeps_marks,
             key: base.key,
             base: Base {
                 floor,

@@ -8,7 +8,7 @@ use Rattle.hx_slot.proofs.slots.Slot.over.Goals as goal
 pub returns-clause-state : goal.returns-clause-state
 returns-clause-state c =
     (λ j. folded c.args.region (record {
-      marks = c.args.marks;
+      marks = c.args.keeps_marks;
       base = record { key = c.args.base.key; floor = c.args.base.floor; object = c.args.base.object; marks = c.into_vec.ensures j; touches = c.into_vec-2.ensures j };
       accepted = newest_first [] (c.new.ensures.items j);
       floor = c.args.base.floor.0;
