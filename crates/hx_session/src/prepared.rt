@@ -118,7 +118,7 @@ pub fn change_nothing(progress: Progress) -> Change
 }
 
 /// The call under way ends, and the parts are forgotten.
-pub fn ended(
+pub fn end_call(
     alloc: Global,
     progress: Progress,
     version: Version,
@@ -169,8 +169,8 @@ fn adopt(config: &mut Shared<Config>, adopted: Option<Shared<Config>>)
     }
 }
 
-/// A part is kept.
-pub fn kept(progress: Progress, place: usize, part: SearchPart) -> Change
+/// A part takes the place of another.
+pub fn change_part(progress: Progress, place: usize, part: SearchPart) -> Change
     ensures { result ≡ kept_as progress place part }
 {
     Change {

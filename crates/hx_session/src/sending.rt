@@ -7,7 +7,7 @@ ghost use Rattle.hx_session.specs.Changes.{Makes, asked_as, asks_posted, sender_
 ghost use Rattle.hx_session.specs.Lists.{Grows};
 
 use crate::parts::{Parts, PartsChange, SearchPart};
-use crate::prepared::{Change, Progress, change_nothing, ended};
+use crate::prepared::{Change, Progress, change_nothing, end_call};
 use hx_region::{RegionMap, plan};
 use hx_types::{
     Actor, Answer, Config, Exact, Memory, Message, Notes, Op, Planned, Post, Posts, RegionId,
@@ -93,7 +93,7 @@ fn send_to(
 {
     if sender.config.is_lost(region) {
         let answer = lost_answer(sender, op, region);
-        return ended(alloc, sender.progress, Version(0), answer, notes);
+        return end_call(alloc, sender.progress, Version(0), answer, notes);
     }
     call_to(alloc, sender, op, region, posts)?;
     Ok(Change {
@@ -183,7 +183,7 @@ fn search(
         Planned::Lost(region) => {
             let epoch = sender.config.epoch;
             let answer = Answer::Refused { region, epoch };
-            ended(alloc, sender.progress, Version(0), answer, notes)
+            end_call(alloc, sender.progress, Version(0), answer, notes)
         }
     }
 }

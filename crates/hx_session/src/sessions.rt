@@ -18,7 +18,9 @@ ghost use Rattle.hx_session.specs.Kinds.{kind_test};
 use crate::kinds::{CallKind, is_of};
 use crate::merging::merged;
 use crate::parts::{Parts, SearchPart, all_found, lacking};
-use crate::prepared::{Change, Plan, Progress, change_nothing, cut_back, ended, kept, poll};
+use crate::prepared::{
+    Change, Plan, Progress, change_nothing, change_part, cut_back, end_call, poll,
+};
 use crate::sending::{Sender, send};
 use hx_region::RegionMap;
 use hx_types::{
@@ -449,14 +451,14 @@ impl Session {
         if all_found(parts, region) {
             let rows = merged(alloc, parts, region, rows)?;
             let answer = Answer::Rows(rows);
-            return ended(alloc, self.progress, Version(0), answer, notes);
+            return end_call(alloc, self.progress, Version(0), answer, notes);
         }
         let rows = rows.copy(alloc)?;
         let part = SearchPart {
             region,
             rows: Some(rows),
         };
-        Ok(kept(self.progress, place, part))
+        Ok(change_part(self.progress, place, part))
     }
 
     /// A configuration of a higher epoch is adopted, and a call on a key or a search sent anew.
@@ -525,7 +527,7 @@ impl Session {
             return Ok(change_nothing(self.progress));
         }
         let answer = answer.copy(alloc)?;
-        ended(alloc, self.progress, version, answer, notes)
+        end_call(alloc, self.progress, version, answer, notes)
     }
 
     /// Whether the call under way has this number and is of this kind.

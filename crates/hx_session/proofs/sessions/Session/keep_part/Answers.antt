@@ -10,29 +10,29 @@ use Rattle.hx_session.proofs.sessions.Session.keep_part.Goals as goal
 
 pub returns-then-all_found-clause-change : goal.returns-then-all_found-clause-change
 returns-then-all_found-clause-change c =
-    IfOk-weaker c.ended.result _ _
+    IfOk-weaker c.end_call.result _ _
     (
     λ change e. last_makes c.self.inside c.args.self.now c.args.region c.args.rows.now c.self.view_is
     (ap (λ (ps : List SearchPart). list_all (is_found c.args.region) ps) (sym c.as_slice-parts.ensures) ∙ sym c.all_found.ensures ∙ c.if-all_found.true) change e
     )
-    c.ended.ensures.change
+    c.end_call.ensures.change
 
 pub returns-then-all_found-clause-notes : goal.returns-then-all_found-clause-notes
 returns-then-all_found-clause-notes c =
-    on_ok_weaker c.ended.result
+    on_ok_weaker c.end_call.result
     (
     λ e. last_notes c.self.inside c.args.self.now c.args.region c.args.rows.now c.self.view_is
     (ap (λ (ps : List SearchPart). list_all (is_found c.args.region) ps) (sym c.as_slice-parts.ensures) ∙ sym c.all_found.ensures ∙ c.if-all_found.true)
-    c.in_ok-rows.rows c.args.notes.now c.ended.new.notes
+    c.in_ok-rows.rows c.args.notes.now c.end_call.new.notes
     (c.in_ok-rows.ensures ∙ ap (λ (ps : List SearchPart). merged_parts (map (with_part c.args.region c.args.rows.now) (map part_seen ps))) c.as_slice-parts.ensures) e
     )
-    c.ended.ensures.notes
+    c.end_call.ensures.notes
 
 pub returns-clause-change : goal.returns-clause-change
 returns-clause-change c =
     kept_makes c.self.inside c.args.self.now c.args.region c.args.rows.now c.self.view_is
     (ap (λ (ps : List SearchPart). list_all (is_found c.args.region) ps) (sym c.as_slice-parts.ensures) ∙ sym c.all_found.ensures ∙ c.if-all_found.false)
-    c.in_ok-rows-2.rows c.args.place c.kept.result c.in_ok-rows-2.ensures c.self.invariant.in_order.ascend c.requires c.kept.ensures
+    c.in_ok-rows-2.rows c.args.place c.change_part.result c.in_ok-rows-2.ensures c.self.invariant.in_order.ascend c.requires c.change_part.ensures
 
 pub returns-clause-notes : goal.returns-clause-notes
 returns-clause-notes c =
