@@ -124,7 +124,7 @@ fn count_rows(parts: &[SearchPart], region: RegionId, found: &Rows) -> usize {
 fn rows_of<'a>(part: &'a SearchPart, region: RegionId, found: &'a Rows) -> &'a [Shared<Row>]
     ensures { result.now ≡ rows_in (with_part region found.now (part_seen part.now)) }
 {
-    if part.region.0 == region.0 {
+    if part.region == region {
         return found.as_slice();
     }
     match &part.rows {
