@@ -71,19 +71,19 @@ impl Coordinator {
         ensures small { IfOk result (λ plan. (most : ℕ) → CoordinatorUpTo most self.old → PostsUpTo (most + 1) plan.entry.outputs) }
         ensures state { self.new ≡ self.old }
     {
-        let Ok(made) = self.made(alloc, &input) else {
+        let Ok(output) = self.output_on(alloc, &input) else {
             return Err(Memory);
         };
         let entry = Entry {
             actor: Actor::Coordinator,
             input,
-            outputs: made.posts,
-            notes: made.notes,
+            outputs: output.posts,
+            notes: output.notes,
         };
         Ok(Plan {
             entry,
-            config: made.config,
-            agenda: made.agenda,
+            config: output.config,
+            agenda: output.agenda,
         })
     }
 
@@ -112,8 +112,8 @@ impl Coordinator {
         &self.config
     }
 
-    /// What the step of an input makes.
-    fn made(&self, alloc: Global, input: &Input) -> Result<StepOutput, Memory>
+    /// What the step on an input makes.
+    fn output_on(&self, alloc: Global, input: &Input) -> Result<StepOutput, Memory>
         requires { CanTake self.now input.now }
         ensures { IfOk result (IsOutputOf self.now.config (coordinator_step self.now input.now)) }
     {
