@@ -153,7 +153,7 @@ impl Session {
     {
         let mut posts = Posts::new(alloc);
         let mut notes = Notes::new(alloc);
-        let Ok(change) = self.made(alloc, &input, &mut posts, &mut notes) else {
+        let Ok(change) = self.change_on(alloc, &input, &mut posts, &mut notes) else {
             return Err(Memory);
         };
         let entry = Entry {
@@ -263,8 +263,8 @@ impl Session {
         !self.progress.under_way && (self.progress.begun as usize) >= self.calls.len()
     }
 
-    /// What the step of an input makes.
-    fn made(
+    /// Posts and notes what the step on an input makes, and gives what it changes.
+    fn change_on(
         &self,
         alloc: Global,
         input: &Input,

@@ -2,7 +2,7 @@ use Rattle.std.proofs.Common.{sym, subst}
 use Rattle.std.proofs.lemmas.Result.{IfOk-weaker}
 use Rattle.hx_model.specs.Types.{Input}
 use Rattle.hx_session.specs.Changes.{IsChangeOn}
-use Rattle.hx_session.proofs.sessions.Session.made.Goals as goal
+use Rattle.hx_session.proofs.sessions.Session.change_on.Goals as goal
 
 pub returns-in-Deliver-clause-change : goal.returns-in-Deliver-clause-change
 returns-in-Deliver-clause-change c =
