@@ -5,14 +5,16 @@ use std::thread;
 
 /// In how many rounds one after another a driver finds nothing before it tells that it isn't at
 /// work. So a driver that waits for the answer of another doesn't write what all share at each
-/// step.
+/// step. The number is this project's choice.
 const ROUNDS_BEFORE_LULL: u32 = 16;
 
-/// In how many rounds one after another no driver is at work before a slice ends.
+/// In how many rounds one after another no driver is at work before a slice ends. So a driver that
+/// has just found something has time to tell that it is at work again; where it hasn't told, the
+/// slice only ends early. The number is this project's choice.
 const PATIENCE: u32 = 16;
 
 /// In how many rounds one after another a driver finds nothing before its slice ends whatever the
-/// others do: one of them may not run at all.
+/// others do: one of them may not run at all. The number is this project's choice.
 const LONGEST_LULL: u32 = 65_536;
 
 /// How many drivers of a slice are at work, as they tell it themselves.

@@ -11,7 +11,9 @@ use hx_fate::Fate;
 use hx_outbox::Floor;
 use std::sync::Wait;
 
-/// How many turns an actor has one after another in a round, at most.
+/// How many turns an actor has one after another in a round, at most. So it takes what lies in its
+/// box while its part is at hand, and none keeps the others of its driver waiting. The number is
+/// this project's choice: boxes seldom hold more.
 const MOST_TURNS_TOGETHER: u32 = 8;
 
 /// How much an actor did by now: another number before a turn than after it tells that the turn did
