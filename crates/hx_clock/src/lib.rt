@@ -6,9 +6,9 @@
 //! own. The form is this project's choice: a ticket counter for a history, and vector clocks in the
 //! proof alone.
 //!
-//! What an actor has made lies in a [`GrowingPart`]: a short head for each entry, and the posts, the
-//! notes and the delivered messages of all entries in a list for each kind, so that an entry takes
-//! no memory of its own.
+//! What an actor has made lies in a [`GrowingPart`]: a short head for each entry, and the posts,
+//! the notes and the delivered messages of all entries in a list for each kind, so that an entry
+//! takes no memory of its own.
 //!
 //! No contract says that there is memory for a clock. A test makes one and draws stamps by it.
 #![tactic(auto)]

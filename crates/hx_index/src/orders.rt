@@ -11,7 +11,8 @@ use hx_types::{Memory, Row, Shared, insert_within};
 use std::alloc::Global;
 
 /// How many numbers stand before one, at which this row is, in the order of an attribute. It is a
-/// loop of its own: in `partition_point` the test stays a call, which costs an index a quarter more.
+/// loop of its own: in `partition_point` the test stays a call, which costs an index a quarter
+/// more.
 fn place_of(
     order: &[u32],
     rows: &[Option<Shared<Row>>],
