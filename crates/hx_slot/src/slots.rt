@@ -118,6 +118,7 @@ impl Slot {
         Slot::over(alloc, region, without_marks(alloc, kept), keeps_marks)
     }
 
+    /// A slot over this base as it is, with nothing pending and no room.
     fn over(alloc: Global, region: RegionId, base: Kept, keeps_marks: bool) -> Slot
         requires orderly { IsOrderly base }
         requires bare { IsBare region (state_of_kept keeps_marks base) }
