@@ -3,6 +3,7 @@ use Rattle.std.specs.Prelude.{◌≡◌, ◌≤◌, map, length}
 use Rattle.std.specs.List.{All}
 use Rattle.hx_model.specs.Types.{Space}
 use Rattle.hx_types.specs.Spaces.{Fits, IsAscending, IsConfigOf}
+use Rattle.hx_types.specs.declared.limits.TheConstants.{MOST_CALLS}
 use Rattle.hx_model.specs.SessionSteps.{Part as PartSeen, SessionState}
 use Rattle.hx_session.specs.declared.sessions.Session.TheInside.{Inside}
 use Rattle.hx_session.specs.Changes.{part_seen}
@@ -25,7 +26,7 @@ value_of s = record {
 -- no more calls began than there are, and the parts are of ascending regions
 pub record IsInOrder (s : SessionState) : Type 0 where
   pub within : s.begun ≤ length s.calls
-  pub few : length s.calls ≤ 16384
+  pub few : length s.calls ≤ MOST_CALLS
   pub ascend : IsAscending (map (λ (p : PartSeen). p.region.0) s.parts)
 
 -- the configuration and the calls are of the space

@@ -101,7 +101,7 @@ impl Session {
     ) -> Result<Session, Memory>
         requires space { IsSpace space.now }
         requires calls { All (Fits space.now) calls }
-        requires few_calls { length calls ≤ 16384 }
+        requires few_calls { length calls ≤ MOST_CALLS }
         ensures space { IfOk result (λ session. session.space ≡ space.now) }
         ensures state { IfOk result (λ session. session.state ≡ session_at_start space.now id calls) }
     {
