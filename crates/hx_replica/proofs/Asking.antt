@@ -1,5 +1,5 @@
 -- What a server asks of a slot when it takes a message.
-use Rattle.std.proofs.Common.{◌≡◌, ℕ, suc, ◌+◌, ◌<◌, ◌≤◌, ◌^◌, Bool, true, false, not, ◌&&◌, ◌||◌, cond, List, [], ◌∷◌, length, Option, Some, refl, ap, sym, ◌∙◌, subst, arith, inl, inr}
+use Rattle.std.proofs.Common.{◌≡◌, ℕ, suc, ◌+◌, ◌<◌, ◌≤◌, Bool, true, false, not, ◌&&◌, ◌||◌, cond, List, [], ◌∷◌, length, Option, Some, refl, ap, sym, ◌∙◌, subst, arith, inl, inr}
 use Rattle.std.specs.List.{All, AllByRecursion, slice_get}
 use Rattle.std.proofs.lemmas.Bool.{and_parts, cond_both, false≢true}
 use Rattle.std.proofs.lemmas.Option.{same_Some}
@@ -9,6 +9,7 @@ use Rattle.hx_types.specs.Configs.{is_lost}
 use Rattle.hx_types.specs.Posts.{IsSoundMessage, has_place_in}
 use Rattle.hx_types.specs.Subspaces.{is_key_region}
 use Rattle.hx_types.specs.Words.{IsIn, same_region, same_text}
+use Rattle.hx_types.specs.declared.limits.TheConstants.{GREATEST_NUMBER, MOST_PLACES}
 use Rattle.hx_model.proofs.Lemmas.{eq_of_same_text}
 use Rattle.hx_model.specs.Neighbours.{place_number}
 use Rattle.hx_model.specs.Regions.{key_region}
@@ -37,10 +38,10 @@ state_marks marks key (s ∷ rest) h =
     (λ e. h.0)
     (λ e. state_marks marks key rest h.1)
 
-state_small : (marks : Bool) (key : List ℕ) (states : List KeyState) → ((t : KeyState) → IsIn t states → top_of t ≤ 2 ^ 62) → top_of (state_among marks key states) ≤ 2 ^ 62
+state_small : (marks : Bool) (key : List ℕ) (states : List KeyState) → ((t : KeyState) → IsIn t states → top_of t ≤ GREATEST_NUMBER) → top_of (state_among marks key states) ≤ GREATEST_NUMBER
 state_small marks key [] h = omega arith
 state_small marks key (s ∷ rest) h =
-    cond_both (same_text s.base.key key) s (state_among marks key rest) (λ (t : KeyState). top_of t ≤ 2 ^ 62)
+    cond_both (same_text s.base.key key) s (state_among marks key rest) (λ (t : KeyState). top_of t ≤ GREATEST_NUMBER)
     (λ e. h s (inl refl))
     (λ e. state_small marks key rest (λ t i. h t (inr i)))
 
@@ -82,7 +83,7 @@ slot_leads v key place r marked small e at =
 -- an update that a server can take, at the replica of its region
 pub record IsUpdateTo (g : RegionId) (u : Update) : Type 0 where
   pub placed : IsPlacedIn g u
-  pub few : length u.places ≤ 17
+  pub few : length u.places ≤ MOST_PLACES
   pub after : All (λ (p : Place). p.after.0 < u.version.0) u.places
 
 pub update_taken : (v : ServerValue) (from : Actor) (m : Message) (epoch : Epoch) (g : RegionId) (u : Update) → CanHear v.space v.state from m → m ≡ a_message.Update epoch g u → IsUpdateTo g u

@@ -4,6 +4,7 @@ use Rattle.std.specs.Borrow.{Bor}
 use Rattle.std.specs.List.{All, AllByRecursion, filter}
 use Rattle.hx_model.specs.Types.{Kept, Place, RegionId, Update}
 use Rattle.hx_types.specs.Words.{same_text, text_below}
+use Rattle.hx_types.specs.declared.limits.TheConstants.{MOST_PLACES}
 use Rattle.hx_model.specs.ServerSteps.{Slots, SlotContext as ModelContext, accepting, join_keys, offered_all}
 use Rattle.hx_model.specs.Slots.{KeyState, Move, offered}
 use Rattle.hx_law_folds.specs.Folding.{KeptsAscend, folded}
@@ -12,7 +13,7 @@ use Rattle.hx_slot.specs.States.{IsOrderly, IsPlacedIn}
 -- an update that a slot of the region can be offered
 pub record CanCome (g : RegionId) (u : Update) : Type 0 where
   pub placed : IsPlacedIn g u
-  pub few : length u.places ≤ 17
+  pub few : length u.places ≤ MOST_PLACES
   pub after : All (λ (p : Place). p.after.0 < u.version.0) u.places
 
 -- a snapshot of the region that can be installed, and pending updates that can come after it

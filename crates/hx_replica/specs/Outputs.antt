@@ -1,10 +1,11 @@
 -- What a step makes of one slot: its posts, and the change by which the slot makes the step's moves.
-use Rattle.std.specs.Prelude.{◌≡◌, ℕ, ◌<◌, ◌≤◌, ◌==◌, ◌||◌, Bool, true, false, ⊤, Option, None, Some, ◌^◌, IsSomeAnd, List, [], ◌∷◌, length, slice_get, take}
+use Rattle.std.specs.Prelude.{◌≡◌, ℕ, ◌<◌, ◌≤◌, ◌==◌, ◌||◌, Bool, true, false, ⊤, Option, None, Some, IsSomeAnd, List, [], ◌∷◌, length, slice_get, take}
 use Rattle.std.specs.Borrow.{Bor}
 use Rattle.std.specs.List.{All, flat_map, list_any, prefix_len}
 use Rattle.hx_model.specs.Types.{Actor, Place, Post, RegionId, Space, Update, Version}
 use Rattle.hx_model.specs.Regions.{key_region}
 use Rattle.hx_types.specs.Words.{provided}
+use Rattle.hx_types.specs.declared.limits.TheConstants.{GREATEST_NUMBER, MOST_PLACES}
 use Rattle.hx_model.specs.Hearing.{hears_ack}
 use Rattle.hx_model.specs.ServerSteps.{SlotStep, SlotContext as ModelContext, accepting, by_moves, tail_acks, move_posts, next_at, prev_at, told_to}
 use Rattle.hx_model.specs.Neighbours.{is_end, place_number}
@@ -84,18 +85,18 @@ settled_among acked tail_versions us = take (prefix_len (λ (b : Bor Update). se
 -- an update with a place in the region
 pub record IsHere (g : RegionId) (b : Bor Update) : Type 0 where
   pub placed : IsPlacedIn g b.now
-  pub few : length b.now.places ≤ 17
+  pub few : length b.now.places ≤ MOST_PLACES
 
 -- and above a version
 pub record IsNew (g : RegionId) (floor : ℕ) (b : Bor Update) : Type 0 where
   pub placed : IsPlacedIn g b.now
-  pub few : length b.now.places ≤ 17
+  pub few : length b.now.places ≤ MOST_PLACES
   pub above : floor < b.now.version.0
 
 -- an update that can be accepted after these
 pub record IsComing (g : RegionId) (s : KeyState) (u : Update) : Type 0 where
   pub placed : IsPlacedIn g u
-  pub few : length u.places ≤ 17
+  pub few : length u.places ≤ MOST_PLACES
   pub after : All (λ (p : Place). p.after.0 < u.version.0) u.places
   pub above : top_of s < u.version.0
   pub floor : s.floor ≤ top_of s
@@ -117,4 +118,4 @@ pub record AreEnds (context : ModelContext) (s : KeyState) (u : Update) (tail_ve
 pub record IsLeading (space : Space) (g : RegionId) (s : KeyState) : Type 0 where
   pub marks : s.marks ≡ true
   pub region : g ≡ key_region space s.base.key
-  pub small : top_of s ≤ 2 ^ 62
+  pub small : top_of s ≤ GREATEST_NUMBER

@@ -1,8 +1,9 @@
 -- A server as contracts see it, and which inputs it can take.
-use Rattle.std.specs.Prelude.{◌≡◌, ℕ, ◌<◌, ◌≤◌, ◌^◌, false, List, ⊤}
+use Rattle.std.specs.Prelude.{◌≡◌, ℕ, ◌<◌, ◌≤◌, false, List, ⊤}
 use Rattle.hx_model.specs.Types.{Actor, Deliver, Entry, Halt, Input, Message, Server, ServerId, Space, Tick}
 use Rattle.hx_types.specs.Posts.{IsSoundPost}
 use Rattle.hx_types.specs.Words.{IsIn, post}
+use Rattle.hx_types.specs.declared.limits.TheConstants.{GREATEST_NUMBER}
 use Rattle.hx_model.specs.Runs.{entry_of}
 use Rattle.hx_model.specs.ServerSteps.{Replica, ServerState, server_step}
 use Rattle.hx_model.specs.Slots.{KeyState, top_of}
@@ -23,12 +24,12 @@ server_entry space s input =
 pub record IsSoundDelivery (space : Space) (s : ServerId) (from : Actor) (m : Message) : Type 0 where
   pub sessions : ℕ
   pub entry : ℕ
-  pub few : entry < 2 ^ 62
+  pub few : entry < GREATEST_NUMBER
   pub sound : IsSoundPost space sessions entry (post from (Server s) m)
 
 -- no slot has accepted a version above 2^62
 abbrev pub HasSmallVersions : ServerState → Type 0
-HasSmallVersions s = (r : Replica) → IsIn r s.replicas → (t : KeyState) → IsIn t r.states → top_of t ≤ 2 ^ 62
+HasSmallVersions s = (r : Replica) → IsIn r s.replicas → (t : KeyState) → IsIn t r.states → top_of t ≤ GREATEST_NUMBER
 
 abbrev pub IsInputTo : Space → ServerId → Input → Type 0
 IsInputTo space s Tick = ⊤

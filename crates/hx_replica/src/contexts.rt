@@ -1,7 +1,8 @@
-ghost use Rattle.std.specs.Prelude.{◌≡◌, ◌≤◌, ◌<◌, ◌^◌, ◌++◌, ◌∷◌, [], OnOk, IfOk, length, true};
+ghost use Rattle.std.specs.Prelude.{◌≡◌, ◌≤◌, ◌<◌, ◌++◌, ◌∷◌, [], OnOk, IfOk, length, true};
 ghost use Rattle.std.specs.List.{flat_map};
 ghost use Rattle.hx_model.specs.Types.{At};
 ghost use Rattle.hx_types.specs.Words.{list_of};
+ghost use Rattle.hx_types.specs.declared.limits.TheConstants.{MOST_PLACES};
 ghost use Rattle.hx_model.specs.Neighbours.{place_number};
 ghost use Rattle.hx_model.specs.ServerSteps.{ack_to, doubt_in, next_at, passed_on, prev_at, reply, update_to};
 ghost use Rattle.hx_slot.specs.States.{IsPlacedIn};
@@ -29,7 +30,7 @@ pub struct SlotContext<'a> {
 #[inline]
 pub fn place_at(context: &SlotContext, update: &Update) -> u32
     requires placed { IsPlacedIn context.now.region update.now }
-    requires few { length update.now.places ≤ 17 }
+    requires few { length update.now.places ≤ MOST_PLACES }
     ensures number { result ≡ place_number context.now.region update.now.places }
     ensures within { result < length update.now.places }
 {
@@ -44,7 +45,7 @@ pub fn place_at(context: &SlotContext, update: &Update) -> u32
 #[inline(always)]
 fn next_of(context: &SlotContext, update: &Update, place: u32) -> Hop
     requires placed { IsPlacedIn context.now.region update.now }
-    requires few { length update.now.places ≤ 17 }
+    requires few { length update.now.places ≤ MOST_PLACES }
     requires place { place ≡ place_number context.now.region update.now.places }
     ensures { result ≡ next_at (context_seen context.now) update.now }
 {
@@ -54,7 +55,7 @@ fn next_of(context: &SlotContext, update: &Update, place: u32) -> Hop
 /// The version of an update, where its chain ends at the context.
 pub fn end_version(context: &SlotContext, update: &Update) -> Option<Version>
     requires placed { IsPlacedIn context.now.region update.now }
-    requires few { length update.now.places ≤ 17 }
+    requires few { length update.now.places ≤ MOST_PLACES }
     ensures { list_of result ≡ tail_version (context_seen context.now) update.now }
 {
     match next_of(context, update, place_at(context, update)) {
@@ -82,7 +83,7 @@ pub fn post_update(
     tail_versions: &mut Vec<Version>,
 ) -> Result<(), Memory>
     requires placed { IsPlacedIn context.now.region update.now }
-    requires few { length update.now.places ≤ 17 }
+    requires few { length update.now.places ≤ MOST_PLACES }
     ensures posts { OnOk result (posts.new ≡ posts.old ++ passed_on (context_seen context.now) update.now) }
     ensures tail_versions { OnOk result (tail_versions.new.items ≡ tail_versions.old.items ++ tail_version (context_seen context.now) update.now) }
 {
@@ -100,7 +101,7 @@ pub fn post_update_at(
     tail_versions: &mut Vec<Version>,
 ) -> Result<(), Memory>
     requires placed { IsPlacedIn context.now.region update.now }
-    requires few { length update.now.places ≤ 17 }
+    requires few { length update.now.places ≤ MOST_PLACES }
     requires place { place ≡ place_number context.now.region update.now.places }
     ensures posts { OnOk result (posts.new ≡ posts.old ++ passed_on (context_seen context.now) update.now) }
     ensures tail_versions { OnOk result (tail_versions.new.items ≡ tail_versions.old.items ++ tail_version (context_seen context.now) update.now) }
@@ -190,7 +191,7 @@ pub fn post_commit(
     posts: &mut Posts,
 ) -> Result<(), Memory>
     requires placed { IsPlacedIn context.now.region update.now }
-    requires few { length update.now.places ≤ 17 }
+    requires few { length update.now.places ≤ MOST_PLACES }
     ensures { OnOk result (posts.new ≡ posts.old ++ told_of (context_seen context.now) update.now) }
 {
     let place = place_at(context, update);

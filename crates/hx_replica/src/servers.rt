@@ -8,6 +8,7 @@ ghost use Rattle.hx_types.specs.Posts.{IsSoundPost};
 ghost use Rattle.hx_types.specs.Spaces.{IsConfigOf, IsServerOf, IsSpace};
 ghost use Rattle.hx_types.specs.Subspaces.{is_key_region};
 ghost use Rattle.hx_types.specs.Words.{provided, when_some};
+ghost use Rattle.hx_types.specs.declared.limits.TheConstants.{MOST_PLACES};
 ghost use Rattle.hx_law_folds.specs.Folding.{folded_server};
 ghost use Rattle.hx_model.specs.ServerSteps.{Replica as ReplicaState, ServerState, acked, asked, called_by, context_of, halting, if_installed, install_at, listed_regions, message_step, poll_post, replica_for, replica_of, server_at_start, server_step, snapped, state_in, tick_step, updated};
 ghost use Rattle.hx_model.specs.Slots.{found_in, new_state};
@@ -337,7 +338,7 @@ impl Server {
     ) -> Result<Change, Memory>
         requires bare { folded_server self.old.state ≡ self.old.state }
         requires placed { IsPlacedIn region update.now }
-        requires few { length update.now.places ≤ 17 }
+        requires few { length update.now.places ≤ MOST_PLACES }
         requires after { All (λ (p : Place). p.after.0 < update.now.version.0) update.now.places }
         ensures posts { OnOk result (posts.new ≡ posts.old ++ (updated self.old.space self.old.state from update.now (if_installed (replica_for self.old.state region))).posts) }
         ensures change { IfOk result (IsChange self.new (updated self.old.space self.old.state from update.now (if_installed (replica_for self.old.state region))).state) }

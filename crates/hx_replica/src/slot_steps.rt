@@ -1,10 +1,11 @@
-ghost use Rattle.std.specs.Prelude.{◌≡◌, ◌≤◌, ◌<◌, ◌^◌, ◌++◌, ◌∷◌, [], IfOk, IfSome, OnOk, Some, true, length};
+ghost use Rattle.std.specs.Prelude.{◌≡◌, ◌≤◌, ◌<◌, ◌++◌, ◌∷◌, [], IfOk, IfSome, OnOk, Some, true, length};
 ghost use Rattle.std.specs.List.{All};
 ghost use Rattle.std.specs.Option.{option_copied};
 ghost use Rattle.hx_types.specs.Spaces.{IsSpace};
 ghost use Rattle.hx_types.specs.Words.{provided};
 ghost use Rattle.hx_model.specs.Types.{Place};
 ghost use Rattle.hx_types.specs.declared.outcomes.Decision.TheVariants as a_decision;
+ghost use Rattle.hx_types.specs.declared.limits.TheConstants.{MOST_PLACES};
 ghost use Rattle.hx_model.specs.Leading.{decide, stuck_of};
 ghost use Rattle.hx_model.specs.Regions.{key_region};
 ghost use Rattle.hx_model.specs.Neighbours.{place_number};
@@ -164,7 +165,7 @@ pub fn offer(
     posts: &mut Posts,
 ) -> Result<SlotChange, Memory>
     requires placed { IsPlacedIn context.now.region update.now }
-    requires few { length update.now.places ≤ 17 }
+    requires few { length update.now.places ≤ MOST_PLACES }
     requires after { All (λ (p : Place). p.after.0 < update.now.version.0) update.now.places }
     requires place { place ≡ place_number context.now.region update.now.places }
     requires region { slot.now.region ≡ context.now.region }

@@ -7,6 +7,7 @@ use Rattle.hx_model.specs.Types.{Acked, Answer, Kept, Mark, Offer, RegionId, Row
 use Rattle.hx_types.specs.declared.outcomes.Acked.TheVariants as an_ack
 use Rattle.hx_types.specs.declared.outcomes.Offer.TheVariants.{Accepted, Known, Early}
 use Rattle.hx_types.specs.Spaces.{IsAscending}
+use Rattle.hx_types.specs.declared.limits.TheConstants.{MOST_PLACES}
 use Rattle.hx_model.specs.Neighbours.{place_number}
 use Rattle.hx_model.specs.Slots.{KeyState, after_at, kept_of}
 
@@ -36,7 +37,7 @@ IsPlacedIn g u = place_number g u.places < length u.places
 
 -- the update has few places
 abbrev pub HasFewPlaces : Update → Type 0
-HasFewPlaces u = length u.places ≤ 17
+HasFewPlaces u = length u.places ≤ MOST_PLACES
 
 -- the update's turn comes after a lower version
 abbrev pub IsLater : RegionId → Update → Type 0

@@ -1,6 +1,7 @@
 -- The updates that a slot holds, in the order in which they were accepted or came.
 use Rattle.std.specs.Prelude.{◌≡◌, ℕ, ◌+◌, ◌<◌, ◌≤◌, ⊤, Bool, not, ◌||◌, List, [], ◌∷◌, length, if◌then◌else◌, Option, None, Some}
 use Rattle.std.specs.Option.{option_map}
+use Rattle.hx_types.specs.declared.limits.TheConstants.{MOST_PLACES}
 use Rattle.hx_model.specs.Types.{Place, RegionId, Row, Update}
 use Rattle.hx_model.specs.Slots.{after_at, place_in, row_of}
 use Rattle.hx_slot.specs.declared.updates.PlacedUpdate.{PlacedUpdate}
@@ -30,7 +31,7 @@ Ascends v (t ∷ rest) = (v < t.update.version.0) × Ascends t.update.version.0 
 -- the update has a place in the region, one of few, which tells whether the object is kept there
 pub record IsPlaced (g : RegionId) (u : Update) (keeps : Bool) : Type 0 where
   pub place : option_map (λ (p : Place). p.keeps) (place_in g u.places) ≡ Some keeps
-  pub few : length u.places ≤ 17
+  pub few : length u.places ≤ MOST_PLACES
 
 -- an update with what its place in the region tells, after a lower version
 pub record IsHeld (g : RegionId) (p : PlacedUpdate) : Type 0 where

@@ -1,6 +1,7 @@
 ghost use Rattle.std.specs.Prelude.{◌≡◌, ◌*◌, ◌^◌, ◌<◌, ◌≤◌, IfOk, drop, length, map, slice_get};
 ghost use Rattle.std.specs.List.{AllByRecursion};
 ghost use Rattle.std.specs.Option.{option_copied};
+ghost use Rattle.hx_types.specs.declared.limits.TheConstants.{MOST_PLACES};
 ghost use Rattle.hx_slot.specs.Updates.{last_version, places_in, row_over, row_seen};
 ghost use Rattle.hx_model.specs.Slots.{object_in, row_of};
 ghost use Rattle.hx_slot.specs.States.{HasFewPlaces, object_at, object_seen};
@@ -41,7 +42,7 @@ pub fn place_count(line: &[AcceptedUpdate]) -> usize
     requires few { AllByRecursion (λ (t : AcceptedUpdate). HasFewPlaces t.update) line.now }
     requires short { length line.now < 2 ^ 32 }
     ensures count { result ≡ places_in line.now }
-    ensures bound { result ≤ 17 * length line.now }
+    ensures bound { result ≤ MOST_PLACES * length line.now }
 {
     let mut count = 0;
     for taken in line {

@@ -3,6 +3,7 @@ use Rattle.std.specs.Prelude.{◌≡◌, ℕ, zero, suc, ◌+◌, ◌<◌, ◌�
 use Rattle.std.specs.List.{All, list_any, slice_get}
 use Rattle.hx_model.specs.Types.{Kept, Place, RegionId, Update, Version}
 use Rattle.hx_types.specs.Words.{same_text, when_some}
+use Rattle.hx_types.specs.declared.limits.TheConstants.{MOST_PLACES}
 use Rattle.hx_model.specs.Neighbours.{place_number}
 use Rattle.hx_law_folds.specs.Folding.{folded}
 use Rattle.hx_slot.specs.States.{SlotState}
@@ -99,7 +100,7 @@ pub record CanBeOffered (g : RegionId) (u : Update) (place : ℕ) : Type 0 where
   pub place_is : place ≡ place_number g u.places
   pub placed : place < length u.places
   pub after : All (λ (p : Place). p.after.0 < u.version.0) u.places
-  pub few : length u.places ≤ 17
+  pub few : length u.places ≤ MOST_PLACES
 
 -- some versions are acknowledged
 abbrev pub acknowledging : List Version → List Move
