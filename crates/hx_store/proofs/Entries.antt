@@ -1,13 +1,12 @@
 -- Keys and their slots as entries.
-use Rattle.std.proofs.Common.{◌≡◌, ℕ, zero, suc, ◌+◌, ◌<◌, ◌^◌, Bool, true, false, List, [], ◌∷◌, ◌++◌, length, is_some, Option, None, Some, refl, ap, sym, ◌∙◌, subst, arith, cond, inl, inr}
-use Rattle.std.specs.List.{list_any, slice_get, slice_set}
+use Rattle.std.proofs.Common.{◌≡◌, ℕ, zero, suc, ◌+◌, ◌<◌, ◌^◌, Bool, true, false, List, [], ◌∷◌, ◌++◌, length, is_some, Option, None, Some, refl, ap, sym, ◌∙◌, arith, cond, inl, inr}
+use Rattle.std.specs.List.{slice_get, slice_set}
 use Rattle.std.specs.Map.{keys_of, lookup, values_of}
-use Rattle.std.specs.Option.{IsSomeAnd}
 use Rattle.std.proofs.lemmas.Bool.{cases_eq, false≢true}
 use Rattle.std.proofs.lemmas.Option.{same_Some}
 use Rattle.indexmap.specs.IndexMap.{set_value_at}
 use Rattle.hx_model.specs.Types.{RegionId, Row}
-use Rattle.hx_types.specs.Words.{same_text, when_some}
+use Rattle.hx_types.specs.Words.{when_some}
 use Rattle.hx_model.specs.Slots.{KeyState, object_of}
 use Rattle.hx_slot.specs.States.{SlotState}
 use Rattle.hx_index.specs.Orders.{rows_at}
@@ -15,8 +14,7 @@ use Rattle.hx_index.proofs.Lemmas.{set-elsewhere, set-here, set-length}
 use Rattle.hx_store.specs.Indexed.{IndexedState, is_marked, kept_at}
 use Rattle.hx_store.specs.Invariant.{HasMoved, is_listed, key_in, stored_at}
 use Rattle.hx_types.specs.Prefixes.{IsPrefixOf}
-use Rattle.hx_store.specs.Slots.{AreSlots, Entry, IsStepped, StoreSlot, entries_of, rows_in}
-use Rattle.hx_store.proofs.Finding.{none-lookup}
+use Rattle.hx_store.specs.Slots.{AreSlots, Entry, IsStepped, entries_of, rows_in}
 use Rattle.hx_store.proofs.Following.{set-marked, set-unmarked}
 use Rattle.hx_store.proofs.Prefixes.{added-prefix}
 
@@ -114,48 +112,6 @@ moved-of ks i fall step old new e m = record {
   spare = m.spare;
 }
 
--- what holds of the slot of an entry
-pub slot-some : (P : SlotState → Type 0) (ks : List Key) (ss : List SlotState) (i : ℕ) → IsSomeAnd (stored_at (entries_of ks ss) i) (λ (w : StoreSlot). P w.slot) → IsSomeAnd (slice_get ss i) P
-slot-some P [] ss i h = absurd h
-slot-some P (k ∷ ks) [] i h = absurd h
-slot-some P (k ∷ ks) (s ∷ ss) zero h = h
-slot-some P (k ∷ ks) (s ∷ ss) (suc i) h = slot-some P ks ss i h
-
--- the slots behind what contracts see
-module _ (ks : List Key) (ss : List SlotState) (es : List Entry) (e : length ks ≡ length ss) (view : entries_of ks ss ≡ es) where
-  pub count-is : length ss ≡ length es
-  count-is = sym (entries-length ks ss e) ∙ ap length view
-
-  pub within-slots : (i : ℕ) → i < length es → i < length ss
-  within-slots i l = let c = count-is in omega (arith, c, l)
-
-  pub stored-seen : (i : ℕ) (s : SlotState) → slice_get ss i ≡ Some s → stored_at es i ≡ Some (record { slot = s; listed = is_listed es i })
-  stored-seen i s at = subst (λ (xs : List Entry). stored_at xs i ≡ Some (record { slot = s; listed = is_listed xs i })) view (stored-is ks ss i s e at)
-
-  pub key-seen : (i : ℕ) → key_in es i ≡ when_some (slice_get ks i) [] (λ (k : Key). k.0)
-  key-seen i = ap (λ (xs : List Entry). key_in xs i) (sym view) ∙ key-at ks ss i e
-
-  pub listed-seen : (i : ℕ) → is_listed es i ≡ when_some (slice_get ks i) false (λ (k : Key). k.1)
-  listed-seen i = ap (λ (xs : List Entry). is_listed xs i) (sym view) ∙ listed-at ks ss i e
-
-  pub moved-seen : (i fall : ℕ) (step : RegionId → KeyState → KeyState) (new : List SlotState) → IsStepped i step fall ss new → HasMoved i step fall es (entries_of ks new)
-  moved-seen i fall step new m = subst (λ (xs : List Entry). HasMoved i step fall xs (entries_of ks new)) view (moved-of ks i fall step ss new e m)
-
-  pub some-seen : (P : SlotState → Type 0) (i : ℕ) → IsSomeAnd (stored_at es i) (λ (w : StoreSlot). P w.slot) → IsSomeAnd (slice_get ss i) P
-  some-seen P i h = slot-some P ks ss i (subst (λ (xs : List Entry). IsSomeAnd (stored_at xs i) (λ (w : StoreSlot). P w.slot)) (sym view) h)
-
-  pub set-seen : (i : ℕ) (w : SlotState) → entries_of ks (slice_set ss i w) ≡ set_value_at es i (record { slot = w; listed = is_listed es i })
-  set-seen i w = slot-set ks ss i w e ∙ (λ k. set_value_at (view k) i (record { slot = w; listed = is_listed (view k) i }))
-
-  pub listed-set : (i : ℕ) (s : SlotState) (b : Bool) → slice_get ss i ≡ Some s → entries_of (set_value_at ks i b) ss ≡ set_value_at es i (record { slot = s; listed = b })
-  listed-set i s b at = key-listed ks ss i s b at e ∙ ap (λ (xs : List Entry). set_value_at xs i (record { slot = s; listed = b })) view
-
-  pub keys-seen : keys_of ks ≡ keys_of es
-  keys-seen = sym (keys-of ks ss e) ∙ ap keys_of view
-
-  pub looked-seen : (p : List ℕ → Bool) → is_some (lookup p ks) ≡ is_some (lookup p es)
-  looked-seen p = sym (looked-up p ks ss e) ∙ ap (λ (xs : List Entry). is_some (lookup p xs)) view
-
 abbrev row : SlotState → Option Row
 row s = object_of s.region s.state
 
@@ -208,13 +164,6 @@ value-there (k ∷ ks) (suc i) l e = value-there ks i (omega arith) e
 -- what is stored after a slot was set
 pub stored-set-is : (ks : List Key) (ss : List SlotState) (i : ℕ) (w : SlotState) → length ks ≡ length ss → i < length ss → stored_at (entries_of ks (slice_set ss i w)) i ≡ Some (record { slot = w; listed = is_listed (entries_of ks (slice_set ss i w)) i })
 stored-set-is ks ss i w e l = stored-is ks (slice_set ss i w) i w (e ∙ sym (set-length ss i w)) (set-here ss i w l)
-
-none-there : {A : Type 0} (o : Option A) → is_some o ≡ false → o ≡ None
-none-there None e = refl
-none-there (Some x) e = absurd (false≢true (sym e))
-
-pub no-key : (ks : List Key) (ss : List SlotState) (es : List Entry) (e : length ks ≡ length ss) (view : entries_of ks ss ≡ es) (key : List ℕ) → list_any (λ (x : Entry). same_text x.0 key) es ≡ false → lookup (same_text key) ks ≡ None
-no-key ks ss es e view key n = none-there (lookup (same_text key) ks) (looked-seen ks ss es e view (same_text key) ∙ ap is_some (none-lookup key es n))
 
 -- a slot without an object comes last
 module _ (ss : List SlotState) (s : SlotState) (none : row s ≡ None) where

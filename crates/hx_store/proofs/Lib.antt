@@ -2,6 +2,7 @@ pub mod Moves
 pub mod Acknowledging
 pub mod Following
 pub mod Entries
+pub mod SlotAt
 pub mod Sorting
 pub mod Matching
 pub mod Lists

@@ -3,8 +3,7 @@ use Rattle.std.specs.List.{filter}
 use Rattle.hx_index.specs.Orders.{stands_in}
 use Rattle.hx_store.specs.Indexed.{is_marked}
 use Rattle.hx_store.specs.Invariant.{AscendAt}
-use Rattle.hx_store.specs.Slots.{SlotsState}
-use Rattle.hx_store.proofs.Entries.{count-is}
+use Rattle.hx_store.proofs.SlotAt.{count-is}
 use Rattle.hx_store.proofs.Walking.{stands-at, walked-ascends, walked-length, walked-same}
 use Rattle.hx_store.proofs.slots.Slots.walk_by_keys.Goals as goal
 
@@ -15,8 +14,7 @@ marks_of-requires c = λ k d l.
     let here : k < length ids = subst (λ (xs : List ℕ). k < length xs) same l in
     let x = get_or ids k d in
     let within = c.requires.order.within x (c.requires.order.all x (stands-at ids k d here)) in
-    let view = ap (λ (s : SlotsState). s.entries) c.self.view_is in
-    let count = count-is c.self.inside.keys.entries c.self.inside.slots.items c.args.self.now.entries c.self.invariant.count view in
+    let count = count-is c.self.invariant c.self.view_is in
     let len = c.len.ensures in
     let ok = c.self.inside.slots.ok.0 in
     subst (λ (xs : List ℕ). get_or xs k d < c.len.result) (sym same) (omega (arith, within, count, len, ok))
@@ -25,8 +23,7 @@ pub take_marked-requires-clause-within : goal.take_marked-requires-clause-within
 take_marked-requires-clause-within c = λ k d l.
     let order = c.args.order.now in
     let within = c.requires.order.within (get_or order k d) (stands-at order k d l) in
-    let view = ap (λ (s : SlotsState). s.entries) c.self.view_is in
-    let count = count-is c.self.inside.keys.entries c.self.inside.slots.items c.args.self.now.entries c.self.invariant.count view in
+    let count = count-is c.self.invariant c.self.view_is in
     let len = c.len.ensures in
     let ok = c.self.inside.slots.ok.0 in
     let marks = c.in_ok-marks.ensures.count in
