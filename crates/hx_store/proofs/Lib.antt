@@ -17,5 +17,6 @@ pub mod Installing
 pub mod Prefixes
 pub mod Walking
 pub mod Ordering
+pub mod Changing
 pub mod Inserting
 pub mod Lemmas

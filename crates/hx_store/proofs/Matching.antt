@@ -17,11 +17,13 @@ use Rattle.hx_index.specs.Looks.{digits_of}
 use Rattle.hx_index.specs.Orders.{IndexState, IsIndexOf, IsOrder, compare_at, count_of, order_of, stands_in}
 use Rattle.hx_index.specs.Searches as index
 use Rattle.hx_index.specs.Sides.{matches_at}
-use Rattle.hx_store.specs.Invariant.{AscendAt, HasAll, IsStoreSlot, is_listed, state_in, states_in}
+use Rattle.hx_store.specs.Invariant.{AscendAt, HasAll, IsStore, IsStoreSlot, is_listed, state_in, states_in}
 use Rattle.hx_store.specs.Looks.{indexed_count, is_indexed, least_count, least_looks_at, meeting_count, most_looks_at}
 use Rattle.hx_store.specs.Slots.{Entry, rows_in}
 use Rattle.hx_store.proofs.Lists.{all-at}
 use Rattle.hx_store.proofs.Order.{listed-there}
+use Rattle.hx_store.proofs.Setting.{are-there}
+use Rattle.hx_store.proofs.Showing.{order-ascends}
 use Rattle.hx_store.specs.Indexed.{times}
 use Rattle.hx_store.proofs.Sorting.{ascend-times, distinct-times, filter-ascends, same-list, same-numbers}
 
@@ -216,3 +218,23 @@ module _ (g : RegionId) (marks : Bool) (es : List Entry) (each : AllByRecursion 
               let more = ap (λ n. 2 * n * digits_of (count_of index_state)) (counted-none e terms) in
               omega (arith, least, count, more)
           by (suc n) e = (let same = looks-same terms (omega (arith, e)) in omega (arith, same))
+
+-- what a search of a store finds, and its looks
+module _ {g : RegionId} {marks : Bool} {es : List Entry} {order : List ℕ} {cap : ℕ} (h : IsStore g marks es order cap) where
+  ascends : AscendAt es order
+  ascends = order-ascends {attributes = 0} {ordered = true} h refl
+
+  pub store-all : HasAll es (λ i. is_some (rows_in es i)) order
+  store-all = has-all g marks es h.each order h.listed (are-there h) ascends
+
+  pub store-found : (terms : List Term) (ids : List ℕ) → AscendAt es ids → ((i : ℕ) → stands_in ids i ≡ matches_at (rows_in es) terms i)
+      → flat_map (λ i. list_of (rows_in es i)) ids ≡ found_in g terms (states_in es order)
+  store-found terms ids up is = found-rows g marks es h.each order h.listed (are-there h) ascends terms ids up is
+
+  module _ (index_state : IndexState) (is : IsIndexOf (rows_in es) index_state) (terms : List Term) where
+    pub store-most : index.most_looks index_state (rows_in es) terms ≤ most_looks_at (length index_state.orders) (rows_of g (states_in es order)) terms
+    store-most = looks-most g marks es h.each order h.listed (are-there h) ascends index_state is terms
+
+    pub store-least : 0 < length index_state.orders
+        → index.least_run index_state (rows_in es) (count_of index_state) terms ≡ least_looks_at (length index_state.orders) (rows_of g (states_in es order)) terms
+    store-least l = looks-least g marks es h.each order h.listed (are-there h) ascends index_state is terms l

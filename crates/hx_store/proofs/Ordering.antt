@@ -15,7 +15,7 @@ use Rattle.hx_store.specs.Slots.{Entry, StoreSlot}
 use Rattle.hx_store.specs.Stores.{StoreState, after_step, key_at, no_moves}
 use Rattle.hx_store.proofs.Lists.{at-front, set-elsewhere, set-here}
 use Rattle.hx_store.proofs.Order.{listed-there}
-use Rattle.hx_store.proofs.Showing.{open-new, open-room, order-ascends, stored-entry}
+use Rattle.hx_store.proofs.Showing.{open-new, open-room, order-ascends, shown, stored-entry}
 use Rattle.hx_store.proofs.Sorting.{ascend-times, differ, same-length, same-list, stands-times}
 use Rattle.hx_store.proofs.Following.{times-end}
 
@@ -142,8 +142,8 @@ order-sorts es apart =
 
 -- and there is no other list of these places in byte order of keys
 pub settled : {g : RegionId} {marks : Bool} {es : List Entry} {order : List ℕ} {cap : ℕ} → IsStore g marks es order cap → order_of es ≡ order
-settled {g = g} {marks = marks} {es = es} {order = order} {cap = cap} h =
-    let ascend = order-ascends g marks es order cap {attributes = 0} {ordered = true} _ refl h in
+settled {es = es} {order = order} h =
+    let ascend = order-ascends {attributes = 0} {ordered = true} h refl in
     same-list es (order_of es) order (order-sorts es h.apart) ascend (λ i. order-members es i ∙ sym (h.listed i))
 
 pub ascend-same : (es new : List Entry) (xs : List ℕ) → ((j : ℕ) → stands_in xs j ≡ true → key_in new j ≡ key_in es j) → AscendAt es xs → AscendAt new xs
@@ -282,80 +282,79 @@ length-last (y ∷ xs) x = let more = length-last xs x in omega (arith, more)
 abbrev in-listed : Option Entry → Bool
 in-listed o = when_some o false (λ (x : Entry). x.1.listed)
 
--- there is room for a slot that is opened
-pub open-room-late : {g : RegionId} {marks : Bool} {es : List Entry} {places : List ℕ} {sorted cap : ℕ} (h : IsLateStore g marks es places sorted cap) {attributes : ℕ} {ordered : Bool} (self : StoreState)
-    → record { region = g; marks = marks; attributes = attributes; states = states_in es (order_of es); rooms = rooms_in es; ordered = ordered } ≡ self
-    → (place : ℕ) (w : StoreSlot) → stored_at es place ≡ Some w → w.listed ≡ false → length places < cap
-open-room-late {g = g} {marks = marks} {es = es} {cap = cap} h self view place w stored closed =
-    let r = open-room g marks es (order_of es) cap self view h.store place w stored closed in
-    let l = late-length h in
-    omega (arith, r, l)
+module _ {g : RegionId} {marks : Bool} {es : List Entry} {places : List ℕ} {sorted cap attributes : ℕ} {ordered : Bool} {self : StoreState}
+    (h : IsLateStore g marks es places sorted cap) (view : shown g marks attributes es (order_of es) ordered ≡ self) (place : ℕ)
+    {w : StoreSlot} (stored : stored_at es place ≡ Some w) (closed : w.listed ≡ false) where
+  -- there is room for a slot that is opened
+  pub open-room-late : length places < cap
+  open-room-late =
+      let r = open-room h.store view place w stored closed in
+      let l = late-length h in
+      omega (arith, r, l)
 
--- a slot is opened: its place comes last
-module _ {g : RegionId} {marks : Bool} {es : List Entry} {places : List ℕ} {sorted cap : ℕ} (h : IsLateStore g marks es places sorted cap)
-    {attributes : ℕ} {ordered : Bool} (self : StoreState) (view : record { region = g; marks = marks; attributes = attributes; states = states_in es (order_of es); rooms = rooms_in es; ordered = ordered } ≡ self)
-    (place : ℕ) (w : StoreSlot) (new : List Entry) (stored : stored_at es place ≡ Some w) (closed : w.listed ≡ false) (m : IsListedAt place es new) where
-  abbrev number : ℕ
-  number = split_of es (key_at self place) (order_of es)
+  -- it is opened: its place comes last
+  module _ {new : List Entry} (m : IsListedAt place es new) where
+    abbrev number : ℕ
+    number = split_of es (key_at self place) (order_of es)
 
-  opened : IsStore g marks new (insert (order_of es) number place) cap
-      × (states_in new (insert (order_of es) number place) ≡ after_step self (key_at self place) no_moves) × (rooms_in new ≡ self.rooms)
-  opened =
-      let within = split-within es (key_at self place) (order_of es) in
-      let split = split-is es (key_at self place) (order_of es) in
-      open-new g marks es (order_of es) cap self view h.store place number w new (insert (order_of es) number place) cap stored closed within split m refl
-      (omega arith)
+    opened : IsStore g marks new (insert (order_of es) number place) cap
+        × (states_in new (insert (order_of es) number place) ≡ after_step self (key_at self place) no_moves) × (rooms_in new ≡ self.rooms)
+    opened =
+        let within = split-within es (key_at self place) (order_of es) in
+        let split = split-is es (key_at self place) (order_of es) in
+        open-new h.store view place number w new (insert (order_of es) number place) cap stored closed within split m refl
+        (omega arith)
 
-  pub open-states-late : states_in new (order_of new) ≡ after_step self (key_at self place) no_moves
-  open-states-late = ap (states_in new) (settled opened.0) ∙ opened.1
+    pub open-states-late : states_in new (order_of new) ≡ after_step self (key_at self place) no_moves
+    open-states-late = ap (states_in new) (settled opened.0) ∙ opened.1
 
-  pub open-rooms-late : rooms_in new ≡ self.rooms
-  open-rooms-late = opened.2
+    pub open-rooms-late : rooms_in new ≡ self.rooms
+    open-rooms-late = opened.2
 
-  pub open-late : IsLateStore g marks new (places ++ place ∷ []) sorted cap
-  open-late = record {
-    store = subst (λ (order : List ℕ). IsStore g marks new order cap) (sym (settled opened.0)) opened.0;
-    each = one;
-    begun = (let b = h.begun in let l = length-last places place in omega (arith, b, l));
-    ascend = subst (AscendAt new) (sym (take-front sorted places place h.begun)) (ascend-same es new (take sorted places) keys h.ascend);
-  }
-    where
-      keys : (j : ℕ) → stands_in (take sorted places) j ≡ true → key_in new j ≡ key_in es j
-      keys j t =
-          let listed = sym (each-listed es places h.each j) ∙ take-stands sorted j places t in
-          keys-set es new place (record m.before { listed = true }) m.set j listed
+    pub open-late : IsLateStore g marks new (places ++ place ∷ []) sorted cap
+    open-late = record {
+      store = subst (λ (order : List ℕ). IsStore g marks new order cap) (sym (settled opened.0)) opened.0;
+      each = one;
+      begun = (let b = h.begun in let l = length-last places place in omega (arith, b, l));
+      ascend = subst (AscendAt new) (sym (take-front sorted places place h.begun)) (ascend-same es new (take sorted places) keys h.ascend);
+    }
+      where
+        keys : (j : ℕ) → stands_in (take sorted places) j ≡ true → key_in new j ≡ key_in es j
+        keys j t =
+            let listed = sym (each-listed es places h.each j) ∙ take-stands sorted j places t in
+            keys-set es new place (record m.before { listed = true }) m.set j listed
 
-      at : (e : Entry) × (slice_get es place ≡ Some e) × (e.1 ≡ w)
-      at = stored-entry es place w stored
+        at : (e : Entry) × (slice_get es place ≡ Some e) × (e.1 ≡ w)
+        at = stored-entry es place w stored
 
-      was : is_listed es place ≡ false
-      was = ap in-listed at.1 ∙ ap (λ (x : StoreSlot). x.listed) at.2 ∙ closed
+        was : is_listed es place ≡ false
+        was = ap in-listed at.1 ∙ ap (λ (x : StoreSlot). x.listed) at.2 ∙ closed
 
-      now : is_listed new place ≡ true
-      now = ap (λ (xs : List Entry). is_listed xs place) m.set ∙ ap in-listed (set-here es place at.0 (record m.before { listed = true }) at.1)
+        now : is_listed new place ≡ true
+        now = ap (λ (xs : List Entry). is_listed xs place) m.set ∙ ap in-listed (set-here es place at.0 (record m.before { listed = true }) at.1)
 
-      rest : (i : ℕ) → (i ≡ place → ⊥) → is_listed new i ≡ is_listed es i
-      rest i n = ap (λ (xs : List Entry). is_listed xs i) m.set ∙ ap in-listed (set-elsewhere es place i (record m.before { listed = true }) n)
+        rest : (i : ℕ) → (i ≡ place → ⊥) → is_listed new i ≡ is_listed es i
+        rest i n = ap (λ (xs : List Entry). is_listed xs i) m.set ∙ ap in-listed (set-elsewhere es place i (record m.before { listed = true }) n)
 
-      one : (i : ℕ) → times i (places ++ place ∷ []) ≡ one_if (is_listed new i)
-      one i = elim (cases_eq i place) [
-        | inl p ↦ subst (λ j. times j (places ++ place ∷ []) ≡ one_if (is_listed new j)) (sym p)
-            (
-            let t = times-end place places place in
-            let e = ap one_if (eq-eqb place place refl) in
-            let b = h.each place in
-            let z = ap one_if was in
-            let o = ap one_if now in
-            omega (arith, t, e, b, z, o)
-            )
-        | inr n ↦ (
-            let t = times-end i places place in
-            let e = ap one_if (ne_eqb place i (λ q. n (sym q))) in
-            let b = h.each i in
-            let o = ap one_if (rest i n) in
-            omega (arith, t, e, b, o)
-            )
-      ]
+        one : (i : ℕ) → times i (places ++ place ∷ []) ≡ one_if (is_listed new i)
+        one i = elim (cases_eq i place) [
+          | inl p ↦ subst (λ j. times j (places ++ place ∷ []) ≡ one_if (is_listed new j)) (sym p)
+              (
+              let t = times-end place places place in
+              let e = ap one_if (eq-eqb place place refl) in
+              let b = h.each place in
+              let z = ap one_if was in
+              let o = ap one_if now in
+              omega (arith, t, e, b, z, o)
+              )
+          | inr n ↦ (
+              let t = times-end i places place in
+              let e = ap one_if (ne_eqb place i (λ q. n (sym q))) in
+              let b = h.each i in
+              let o = ap one_if (rest i n) in
+              omega (arith, t, e, b, o)
+              )
+        ]
 
 pub all-sorted : (sorted n : ℕ) (ordered : Bool) → eqb sorted n ≡ ordered → ordered ≡ true → sorted ≡ n
 all-sorted sorted n ordered e t = eqb-true sorted n (e ∙ t)

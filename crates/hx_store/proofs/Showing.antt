@@ -132,14 +132,45 @@ pub opened-step : (old new : StoreState) (key : List ℕ) (step : RegionId → K
 opened-step old new key step after region before states e kind place b r a k is =
     sym is ∙ opened-put old new key after e k ∙ ap (λ (s : KeyState). with_state s old.states) (a ∙ (λ i. step ((r ∙ place) i) ((b ∙ opened-state old new key kind e) i)))
 
-module _ (g : RegionId) (marks : Bool) (es : List Entry) (order : List ℕ) (cap : ℕ) {attributes : ℕ} {ordered : Bool} (self : StoreState) (view : record { region = g; marks = marks; attributes = attributes; states = states_in es order; rooms = rooms_in es; ordered = ordered } ≡ self) (h : IsStore g marks es order cap) where
+-- what contracts see of the parts of a store
+abbrev pub shown : RegionId → Bool → ℕ → List Entry → List ℕ → Bool → StoreState
+shown g marks attributes es order ordered = record {
+  region = g;
+  marks = marks;
+  attributes = attributes;
+  states = states_in es order;
+  rooms = rooms_in es;
+  ordered = ordered;
+}
+
+-- a store of which nothing changed but that it is in order
+pub ordered-same : (old new : StoreState) → new.region ≡ old.region → new.marks ≡ old.marks → new.attributes ≡ old.attributes
+    → new.states ≡ old.states → new.rooms ≡ old.rooms → new.ordered ≡ true → new ≡ record old { ordered = true }
+ordered-same old new region marks attributes states rooms ordered = λ k. record {
+  region = region k;
+  marks = marks k;
+  attributes = attributes k;
+  states = states k;
+  rooms = rooms k;
+  ordered = ordered k;
+}
+
+module _ {g : RegionId} {marks : Bool} {es : List Entry} {order : List ℕ} {cap attributes : ℕ} {ordered : Bool} {self : StoreState}
+    (h : IsStore g marks es order cap) (view : shown g marks attributes es order ordered ≡ self) where
+  -- the entries are the same
+  pub same-store : {new : List Entry} → new ≡ es → IsStore g marks new order cap
+  same-store same = subst (λ (xs : List Entry). IsStore g marks xs order cap) (sym same) h
+
+  pub same-view : {new : List Entry} {count : ℕ} → new ≡ es → count ≡ attributes → shown g marks count new order ordered ≡ self
+  same-view same alike = (λ k. shown g marks (alike k) (same k) order ordered) ∙ view
+
   pub count-is : length self.rooms ≡ length es
   count-is = ap (λ (s : StoreState). length s.rooms) (sym view) ∙ length-of-map room_of es
 
   pub within-is : (place : ℕ) → place < length self.rooms → place < length es
   within-is place l = let e = count-is in omega (arith, e, l)
 
-  module _ (place : ℕ) (w : StoreSlot) (stored : stored_at es place ≡ Some w) where
+  module _ (place : ℕ) {w : StoreSlot} (stored : stored_at es place ≡ Some w) where
     abbrev pub entry : (e : Entry) × (slice_get es place ≡ Some e) × (e.1 ≡ w)
     entry = stored-entry es place w stored
 
@@ -191,13 +222,18 @@ module _ (g : RegionId) (marks : Bool) (es : List Entry) (order : List ℕ) (cap
   no-slot key n = ap (λ (s : StoreState). has_slot key s.states) (sym view) ∙ has-none g marks es key h.each n order (are-there h)
 
   -- a fact of the slot at a place
-  pub at-slot : (place : ℕ) (P : RegionId → KeyState → ℕ → Type 0) → place < length self.rooms → P self.region (state_at self (key_at self place)) (spare_at self place) → IsSomeAnd (stored_at es place) (λ (w : StoreSlot). P w.slot.region w.slot.state w.slot.spare)
+  pub at-slot : (place : ℕ) (P : RegionId → KeyState → ℕ → Type 0) → place < length self.rooms
+      → P self.region (state_at self (key_at self place)) (spare_at self place)
+      → IsSomeAnd (stored_at es place) (λ (w : StoreSlot). P w.slot.region w.slot.state w.slot.spare)
   at-slot place P l p =
       let s = stored-some es place (within-is place l) in
       subst (λ (o : Option StoreSlot). IsSomeAnd o (λ (w : StoreSlot). P w.slot.region w.slot.state w.slot.spare)) (sym s.1)
       (
-      subst (λ (r : RegionId). P r s.0.slot.state s.0.slot.spare) (sym (slot-region place s.0 s.1))
-      (subst (λ (k : KeyState). P self.region k s.0.slot.spare) (sym (slot-is place s.0 s.1)) (subst (P self.region (state_at self (key_at self place))) (sym (slot-spare place s.0 s.1)) p))
+      subst (λ (r : RegionId). P r s.0.slot.state s.0.slot.spare) (sym (slot-region place s.1))
+      (
+      subst (λ (k : KeyState). P self.region k s.0.slot.spare) (sym (slot-is place s.1))
+      (subst (P self.region (state_at self (key_at self place))) (sym (slot-spare place s.1)) p)
+      )
       )
 
   pub some-none : (key : List ℕ) (o : Option ℕ) → IfNone o (list_any (λ (e : Entry). same_text e.0 key) es ≡ false) → IfNone o (has_room self key ≡ false)
@@ -252,9 +288,9 @@ module _ (g : RegionId) (marks : Bool) (es : List Entry) (order : List ℕ) (cap
       → after.slot.region ≡ self.region → after.slot.state.marks ≡ self.marks → has_slot (key_at self place) self.states ≡ true → IsStore g marks new order cap × (with_state after.slot.state self.states ≡ states_in new order)
   set-there place before after new found set same key region kind there =
       let e = stored-entry es place before found in
-      let listed : before.listed ≡ true = sym (slot-listed place before found) ∙ there in
+      let listed : before.listed ≡ true = sym (slot-listed place found) ∙ there in
       let kept : IsStoreSlot g marks e.0.0 after = record {
-        key_is = key ∙ slot-key place before found;
+        key_is = key ∙ slot-key place found;
         region = region ∙ ap (λ (s : StoreState). s.region) (sym view);
         marks_are = kind ∙ ap (λ (s : StoreState). s.marks) (sym view);
         closed = λ c. absurd (false≢true (sym c ∙ same ∙ listed));
@@ -269,7 +305,10 @@ module _ (g : RegionId) (marks : Bool) (es : List Entry) (order : List ℕ) (cap
   put-others place before after new key found set k =
       let e = stored-entry es place before found in
       subst (λ (rs : List Room). KeepsOtherRooms key rs (rooms_in new)) (ap (λ (s : StoreState). s.rooms) view)
-      (subst (λ (es' : List Entry). KeepsOtherRooms key (rooms_in es) (rooms_in es')) (sym set) (set-others key es place e.0 after e.1 (sym (slot-key place before found) ∙ k)))
+      (
+      subst (λ (es' : List Entry). KeepsOtherRooms key (rooms_in es) (rooms_in es')) (sym set)
+      (set-others key es place e.0 after e.1 (sym (slot-key place found) ∙ k))
+      )
 
   -- the slot of a place is listed already
   pub open-same : (place : ℕ) (w : StoreSlot) → stored_at es place ≡ Some w → w.listed ≡ true → self.states ≡ after_step self (key_at self place) no_moves
@@ -280,7 +319,7 @@ module _ (g : RegionId) (marks : Bool) (es : List Entry) (order : List ℕ) (cap
       ap (λ (s : StoreState). s.states) (sym view)
       ∙ sym quiet.1 ∙ sym both.1
       ∙ ap (λ (s : StoreState). with_state e.0.1.slot.state s.states) view
-      ∙ ap (λ (k : KeyState). with_state k self.states) (ap (λ (x : StoreSlot). x.slot.state) e.2 ∙ slot-is place w stored)
+      ∙ ap (λ (k : KeyState). with_state k self.states) (ap (λ (x : StoreSlot). x.slot.state) e.2 ∙ slot-is place stored)
 
   -- or comes to stand among them
   pub open-new : (place number : ℕ) (w : StoreSlot) (new : List Entry) (places : List ℕ) (wide : ℕ) → stored_at es place ≡ Some w → w.listed ≡ false → number ≤ length order → IsSplit es (key_at self place) number order
@@ -293,12 +332,12 @@ module _ (g : RegionId) (marks : Bool) (es : List Entry) (order : List ℕ) (cap
       let was = own h place e.0 e.1 in
       let kept : IsStoreSlot g marks e.0.0 after = record { key_is = was.key_is; region = was.region; marks_are = was.marks_are; closed = λ c. absurd (false≢true (sym c)) } in
       let closed : e.0.1.listed ≡ false = ap (λ (x : StoreSlot). x.listed) e.2 ∙ unlisted in
-      let key = slot-key place w stored in
+      let key = slot-key place stored in
       let both = set-open h place e.0 e.1 after kept closed refl number within (subst (λ (k : List ℕ). IsSplit es k number order) key split) in (
         wide-store (subst (λ (es' : List Entry). IsStore g marks es' places cap) (sym set) (subst (λ (ps : List ℕ). IsStore g marks (set_value_at es place after) ps cap) (sym is) both.0)) wide more,
         (λ i. states_in (set i) (is i)) ∙ sym both.1
             ∙ ap (λ (s : StoreState). with_state e.0.1.slot.state s.states) view
-            ∙ ap (λ (k : KeyState). with_state k self.states) (ap (λ (x : StoreSlot). x.slot.state) e.2 ∙ slot-is place w stored),
+            ∙ ap (λ (k : KeyState). with_state k self.states) (ap (λ (x : StoreSlot). x.slot.state) e.2 ∙ slot-is place stored),
         ap rooms_in set ∙ set-same es place e.0 after e.1 refl ∙ ap (λ (s : StoreState). s.rooms) view,
       )
 
@@ -329,11 +368,14 @@ module _ (g : RegionId) (marks : Bool) (es : List Entry) (order : List ℕ) (cap
       }
 
   -- the slot of a number in the order of keys
-  pub nth-within : (i place : ℕ) → slice_get order i ≡ Some place → place < length es
-  nth-within i place e = let there = listed-there es place (all-at (λ j. is_listed es j ≡ true) order i place (are-there h) e) in within-at es place there.0 there.1
+  pub nth-within : (i : ℕ) {place : ℕ} → slice_get order i ≡ Some place → place < length es
+  nth-within i {place = place} e =
+      let there = listed-there es place (all-at (λ j. is_listed es j ≡ true) order i place (are-there h) e) in
+      within-at es place there.0 there.1
 
-  pub nth-state : (i place : ℕ) (w : StoreSlot) → slice_get order i ≡ Some place → stored_at es place ≡ Some w → Some w.slot.state ≡ slice_get self.states i
-  nth-state i place w e stored =
+  pub nth-state : (i : ℕ) {place : ℕ} {w : StoreSlot} → slice_get order i ≡ Some place → stored_at es place ≡ Some w
+      → Some w.slot.state ≡ slice_get self.states i
+  nth-state i {place = place} {w = w} e stored =
       let s = stored-entry es place w stored in
       ap (λ (x : StoreSlot). Some x.slot.state) (sym s.2)
       ∙ ap (λ (o : Option Entry). Some (when_some o (new_state false []) (λ (x : Entry). x.1.slot.state))) (sym s.1)
@@ -349,16 +391,22 @@ module _ (g : RegionId) (marks : Bool) (es : List Entry) (order : List ℕ) (cap
       past (x ∷ xs) (suc i) l = past xs i (omega arith)
 
   -- an opened slot made a step
-  pub step-there : (old : StoreState) (place : ℕ) (step : RegionId → KeyState → KeyState) → StepKeeps step → (fall : ℕ) (new : List Entry) → HasMoved place step fall es new → (key : List ℕ) → key_at self place ≡ key → self.states ≡ after_step old key no_moves
-      → self.marks ≡ old.marks → self.region ≡ old.region → IsStore g marks new order cap × (states_in new order ≡ after_step old key step)
+  pub step-there : (old : StoreState) (place : ℕ) (step : RegionId → KeyState → KeyState) → StepKeeps step → (fall : ℕ) (new : List Entry)
+      → HasMoved place step fall es new → (key : List ℕ) → key_at self place ≡ key → self.states ≡ after_step old key no_moves
+      → self.marks ≡ old.marks → self.region ≡ old.region
+      → IsStore g marks new order cap × (states_in new order ≡ after_step old key step)
   step-there old place step keeps fall new m key k e kind region =
-      let is = slot-is place m.before m.found in
+      let is = slot-is place m.found in
       let kept = keeps m.before.slot.region m.before.slot.state in
       let here : m.before.slot.state.base.key ≡ key = ap (λ (s : KeyState). s.base.key) is ∙ among-key self.marks (key_at self place) self.states ∙ k in
       let after_key : m.after.slot.state.base.key ≡ key = ap (λ (s : KeyState). s.base.key) m.state ∙ kept.0 ∙ here in
-      let both = set-there place m.before m.after new m.found m.set m.listed (after_key ∙ sym k) (m.region ∙ slot-region place m.before m.found) (ap (λ (s : KeyState). s.marks) m.state ∙ kept.1 ∙ slot-marks place m.before m.found) (ap (λ (q : List ℕ). has_slot q self.states) k ∙ opened-there old self key e) in (
+      let its-region = slot-region place m.found in
+      let its-kind = ap (λ (s : KeyState). s.marks) m.state ∙ kept.1 ∙ slot-marks place m.found in
+      let there = ap (λ (q : List ℕ). has_slot q self.states) k ∙ opened-there old self key e in
+      let both = set-there place m.before m.after new m.found m.set m.listed (after_key ∙ sym k) (m.region ∙ its-region) its-kind there in (
         both.0,
-        opened-step old self key step m.after.slot.state m.before.slot.region m.before.slot.state (states_in new order) e kind region (is ∙ ap (state_at self) k) (slot-region place m.before m.found) m.state after_key both.1,
+        opened-step old self key step m.after.slot.state m.before.slot.region m.before.slot.state (states_in new order) e kind region
+            (is ∙ ap (state_at self) k) its-region m.state after_key both.1,
       )
 
   pub step-uses : (place : ℕ) (step : RegionId → KeyState → KeyState) (new : List Entry) → HasMoved place step 1 es new → UsesRoom place self.rooms (rooms_in new)

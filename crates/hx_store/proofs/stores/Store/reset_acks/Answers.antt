@@ -1,21 +1,20 @@
-use Rattle.std.proofs.Common.{List, [], ap, slice_get, subst, vec_capacity}
-use Rattle.hx_types.specs.Words.{when_some}
-use Rattle.hx_store.specs.Invariant.{order_of, rooms_in}
-use Rattle.hx_store.specs.Stores.{KeepsRooms, Room, forgotten_at, key_at}
+use Rattle.hx_store.proofs.Changing.{stepped-rooms, stepped-states, stepped-store}
 use Rattle.hx_store.proofs.Moves.{keeps_forgotten}
-use Rattle.hx_store.proofs.Showing.{step-keeps, step-there}
-use Rattle.hx_store.proofs.Ordering.{keys-moved, late-both, late-states}
 use Rattle.hx_store.proofs.stores.Store.reset_acks.Goals as goal
 
 pub invariant_of-self : goal.invariant_of-self
-invariant_of-self c = late-both c.self.invariant c.reset_at.new.self.entries _ (step-there c.self.inside.region c.self.inside.marks c.self.inside.slots.entries (order_of c.self.inside.slots.entries) (vec_capacity c.self.inside.order) c.ensure_slot.new.self c.self.view_is c.self.invariant.store c.args.self.now c.args.place (forgotten_at) (keeps_forgotten) 0 c.reset_at.new.self.entries c.reset_at.ensures.moved (key_at c.args.self.now c.args.place) (ap (λ (rs : List Room). when_some (slice_get rs c.args.place) [] (λ (r : Room). r.key)) c.ensure_slot.ensures.rooms) c.ensure_slot.ensures.states c.ensure_slot.ensures.marks c.ensure_slot.ensures.region) (keys-moved c.reset_at.ensures.moved)
+invariant_of-self c =
+    let opened = c.ensure_slot.ensures in
+    stepped-store c.self.invariant c.self.view_is c.args.self.now c.reset_at.ensures.moved
+    keeps_forgotten
+    opened.rooms opened.states opened.marks opened.region
 
 pub returns-clause-states : goal.returns-clause-states
 returns-clause-states c =
-    let both = step-there c.self.inside.region c.self.inside.marks c.self.inside.slots.entries (order_of c.self.inside.slots.entries) (vec_capacity c.self.inside.order) c.ensure_slot.new.self c.self.view_is c.self.invariant.store c.args.self.now c.args.place (forgotten_at) (keeps_forgotten) 0 c.reset_at.new.self.entries c.reset_at.ensures.moved (key_at c.args.self.now c.args.place) (ap (λ (rs : List Room). when_some (slice_get rs c.args.place) [] (λ (r : Room). r.key)) c.ensure_slot.ensures.rooms) c.ensure_slot.ensures.states c.ensure_slot.ensures.marks c.ensure_slot.ensures.region in
-    late-states c.self.invariant c.reset_at.new.self.entries _ both.0 both.1
+    let opened = c.ensure_slot.ensures in
+    stepped-states c.self.invariant c.self.view_is c.args.self.now c.reset_at.ensures.moved
+    keeps_forgotten
+    opened.rooms opened.states opened.marks opened.region
 
 pub returns-clause-rooms : goal.returns-clause-rooms
-returns-clause-rooms c =
-    subst (λ (rs : List Room). KeepsRooms rs (rooms_in c.reset_at.new.self.entries)) c.ensure_slot.ensures.rooms
-    (step-keeps c.self.inside.region c.self.inside.marks c.self.inside.slots.entries (order_of c.self.inside.slots.entries) (vec_capacity c.self.inside.order) c.ensure_slot.new.self c.self.view_is c.self.invariant.store c.args.place (forgotten_at) c.reset_at.new.self.entries c.reset_at.ensures.moved)
+returns-clause-rooms c = stepped-rooms c.self.invariant c.self.view_is c.args.self.now c.reset_at.ensures.moved c.ensure_slot.ensures.rooms
