@@ -3,6 +3,7 @@ pub mod Acknowledging
 pub mod Following
 pub mod Entries
 pub mod SlotAt
+pub mod Fresh
 pub mod Sorting
 pub mod Matching
 pub mod Lists

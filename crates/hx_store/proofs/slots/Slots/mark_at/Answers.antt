@@ -26,6 +26,6 @@ returns-clause-moved c =
 
 pub acknowledge-requires : goal.acknowledge-requires
 acknowledge-requires c =
-    let pending = λ (s : StoreSlot). is_pending c.args.version.0 s.slot.state ≡ true in
+    let pending : StoreSlot → Type 0 = λ s. is_pending c.args.version.0 s.slot.state ≡ true in
     let there = stored-within c.args.self.now.entries c.args.place pending c.requires in
     record { pending = holds-of c.self.invariant c.self.view_is c.args.place there pending c.requires c.index_mut.ensures.value }
