@@ -1,7 +1,6 @@
 -- An index that follows the rows of slots: one row changes, and then its place in the index; and the marks of the places that wait for that.
-use Rattle.std.proofs.Common.{◌≡◌, ℕ, zero, suc, ◌+◌, ◌^◌, ◌<◌, ◌≤◌, Bool, true, false, cond, List, [], ◌∷◌, ◌++◌, length, take, inl, inr, is_some, Option, None, Some, get_or, refl, ap, sym, ◌∙◌, subst, arith, eqb}
+use Rattle.std.proofs.Common.{◌≡◌, ℕ, zero, suc, ◌+◌, ◌-◌, ◌^◌, ◌<◌, ◌≤◌, Bool, true, false, cond, List, [], ◌∷◌, ◌++◌, length, take, inl, inr, is_some, Option, None, Some, get_or, refl, ap, sym, ◌∙◌, subst, arith, eqb}
 use Rattle.std.specs.List.{slice_get, slice_set}
-use Rattle.std.specs.Option.{IsSomeAnd}
 use Rattle.std.proofs.lemmas.Bool.{cases_eq, cases_lt, cases_order, cond-true, eq-eqb, false≢true, ne_eqb}
 use Rattle.std.proofs.lemmas.Option.{same_Some, slice_get-get_or}
 use Rattle.hx_model.specs.Types.{Row}
@@ -14,14 +13,6 @@ use Rattle.hx_store.specs.Indexed.{AreIndexed, IndexedState, IsKept, IsKeptAs, I
 -- the item at a place
 pub at-item : {A : Type 0} (xs : List A) (i : ℕ) (x : A) → i < length xs → x ≡ get_or xs i x → slice_get xs i ≡ Some x
 at-item xs i x l e = slice_get-get_or xs i x l ∙ ap (λ y. Some y) (sym e)
-
-pub some-within : {A : Type 0} (P : A → Type 0) (xs : List A) (i : ℕ) → IsSomeAnd (slice_get xs i) P → i < length xs
-some-within P [] i h = absurd h
-some-within P (x ∷ xs) zero h = omega arith
-some-within P (x ∷ xs) (suc i) h = let l = some-within P xs i h in omega (arith, l)
-
-pub some-at : {A : Type 0} (P : A → Type 0) (xs : List A) (i : ℕ) (x : A) → IsSomeAnd (slice_get xs i) P → slice_get xs i ≡ Some x → P x
-some-at P xs i x h e = subst (λ (o : Option _). IsSomeAnd o P) e h
 
 none-of : (o : Option Row) → is_some o ≡ false → o ≡ None
 none-of None e = refl
@@ -185,7 +176,9 @@ self-one : (x : ℕ) → one_if (eqb x x) ≡ 1
 self-one x = ap one_if (eq-eqb x x refl)
 
 -- a place is marked
-pub marked : (index : IndexState) (rows : List (Option Row)) (marks : List Bool) (places : List ℕ) (cap place : ℕ) → AreIndexed index rows marks places cap → place < length marks → is_marked marks place ≡ false → AreIndexed index rows (slice_set marks place true) (places ++ place ∷ []) cap
+pub marked : (index : IndexState) (rows : List (Option Row)) (marks : List Bool) (places : List ℕ) (cap place : ℕ)
+    → AreIndexed index rows marks places cap → place < length marks → is_marked marks place ≡ false
+    → AreIndexed index rows (slice_set marks place true) (places ++ place ∷ []) cap
 marked index rows marks places cap place h l e = record {
   kept = h.kept;
   each_marked = set-length marks place true ∙ h.each_marked;
@@ -211,14 +204,22 @@ marked-room index rows marks places cap place h l e =
     omega (arith, a, r, c, m, z, n, s)
 
 -- a list by its last item
-pub last-split : (xs : List ℕ) (n x : ℕ) → length xs ≡ n + 1 → Some x ≡ slice_get xs n → xs ≡ take n xs ++ x ∷ []
+last-split : (xs : List ℕ) (n x : ℕ) → length xs ≡ n + 1 → Some x ≡ slice_get xs n → xs ≡ take n xs ++ x ∷ []
 last-split [] n x l e = absurd (omega (arith, l))
 last-split (y ∷ []) zero x l e = ap (λ (z : ℕ). z ∷ []) (sym (same_Some x y e))
 last-split (y ∷ z ∷ ys) zero x l e = absurd (omega (arith, l))
 last-split (y ∷ ys) (suc n) x l e = ap (λ (zs : List ℕ). y ∷ zs) (last-split ys n x (omega (arith, l)) e)
 
+-- the places by the one that is read last
+pub last-place : {index : IndexState} {rows : List (Option Row)} {marks : List Bool} {places : List ℕ} {cap : ℕ}
+    → AreIndexed index rows marks places cap → (place : ℕ) → 0 < marked_count marks → Some place ≡ slice_get places (length places - 1)
+    → places ≡ take (length places - 1) places ++ place ∷ []
+last-place {places = places} h place some read =
+    last-split places (length places - 1) place (let all = h.all in omega (arith, some, all)) read
+
 -- the place that was marked last
-module _ (index : IndexState) (rows : List (Option Row)) (marks : List Bool) (places rest : List ℕ) (cap place : ℕ) (h : AreIndexed index rows marks places cap) (last : places ≡ rest ++ place ∷ []) where
+module _ {index : IndexState} {rows : List (Option Row)} {marks : List Bool} {places : List ℕ} {cap : ℕ} (h : AreIndexed index rows marks places cap)
+    (rest : List ℕ) (place : ℕ) (last : places ≡ rest ++ place ∷ []) where
   once : times place rest + 1 ≡ one_if (is_marked marks place)
   once = let t = times-end place rest place in let s = self-one place in let e = h.each place in let q = ap (times place) last in omega (arith, t, s, e, q)
 
@@ -252,7 +253,9 @@ module _ (index : IndexState) (rows : List (Option Row)) (marks : List Bool) (pl
   less-marked = let m = marked-set marks place false (marked-within marks place last-marked) in let z = ap one_if last-marked in omega (arith, m, z)
 
   -- and then it has one slot more by its object
-  pub one-fresh : (slots : List SlotState) (x : IndexedState) (row : Option Row) (new : IndexState) → x.rows ≡ rows → x.stale ≡ marks → IsOf slots x → row ≡ kept_at slots place → IsOf slots (record { index = new; rows = slice_set rows place row; stale = slice_set marks place false })
+  pub one-fresh : (slots : List SlotState) (x : IndexedState) (row : Option Row) (new : IndexState) → x.rows ≡ rows → x.stale ≡ marks
+      → IsOf slots x → row ≡ kept_at slots place
+      → IsOf slots (record { index = new; rows = slice_set rows place row; stale = slice_set marks place false })
   one-fresh slots x row new rs ms of e = record {
     few = of.few;
     fresh = λ i l f. elim (cases_eq i place) [

@@ -10,4 +10,8 @@ pub returns-clause-state : goal.returns-clause-state
 returns-clause-state c =
     let s : KeyState = c.args.slot.now.state in
     let ends = acknowledging c.args.versions.now in
-    c.settle.ensures.state ∙ ap (λ (g : RegionId). folded g (moved_all (settled c.acknowledge_all.new.slot.state) c.acknowledge_all.new.slot.state)) c.acknowledge_all.ensures.region ∙ ap (λ (x : KeyState). folded c.args.slot.now.region (moved_all (settled x) x)) c.acknowledge_all.ensures.state ∙ ap (folded c.args.slot.now.region) (sym (moved_all-++ ends (settled (moved_all ends s)) s))
+    let now = c.acknowledge_all.new.slot.state in
+    c.settle.ensures.state
+    ∙ ap (λ (g : RegionId). folded g (moved_all (settled now) now)) c.acknowledge_all.ensures.region
+    ∙ ap (λ (x : KeyState). folded c.args.slot.now.region (moved_all (settled x) x)) c.acknowledge_all.ensures.state
+    ∙ ap (folded c.args.slot.now.region) (sym (moved_all-++ ends (settled (moved_all ends s)) s))
