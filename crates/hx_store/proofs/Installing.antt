@@ -11,7 +11,7 @@ use Rattle.hx_model.specs.Slots.{KeyState, with_state}
 use Rattle.hx_law_folds.specs.Folding.{KeptsAscend, KeysAscend}
 use Rattle.hx_law_folds.proofs.Lemmas.{from-key}
 use Rattle.hx_slot.specs.States.{SlotState}
-use Rattle.hx_store.specs.Stores.{IsPlace, IsReady, KeepsOtherRooms, KeepsRooms, KeepsRoomsBut, Room, StoreState, has_kept, has_room, is_key_of, key_at, states_of}
+use Rattle.hx_store.specs.Stores.{IsPlace, IsReady, KeepsOtherRooms, KeepsRooms, KeepsRoomsBut, Room, StoreState, has_kept, has_room, is_key_of, states_of}
 use Rattle.hx_store.proofs.Lists.{take_next}
 use Rattle.hx_store.proofs.Reading.{put-last}
 use Rattle.hx_store.proofs.Showing.{kept-others}
@@ -147,7 +147,3 @@ keys-kept marks snapshot xs e = λ j key. (through xs key ∙ ap (λ (ss : List 
     back : (ks : List Kept) (key : List ℕ) → list_any (λ (s : KeyState). same_text s.base.key key) (map (state_from marks) ks) ≡ has_kept ks key
     back [] key = refl
     back (k ∷ ks) key = λ j. same_text (from-key marks k j) key || back ks key j
-
--- a place is of its key once it was opened
-pub opened-key : (old new : StoreState) (place : ℕ) (key : List ℕ) → new.rooms ≡ old.rooms → key_at old place ≡ key → key_at new place ≡ key
-opened-key old new place key e k = ap (λ (rs : List Room). when_some (slice_get rs place) [] (λ (r : Room). r.key)) e ∙ k

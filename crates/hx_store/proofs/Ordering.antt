@@ -219,11 +219,7 @@ module _ {g : RegionId} {marks : Bool} {es : List Entry} {places : List ℕ} {so
   pub each-within : (i : ℕ) → stands_in places i ≡ true → i < length es
   each-within i t = listed-within es i (sym (each-listed es places h.each i) ∙ t)
 
-  -- a step of a slot, said of the places in order
-  pub late-both : (new : List Entry) (wide : ℕ) {X : Type 0} → IsStore g marks new (order_of es) wide × X
-      → ((j : ℕ) → is_listed es j ≡ true → key_in new j ≡ key_in es j) → IsLateStore g marks new places sorted wide
-  late-both new wide both keys = late-kept new wide both.0 keys
-
+  -- their states in the order, which is the same
   pub late-states : (new : List Entry) (wide : ℕ) {X : List KeyState} → IsStore g marks new (order_of es) wide → states_in new (order_of es) ≡ X
       → states_in new (order_of new) ≡ X
   late-states new wide store e = ap (states_in new) (settled store) ∙ e
