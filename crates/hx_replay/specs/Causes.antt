@@ -1,6 +1,7 @@
 -- What made the program end as it did.
 use Rattle.std.specs.Prelude.{◌≡◌, ◌⊎◌, Bool, ℕ, ◌+◌, ◌<◌, ◌≤◌, List, length, Option, Result, Ok, Err, ⊤}
 use Rattle.std.specs.Io.KnownBytes.{Consumes, IsAtEnd}
+use Rattle.hx_types.specs.declared.limits.TheConstants.{LONGEST_SCRIPT}
 use Rattle.hx_io.specs.Causes.{Rose}
 use Rattle.hx_io.specs.Pieces.{ConsumesExactly}
 use Rattle.hx_io.specs.declared.errors.ReadError.{ReadError}
@@ -25,7 +26,7 @@ use Rattle.hx_replay.specs.Texts.{IsRefused, scripted_of}
 
 -- how many bytes a text may have
 abbrev pub limit : ℕ
-limit = 16777216
+limit = LONGEST_SCRIPT
 
 abbrev pub outcome_of_reading : ReadError → Outcome
 outcome_of_reading a_read_error.Memory = an_outcome.Memory

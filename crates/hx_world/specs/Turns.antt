@@ -1,5 +1,6 @@
 -- One entry of one actor: when it may be made, and what it leaves.
 use Rattle.std.specs.Prelude.{◌≡◌, ℕ, ◌<◌, ◌≤◌, true, false, List, ◌∷◌, Bool, Result, Ok, Err, ⊤}
+use Rattle.hx_types.specs.declared.limits.TheConstants.{MOST_ENTRIES}
 use Rattle.hx_model.specs.Types.{Actor, Entry, Input, Script}
 use Rattle.hx_model.specs.Runs.{has_halted, made_of, does_something}
 use Rattle.hx_model.specs.Schedule.{entry_by, is_worn}
@@ -15,12 +16,12 @@ entry_does_something e = does_something e.input (record { posts = e.outputs; not
 -- an actor that has made so many entries may make this one
 pub record IsAdmitted (e : Entry) (entries : ℕ) : Type 0 where
   pub enough : entry_does_something e ≡ true
-  pub fresh : entries < 1048576
+  pub fresh : entries < MOST_ENTRIES
 
 -- its entry is one too many
 pub record IsTooMany (e : Entry) (entries : ℕ) (a : Actor) : Type 0 where
   pub enough : entry_does_something e ≡ true
-  pub many : 1048576 ≤ entries
+  pub many : MOST_ENTRIES ≤ entries
   pub actor : a ≡ e.actor
 
 -- why it may not
