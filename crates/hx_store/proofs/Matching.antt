@@ -236,5 +236,6 @@ module _ {g : RegionId} {marks : Bool} {es : List Entry} {order : List ℕ} {cap
     store-most = looks-most g marks es h.each order h.listed (are-there h) ascends index_state is terms
 
     pub store-least : 0 < length index_state.orders
-        → index.least_run index_state (rows_in es) (count_of index_state) terms ≡ least_looks_at (length index_state.orders) (rows_of g (states_in es order)) terms
+        → index.least_run index_state (rows_in es) (count_of index_state) terms
+        ≡ least_looks_at (length index_state.orders) (rows_of g (states_in es order)) terms
     store-least l = looks-least g marks es h.each order h.listed (are-there h) ascends index_state is terms l

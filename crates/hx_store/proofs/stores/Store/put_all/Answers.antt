@@ -29,12 +29,15 @@ places-preserved c =
     let inv = c.places.invariant in
     let ready = subst (AllByRecursion (IsReady before)) c.in-Some.ensures.items inv.ready in
     let keys = subst (AllByRecursion (λ (y : SlotState). is_key_of c.args.slots.items y.state.base.key ≡ true)) c.in-Some.ensures.items inv.keys in
+    let all = states_of c.args.slots.items in
+    let free = is_key_of c.args.slots.items in
+    let states = ap (λ (xs : List SlotState). before.states ++ states_of xs) (sym c.in-Some.ensures.items) ∙ inv.states in
     record {
       region = c.put_ready.ensures.region ∙ inv.region;
       marks = c.put_ready.ensures.marks ∙ inv.marks;
       attributes = c.put_ready.ensures.attributes ∙ inv.attributes;
-      states = put-next (states_of c.args.slots.items) before.states now.states (states_of left) x.state c.requires.ascend (ap (λ (xs : List SlotState). before.states ++ states_of xs) (sym c.in-Some.ensures.items) ∙ inv.states) c.put_ready.ensures.states;
+      states = put-next all before.states now.states (states_of left) x.state c.requires.ascend states c.put_ready.ensures.states;
       ready = ready-others before now x.state.base.key left c.put_ready.ensures.region c.put_ready.ensures.marks c.put_ready.ensures.others ready.1;
       keys = keys.1;
-      others = but-next (is_key_of c.args.slots.items) x.state.base.key c.args.self.now.rooms before.rooms now.rooms keys.0 inv.others c.put_ready.ensures.others;
+      others = but-next free x.state.base.key c.args.self.now.rooms before.rooms now.rooms keys.0 inv.others c.put_ready.ensures.others;
     }

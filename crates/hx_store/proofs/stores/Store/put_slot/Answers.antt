@@ -15,4 +15,7 @@ pub returns-in_err-give_place-clause-others : goal.returns-in_err-give_place-cla
 returns-in_err-give_place-clause-others c = kept-others c.args.slot.state.base.key c.args.self.now.rooms c.give_place.new.self.rooms c.give_place.ensures.rooms
 
 pub returns-clause-others : goal.returns-clause-others
-returns-clause-others c = others-kept c.args.slot.state.base.key c.args.self.now.rooms c.give_place.new.self.rooms c.put_ready.new.self.rooms c.give_place.ensures.rooms c.put_ready.ensures.others
+returns-clause-others c =
+    let key = c.args.slot.state.base.key in
+    let given = c.give_place.new.self in
+    others-kept key c.args.self.now.rooms given.rooms c.put_ready.new.self.rooms c.give_place.ensures.rooms c.put_ready.ensures.others

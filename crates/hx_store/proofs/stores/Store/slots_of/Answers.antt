@@ -20,13 +20,19 @@ loop-kept-init c = record {
 }
 
 pub returns-in_err-give_place-clause-rooms : goal.returns-in_err-give_place-clause-rooms
-returns-in_err-give_place-clause-rooms c = keeps-trans c.args.self.now.rooms c.loop-kept.self.rooms c.give_place.new.self.rooms c.loop-kept.invariant.rooms c.give_place.ensures.rooms
+returns-in_err-give_place-clause-rooms c =
+    let before = c.loop-kept in
+    keeps-trans c.args.self.now.rooms before.self.rooms c.give_place.new.self.rooms before.invariant.rooms c.give_place.ensures.rooms
 
 pub returns-in_err-copy-clause-rooms : goal.returns-in_err-copy-clause-rooms
-returns-in_err-copy-clause-rooms c = keeps-trans c.args.self.now.rooms c.loop-kept.self.rooms c.give_place.new.self.rooms c.loop-kept.invariant.rooms c.give_place.ensures.rooms
+returns-in_err-copy-clause-rooms c =
+    let before = c.loop-kept in
+    keeps-trans c.args.self.now.rooms before.self.rooms c.give_place.new.self.rooms before.invariant.rooms c.give_place.ensures.rooms
 
 pub returns-in_err-push_back-clause-rooms : goal.returns-in_err-push_back-clause-rooms
-returns-in_err-push_back-clause-rooms c = keeps-trans c.args.self.now.rooms c.loop-kept.self.rooms c.give_place.new.self.rooms c.loop-kept.invariant.rooms c.give_place.ensures.rooms
+returns-in_err-push_back-clause-rooms c =
+    let before = c.loop-kept in
+    keeps-trans c.args.self.now.rooms before.self.rooms c.give_place.new.self.rooms before.invariant.rooms c.give_place.ensures.rooms
 
 pub loop-kept-preserved : goal.loop-kept-preserved
 loop-kept-preserved c =
@@ -40,17 +46,24 @@ loop-kept-preserved c =
     (slice_get-get_or items c.loop-kept.kept-index k c.loop-kept-test.true ∙ ap (λ (x : Kept). Some x) (sym c.kept-item.is))
     in
     let kind = ap (λ (s : StoreState). s.marks) c.self.view_is in
-    let state : c.of_kept-slot.result.state ≡ state_from c.args.self.now.marks k = c.of_kept-slot.ensures.state ∙ (λ j. state_from ((kind ∙ marks) j) (c.in_ok-copy.ensures j)) in
+    let x = c.of_kept-slot.result in
+    let state : x.state ≡ state_from c.args.self.now.marks k =
+    c.of_kept-slot.ensures.state ∙ (λ j. state_from ((kind ∙ marks) j) (c.in_ok-copy.ensures j)) in
+    let region = c.of_kept-slot.ensures.region ∙ ap (λ (s : StoreState). s.region) c.self.view_is in
+    let given = c.give_place.ensures in
     let pushed = c.in_ok-push_back.ensures.items in
-    let ready = ready-push now c.loop-kept.slots.items c.of_kept-slot.result
-    (ready-kept before now c.loop-kept.slots.items c.give_place.ensures.region c.give_place.ensures.marks c.give_place.ensures.rooms c.loop-kept.invariant.ready)
-    (kept-ready now c.args.self.now.marks k c.of_kept-slot.result _ (c.of_kept-slot.ensures.region ∙ ap (λ (s : StoreState). s.region) c.self.view_is) (sym marks) state c.in_ok-give_place.ensures.place) in
+    let kept = ready-kept before now c.loop-kept.slots.items given.region given.marks given.rooms c.loop-kept.invariant.ready in
+    let own = kept-ready now c.args.self.now.marks k x _ region (sym marks) state c.in_ok-give_place.ensures.place in
+    let ready = ready-push now c.loop-kept.slots.items x kept own in
+    let made =
+    made-next c.args.self.now.marks c.args.snapshot.now c.loop-kept.kept-index k c.loop-kept.slots.items x at c.loop-kept.invariant.made state
+    in
     record {
       region = c.give_place.ensures.region ∙ c.loop-kept.invariant.region;
       marks = marks;
       attributes = c.give_place.ensures.attributes ∙ c.loop-kept.invariant.attributes;
       states = c.give_place.ensures.states ∙ c.loop-kept.invariant.states;
       rooms = keeps-trans c.args.self.now.rooms before.rooms now.rooms c.loop-kept.invariant.rooms c.give_place.ensures.rooms;
-      made = ap states_of pushed ∙ made-next c.args.self.now.marks c.args.snapshot.now c.loop-kept.kept-index k c.loop-kept.slots.items c.of_kept-slot.result at c.loop-kept.invariant.made state;
+      made = ap states_of pushed ∙ made;
       ready = subst (AllByRecursion (IsReady now)) (sym pushed) ready;
     }
