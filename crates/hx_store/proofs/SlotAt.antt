@@ -1,6 +1,7 @@
 -- What is stored against what contracts see, at a place above all: `kept` is what holds of the
 -- keys, prefixes, slots and index behind a contract, and `view` what is seen of them.
-use Rattle.std.proofs.Common.{◌≡◌, ℕ, zero, suc, ◌+◌, ◌<◌, ◌≤◌, Bool, true, false, List, [], ◌∷◌, length, get_or, is_some, Option, None, Some, refl, ap, sym, ◌∙◌, subst, arith}
+use Rattle.std.proofs.Common.{◌≡◌, ℕ, zero, suc, ◌+◌, ◌<◌, ◌≤◌, Bool, true, false, List, []}
+use Rattle.std.proofs.Common.{◌∷◌, length, get_or, is_some, Option, None, Some, refl, ap, sym, ◌∙◌, subst, arith}
 use Rattle.std.specs.List.{list_any, slice_get, slice_set}
 use Rattle.std.specs.Map.{keys_of, lookup}
 use Rattle.std.specs.Option.{IsSomeAnd}
@@ -13,7 +14,8 @@ use Rattle.hx_slot.specs.States.{SlotState}
 use Rattle.hx_store.specs.Indexed.{IndexedState}
 use Rattle.hx_store.specs.Invariant.{HasMoved, is_listed, key_in, stored_at}
 use Rattle.hx_store.specs.Slots.{AreSlots, Entry, SlotsState, StoreSlot, entries_of}
-use Rattle.hx_store.proofs.Entries.{are-set, entries-length, key-at, key-listed, keys-of, listed-at, looked-up, moved-of, set-stale, slot-set, stored-is, stored-set-is}
+use Rattle.hx_store.proofs.Entries.{are-set, entries-length, key-at, key-listed, keys-of, listed-at}
+use Rattle.hx_store.proofs.Entries.{looked-up, moved-of, set-stale, slot-set, stored-is, stored-set-is}
 use Rattle.hx_store.proofs.Finding.{none-lookup}
 use Rattle.hx_store.proofs.Following.{at-item}
 use Rattle.hx_store.proofs.Lists.{at-within}
