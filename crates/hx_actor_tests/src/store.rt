@@ -11,9 +11,9 @@ use std::alloc::Global;
 use std::process::Abort;
 
 /// A store of which nothing was heard, of a space with a text and a number from 0 to 999.
-fn empty(rt: &impl Abort, alloc: Global, marks: bool) -> Store
+fn empty(rt: &impl Abort, alloc: Global, keeps_marks: bool) -> Store
     ensures region { result.region ≡ record { 0 = 3 } }
-    ensures marks { result.marks ≡ marks }
+    ensures marks { result.keeps_marks ≡ keeps_marks }
     ensures empty { result.states ≡ [] }
 {
     let word = Attribute {
@@ -33,7 +33,7 @@ fn empty(rt: &impl Abort, alloc: Global, marks: bool) -> Store
         servers: 1,
         tolerate: 0,
     };
-    let store = Store::new(alloc, &space, RegionId(3), marks);
+    let store = Store::new(alloc, &space, RegionId(3), keeps_marks);
     drop(space);
     store.expect(rt, "no memory")
 }
@@ -109,9 +109,9 @@ fn keys_stand_in_byte_order(rt: HostRuntime) {
 /// Puts an object of version 1 with this number at a key of a store.
 fn put(rt: &impl Abort, alloc: Global, store: &mut Store, key: &str, number: i64)
     requires region { store.old.region ≡ record { 0 = 3 } }
-    requires marks { store.old.marks ≡ false }
+    requires marks { store.old.keeps_marks ≡ false }
     ensures region { store.new.region ≡ record { 0 = 3 } }
-    ensures marks { store.new.marks ≡ false }
+    ensures marks { store.new.keeps_marks ≡ false }
 {
     let row = Row {
         key: text(rt, alloc, key),
@@ -132,7 +132,7 @@ fn put(rt: &impl Abort, alloc: Global, store: &mut Store, key: &str, number: i64
 /// A store of the numbers 0 to 999, at the keys "k0" to "k999".
 fn put_thousand(rt: &impl Abort, alloc: Global, store: &mut Store)
     requires region { store.old.region ≡ record { 0 = 3 } }
-    requires marks { store.old.marks ≡ false }
+    requires marks { store.old.keeps_marks ≡ false }
 {
     for number in 0..1000 {
         let key = format!(in alloc; "k{number}").expect(rt, "no memory");

@@ -111,12 +111,12 @@ module _ (space : Space) (rs : List Replica) (place : ℕ) (y : Replica) (store 
   held = subst (IsReplicaIn space) (sym is) (replica_at space rs place y are.each within)
 
   -- a store of the same kind
-  pub stays : store.region ≡ y.store.region → store.marks ≡ y.store.marks → AllByRecursion (λ (t : KeyState). t.marks ≡ is_key_region space y.region) store.states → AreReplicas space (set rs place put)
+  pub stays : store.region ≡ y.store.region → store.keeps_marks ≡ y.store.keeps_marks → AllByRecursion (λ (t : KeyState). t.marks ≡ is_key_region space y.region) store.states → AreReplicas space (set rs place put)
   stays region marks marked =
       set_replicas space rs place put are (record { region = region ∙ held.region; marks = marks ∙ held.marks; marked = marked }) (ap (λ (r : Replica). r.region) here)
 
   -- one with the same slots
-  pub reserved : store.region ≡ y.store.region → store.marks ≡ y.store.marks → store.states ≡ y.store.states → AreReplicas space (set rs place put)
+  pub reserved : store.region ≡ y.store.region → store.keeps_marks ≡ y.store.keeps_marks → store.states ≡ y.store.states → AreReplicas space (set rs place put)
   reserved region marks states =
       stays region marks (subst (AllByRecursion (λ (t : KeyState). t.marks ≡ is_key_region space y.region)) (sym states) held.marked)
 
@@ -140,7 +140,7 @@ module _ (space : Space) (rs : List Replica) (place : ℕ) (y : Replica) (store 
       subst (AllByRecursion (λ (t : KeyState). t.marks ≡ b)) (sym states)
       (with_marked b (stepped change y.store.region s) y.store.states (stepped_marks change y.store.region s ∙ kept) held.marked)
 
-  pub changed : (key : List ℕ) (change : SlotChange) → store.region ≡ y.store.region → store.marks ≡ y.store.marks → store.states ≡ after_step y.store key (stepped change) → AreReplicas space (set rs place put)
+  pub changed : (key : List ℕ) (change : SlotChange) → store.region ≡ y.store.region → store.keeps_marks ≡ y.store.keeps_marks → store.states ≡ after_step y.store key (stepped change) → AreReplicas space (set rs place put)
   changed key change region marks states = stays region marks (moved_marked key change states)
 
   pub changed_views : (key : List ℕ) (change : SlotChange) (r : ReplicaState) → slice_get (views_of rs) place ≡ Some r

@@ -32,7 +32,7 @@ use Rattle.hx_replica.proofs.Planning.{found_there}
 pub marked_inside : (i : Inside) (v : ServerValue) → value_of i ≡ v → IsServer i → AreMarked v
 marked_inside i v seen is = subst AreMarked seen (λ place r e.
     let rs = i.replicas.items in
-    let d : Replica = record { region = r.region; installed = r.installed; store = record { region = r.region; marks = is_key_region i.space r.region; attributes = 0; states = []; rooms = []; ordered = true } } in
+    let d : Replica = record { region = r.region; installed = r.installed; store = record { region = r.region; keeps_marks = is_key_region i.space r.region; attributes = 0; states = []; rooms = []; ordered = true } } in
     subst (λ (z : ReplicaState). AllByRecursion (λ (t : KeyState). t.marks ≡ is_key_region i.space z.region) z.states) (view_at rs place d r e)
     (replica_at i.space rs place d is.replicas_are.each (below_views rs place r e)).marked)
 
@@ -174,7 +174,7 @@ pub record IsHere (i : Inside) (v : ServerValue) (g : RegionId) (y : Replica) : 
   pub found : replica_of g v.state.replicas ≡ Some (view_of y)
   pub region : y.store.region ≡ g
   pub state : (key : List ℕ) → state_at y.store key ≡ state_in v.space (view_of y) key
-  pub empty : (key : List ℕ) → new_state y.store.marks key ≡ new_state (is_key_region v.space g) key
+  pub empty : (key : List ℕ) → new_state y.store.keeps_marks key ≡ new_state (is_key_region v.space g) key
 
 pub is_here : (i : Inside) (v : ServerValue) (g : RegionId) (place : ℕ) (y : Replica) → value_of i ≡ v → IsServer i → y ≡ get_or i.replicas.items place y
     → Some (slice_get (views_of i.replicas.items) place) ≡ option_map (λ (r : ReplicaState). Some r) (replica_of g (views_of i.replicas.items)) → IsHere i v g y
@@ -186,7 +186,7 @@ is_here i v g place y seen is at found =
     let holds : IsReplicaIn i.space y = subst (IsReplicaIn i.space) (sym at) (replica_at i.space rs place y is.replicas_are.each l) in
     let region : y.region ≡ g = ap (λ (r : ReplicaState). r.region) same ∙ found_region g (views_of rs) there.replica there.is in
     let space : i.space ≡ v.space = ap (λ (x : ServerValue). x.space) seen in
-    let marks : y.store.marks ≡ is_key_region v.space y.region = holds.marks ∙ ap (λ (x : Space). is_key_region x y.region) space in
+    let marks : y.store.keeps_marks ≡ is_key_region v.space y.region = holds.marks ∙ ap (λ (x : Space). is_key_region x y.region) space in
     record {
       found = ap (λ (x : ServerValue). replica_of g x.state.replicas) (sym seen) ∙ there.is ∙ ap (λ (r : ReplicaState). Some r) (sym same);
       region = holds.region ∙ region;

@@ -85,7 +85,7 @@ slot_there s place i at = by s.states i at
     by (x ∷ xs) zero e =
         let key = key_at s place in
         ap (λ (t : KeyState). same_text t.base.key key || has_slot key xs) (same_Some x (state_at s key) e)
-        ∙ ap (λ (k : List ℕ). same_text k key || has_slot key xs) (state_key s.marks key s.states)
+        ∙ ap (λ (k : List ℕ). same_text k key || has_slot key xs) (state_key s.keeps_marks key s.states)
         ∙ ap (λ b. b || has_slot key xs) (same_text_self key)
     by (x ∷ xs) (suc i) e = or (same_text x.base.key (key_at s place)) (has_slot (key_at s place) xs) (by xs i e)
 
@@ -239,7 +239,7 @@ module _ (space : Space) (config : Config) (server : ServerId) (g : RegionId) (y
       ap (λ (l : List KeyState). record { region = y.region; installed = y.installed; states = l })
       (states ∙ ap (λ (x : RegionId). map (lean_adopted (here x) active) y.store.states) (sym e) ∙ ap (λ b. map (lean_adopted (here y.region) b) y.store.states) a)
 
-  pub adopted_is : IsReplicaIn space y → store.region ≡ y.store.region → store.marks ≡ y.store.marks → store.states ≡ map (lean_adopted (context_at space config server g) active) y.store.states → IsReplicaIn space adopted
+  pub adopted_is : IsReplicaIn space y → store.region ≡ y.store.region → store.keeps_marks ≡ y.store.keeps_marks → store.states ≡ map (lean_adopted (context_at space config server g) active) y.store.states → IsReplicaIn space adopted
   adopted_is is region marks states = record {
     region = region ∙ is.region;
     marks = marks ∙ is.marks;

@@ -136,7 +136,7 @@ module _ (v : ServerValue) (from : Actor) (g : RegionId) (snapshot : List Kept) 
     join_posts old new out p = p ∙ append_assoc old slots.posts (ready_post s g) ∙ ap (λ (t : ServerStep). old ++ t.posts) (sym (join_step out))
 
     pub join_change : (store : StoreState) (boxed : Box Replica Global) → folded_server v.state ≡ v.state → y.installed ≡ false → store.region ≡ g
-        → store.marks ≡ is_key_region v.space g → store.states ≡ map (folded g) slots.states
+        → store.keeps_marks ≡ is_key_region v.space g → store.states ≡ map (folded g) slots.states
         → boxed.value ≡ record { region = g; installed = true; store = store } → IsChange v step.state (a_change.Join number boxed)
     join_change store boxed bare out region marks states held =
         let new : ReplicaState = record { region = g; installed = true; states = slots.states } in

@@ -65,7 +65,7 @@ AscendByRegion rs = IsAscending (map (λ (r : Replica). r.region.0) rs)
 -- the slots are those of the replica's region, and keep marks at a key region
 pub record IsReplicaIn (space : Space) (r : Replica) : Type 0 where
   pub region : r.store.region ≡ r.region
-  pub marks : r.store.marks ≡ is_key_region space r.region
+  pub marks : r.store.keeps_marks ≡ is_key_region space r.region
   pub marked : AllByRecursion (λ (t : KeyState). t.marks ≡ is_key_region space r.region) r.store.states
 
 pub record AreReplicas (space : Space) (rs : List Replica) : Type 0 where
@@ -74,8 +74,8 @@ pub record AreReplicas (space : Space) (rs : List Replica) : Type 0 where
 
 -- a replica at the start
 abbrev pub first_replica : Space → RegionId → Replica
-first_replica space g = record { region = g; installed = true; store = record { region = g; marks = is_key_region space g; attributes = length space.attributes + 1; states = []; rooms = []; ordered = true } }
+first_replica space g = record { region = g; installed = true; store = record { region = g; keeps_marks = is_key_region space g; attributes = length space.attributes + 1; states = []; rooms = []; ordered = true } }
 
 -- a new replica: empty, and not installed
 abbrev pub new_replica : Space → RegionId → Replica
-new_replica space g = record { region = g; installed = false; store = record { region = g; marks = is_key_region space g; attributes = length space.attributes + 1; states = []; rooms = []; ordered = true } }
+new_replica space g = record { region = g; installed = false; store = record { region = g; keeps_marks = is_key_region space g; attributes = length space.attributes + 1; states = []; rooms = []; ordered = true } }

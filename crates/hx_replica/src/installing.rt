@@ -36,12 +36,12 @@ pub fn installed(
     requires orderly { All IsOrderly snapshot.now }
     requires pending { All (CanCome context.now.region) pending.now }
     ensures region { IfOk result (λ store. store.region ≡ context.now.region) }
-    ensures marks { IfOk result (λ store. store.marks ≡ is_key_region context.now.space.now context.now.region) }
+    ensures marks { IfOk result (λ store. store.keeps_marks ≡ is_key_region context.now.space.now context.now.region) }
     ensures states { IfOk result (λ store. store.states ≡ map (folded context.now.region) (installed_slots (context_seen context.now) snapshot.now pending.now).states) }
     ensures posts { OnOk result (posts.new ≡ (posts.old ++ (installed_slots (context_seen context.now) snapshot.now pending.now).posts) ++ ready_post (standing context.now.config.now context.now.server) context.now.region) }
 {
-    let marks = context.region.0 < context.space.key_parts;
-    let Ok(mut store) = Store::new(alloc, context.space, context.region, marks) else {
+    let keeps_marks = context.region.0 < context.space.key_parts;
+    let Ok(mut store) = Store::new(alloc, context.space, context.region, keeps_marks) else {
         return Err(Memory);
     };
     install_all(alloc, context, snapshot, pending, &mut store, posts)?;
@@ -59,13 +59,13 @@ fn install_all(
     posts: &mut Posts,
 ) -> Result<(), Memory>
     requires region { store.old.region ≡ context.now.region }
-    requires marks { store.old.marks ≡ is_key_region context.now.space.now context.now.region }
+    requires marks { store.old.keeps_marks ≡ is_key_region context.now.space.now context.now.region }
     requires empty { store.old.states ≡ [] }
     requires ascend { KeptsAscend snapshot.now }
     requires orderly { All IsOrderly snapshot.now }
     requires pending { All (CanCome context.now.region) pending.now }
     ensures region { store.new.region ≡ store.old.region }
-    ensures marks { store.new.marks ≡ store.old.marks }
+    ensures marks { store.new.keeps_marks ≡ store.old.keeps_marks }
     ensures states { OnOk result (store.new.states ≡ map (folded context.now.region) (installed_slots (context_seen context.now) snapshot.now pending.now).states) }
     ensures posts { OnOk result (posts.new ≡ (posts.old ++ (installed_slots (context_seen context.now) snapshot.now pending.now).posts) ++ ready_post (standing context.now.config.now context.now.server) context.now.region) }
 {
@@ -85,13 +85,13 @@ fn join_all(
     posts: &mut Posts,
 ) -> Result<(), Memory>
     requires region { store.old.region ≡ context.now.region }
-    requires marks { store.old.marks ≡ is_key_region context.now.space.now context.now.region }
+    requires marks { store.old.keeps_marks ≡ is_key_region context.now.space.now context.now.region }
     requires fresh { AllByRecursion (IsFresh context.now.region) store.old.states }
     requires kinds { AllByRecursion (λ (t : KeyState). t.marks ≡ is_key_region context.now.space.now context.now.region) store.old.states }
     requires keys { TextsAscend (texts keys.now) }
     requires pending { All (CanCome context.now.region) pending.now }
     ensures region { store.new.region ≡ store.old.region }
-    ensures marks { store.new.marks ≡ store.old.marks }
+    ensures marks { store.new.keeps_marks ≡ store.old.keeps_marks }
     ensures states { OnOk result (store.new.states ≡ map (folded context.now.region) (joined_slots (context_seen context.now) pending.now store.old.states (texts keys.now)).states) }
     ensures posts { OnOk result (posts.new ≡ posts.old ++ (joined_slots (context_seen context.now) pending.now store.old.states (texts keys.now)).posts) }
 {
@@ -109,15 +109,15 @@ fn join_all(
 /// acknowledgements nor early updates.
 fn slot_of(alloc: Global, context: &SlotContext, store: &Store, key: &Text) -> Result<Slot, Memory>
     requires region { store.now.region ≡ context.now.region }
-    requires marks { store.now.marks ≡ is_key_region context.now.space.now context.now.region }
+    requires marks { store.now.keeps_marks ≡ is_key_region context.now.space.now context.now.region }
     ensures region { IfOk result (λ slot. slot.region ≡ context.now.region) }
     ensures state { IfOk result (λ slot. slot.state ≡ moved Forget (state_at store.now key.now)) }
 {
     match store.slot(key) {
         Some(slot) => slot.renewed(alloc),
         None => {
-            let marks = context.region.0 < context.space.key_parts;
-            Ok(Slot::new(alloc, context.region, key.copy(alloc)?, marks))
+            let keeps_marks = context.region.0 < context.space.key_parts;
+            Ok(Slot::new(alloc, context.region, key.copy(alloc)?, keeps_marks))
         }
     }
 }

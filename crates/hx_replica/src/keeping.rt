@@ -86,7 +86,7 @@ fn adopt_replica(context: &SlotContext, replica: &mut Replica)
 fn adopt_slots(context: &SlotContext, store: &mut Store, active: bool)
     requires { store.old.region ≡ context.now.region }
     ensures region { store.new.region ≡ store.old.region }
-    ensures marks { store.new.marks ≡ store.old.marks }
+    ensures marks { store.new.keeps_marks ≡ store.old.keeps_marks }
     ensures states { store.new.states ≡ map (lean_adopted (context_seen context.now) active) store.old.states }
     ensures rooms { KeepsRooms store.old.rooms store.new.rooms }
 {
@@ -104,7 +104,7 @@ fn adopt_slot(context: &SlotContext, store: &mut Store, i: usize, active: bool)
     requires number { i < length store.old.states }
     requires ordered { store.old.ordered ≡ true }
     ensures region { store.new.region ≡ store.old.region }
-    ensures marks { store.new.marks ≡ store.old.marks }
+    ensures marks { store.new.keeps_marks ≡ store.old.keeps_marks }
     ensures states { store.new.states ≡ changed_at (lean_adopted (context_seen context.now) active) i store.old.states }
     ensures rooms { KeepsRooms store.old.rooms store.new.rooms }
     ensures ordered { store.new.ordered ≡ true }
@@ -121,7 +121,7 @@ fn reset_acks(store: &mut Store, i: usize)
     requires number { i < length store.old.states }
     requires ordered { store.old.ordered ≡ true }
     ensures region { store.new.region ≡ store.old.region }
-    ensures marks { store.new.marks ≡ store.old.marks }
+    ensures marks { store.new.keeps_marks ≡ store.old.keeps_marks }
     ensures states { store.new.states ≡ changed_at (moved Forget) i store.old.states }
     ensures rooms { KeepsRooms store.old.rooms store.new.rooms }
     ensures ordered { store.new.ordered ≡ true }
@@ -135,7 +135,7 @@ fn settle(store: &mut Store, i: usize)
     requires number { i < length store.old.states }
     requires ordered { store.old.ordered ≡ true }
     ensures region { store.new.region ≡ store.old.region }
-    ensures marks { store.new.marks ≡ store.old.marks }
+    ensures marks { store.new.keeps_marks ≡ store.old.keeps_marks }
     ensures states { store.new.states ≡ changed_at (settled_at store.old.region) i store.old.states }
     ensures rooms { KeepsRooms store.old.rooms store.new.rooms }
     ensures ordered { store.new.ordered ≡ true }
@@ -150,7 +150,7 @@ fn mark_ends(context: &SlotContext, store: &mut Store, i: usize)
     requires number { i < length store.old.states }
     requires ordered { store.old.ordered ≡ true }
     ensures region { store.new.region ≡ store.old.region }
-    ensures marks { store.new.marks ≡ store.old.marks }
+    ensures marks { store.new.keeps_marks ≡ store.old.keeps_marks }
     ensures states { store.new.states ≡ changed_at (λ (s : KeyState). moved_all (tail_acks (context_seen context.now) (pending_of s)) s) i store.old.states }
     ensures rooms { KeepsRooms store.old.rooms store.new.rooms }
     ensures ordered { store.new.ordered ≡ true }
@@ -179,7 +179,7 @@ fn mark_end(context: &SlotContext, store: &mut Store, i: usize, k: u32)
     requires number { i < length store.old.states }
     requires ordered { store.old.ordered ≡ true }
     ensures region { store.new.region ≡ store.old.region }
-    ensures marks { store.new.marks ≡ store.old.marks }
+    ensures marks { store.new.keeps_marks ≡ store.old.keeps_marks }
     ensures states { store.new.states ≡ changed_at (marked_end (context_seen context.now) k) i store.old.states }
     ensures rooms { KeepsRooms store.old.rooms store.new.rooms }
     ensures ordered { store.new.ordered ≡ true }
@@ -212,7 +212,7 @@ fn mark_acknowledged(store: &mut Store, i: usize, version: Version)
     requires pending { IsPendingAt i version store.old.states }
     requires ordered { store.old.ordered ≡ true }
     ensures region { store.new.region ≡ store.old.region }
-    ensures marks { store.new.marks ≡ store.old.marks }
+    ensures marks { store.new.keeps_marks ≡ store.old.keeps_marks }
     ensures states { store.new.states ≡ changed_at (moved (Acknowledge version.0)) i store.old.states }
     ensures rooms { KeepsRooms store.old.rooms store.new.rooms }
     ensures ordered { store.new.ordered ≡ true }

@@ -133,7 +133,7 @@ pub fn change_slot(store: &mut Store, place: usize, change: SlotChange)
     requires room { HasRoomFor (key_at store.old place) (room_of change) place store.old.rooms }
     requires fits { ChangeFits store.old.region (state_at store.old (key_at store.old place)) (key_at store.old place) change }
     ensures region { store.new.region ≡ store.old.region }
-    ensures marks { store.new.marks ≡ store.old.marks }
+    ensures marks { store.new.keeps_marks ≡ store.old.keeps_marks }
     ensures states { store.new.states ≡ after_step store.old (key_at store.old place) (stepped change) }
     ensures rooms { UsesRoom place store.old.rooms store.new.rooms }
 {

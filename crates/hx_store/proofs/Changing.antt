@@ -42,7 +42,7 @@ module _ {g : RegionId} {marks : Bool} {es : List Entry} {places : List ℕ} {so
   -- it has made a step, where it was opened before
   module _ (old : StoreState) {place fall : ℕ} {step : RegionId → KeyState → KeyState} {new : List Entry} (m : HasMoved place step fall es new)
       (keeps : StepKeeps step) (rooms : self.rooms ≡ old.rooms) (states : self.states ≡ after_step old (key_at old place) no_moves)
-      (kind : self.marks ≡ old.marks) (region : self.region ≡ old.region) where
+      (kind : self.keeps_marks ≡ old.keeps_marks) (region : self.region ≡ old.region) where
     stepped : IsStore g marks new (order_of es) cap × (states_in new (order_of es) ≡ after_step old (key_at old place) step)
     stepped = step-there h.store view old place step keeps fall new m (key_at old place) (same-key old self place rooms) states kind region
 
@@ -64,7 +64,7 @@ module _ {g : RegionId} {marks : Bool} {es : List Entry} {places : List ℕ} {so
 
   -- a slot at a place of the old store was opened
   module _ (old : StoreState) (place : ℕ) (rooms : self.rooms ≡ old.rooms) (states : self.states ≡ after_step old (key_at old place) no_moves)
-      (kind : self.marks ≡ old.marks) (region : self.region ≡ old.region) where
+      (kind : self.keeps_marks ≡ old.keeps_marks) (region : self.region ≡ old.region) where
     -- what held of it before still does
     pub opened-holds : (P : RegionId → KeyState → Type 0) → place < length old.rooms → P old.region (state_at old (key_at old place))
         → IsSomeAnd (stored_at es place) (λ (w : StoreSlot). P w.slot.region w.slot.state)
@@ -83,7 +83,7 @@ module _ {g : RegionId} {marks : Bool} {es : List Entry} {places : List ℕ} {so
       abbrev after : StoreSlot
       after = record r.before { slot = slot }
 
-      module _ (its-region : slot.region ≡ old.region) (its-kind : slot.state.marks ≡ old.marks) where
+      module _ (its-region : slot.region ≡ old.region) (its-kind : slot.state.marks ≡ old.keeps_marks) where
         put : IsStore g marks new (order_of es) cap × (with_state slot.state self.states ≡ states_in new (order_of es))
         put =
             set-there h.store view place r.before after new r.found r.set refl (sym same) (its-region ∙ sym region) (its-kind ∙ sym kind)

@@ -38,14 +38,14 @@ pub place-has : (s : StoreState) (place : ℕ) (key : List ℕ) → IsPlace s pl
 place-has s place key h = at-has key s.rooms place h.within h.key_is
 
 -- slots that are ready stay so
-pub ready-others : (s t : StoreState) (free : List ℕ) (xs : List SlotState) → t.region ≡ s.region → t.marks ≡ s.marks → KeepsOtherRooms free s.rooms t.rooms → AllByRecursion (IsReady s) xs → AllByRecursion (IsReady t) xs
+pub ready-others : (s t : StoreState) (free : List ℕ) (xs : List SlotState) → t.region ≡ s.region → t.keeps_marks ≡ s.keeps_marks → KeepsOtherRooms free s.rooms t.rooms → AllByRecursion (IsReady s) xs → AllByRecursion (IsReady t) xs
 ready-others s t free [] g m k h = tt
 ready-others s t free (x ∷ xs) g m k h = (
   record { region = h.0.region ∙ sym g; marks = h.0.marks ∙ sym m; place = has-others free x.state.base.key s.rooms t.rooms k h.0.place },
   ready-others s t free xs g m k h.1,
 )
 
-pub ready-kept : (s t : StoreState) (xs : List SlotState) → t.region ≡ s.region → t.marks ≡ s.marks → KeepsRooms s.rooms t.rooms → AllByRecursion (IsReady s) xs → AllByRecursion (IsReady t) xs
+pub ready-kept : (s t : StoreState) (xs : List SlotState) → t.region ≡ s.region → t.keeps_marks ≡ s.keeps_marks → KeepsRooms s.rooms t.rooms → AllByRecursion (IsReady s) xs → AllByRecursion (IsReady t) xs
 ready-kept s t xs g m k = ready-others s t [] xs g m (kept-others [] s.rooms t.rooms k)
 
 pub ready-push : (s : StoreState) (xs : List SlotState) (x : SlotState) → AllByRecursion (IsReady s) xs → IsReady s x → AllByRecursion (IsReady s) (xs ++ x ∷ [])
@@ -57,7 +57,7 @@ from-marks true k = refl
 from-marks false k = refl
 
 -- the slot of a kept state is ready where its key has a place
-pub kept-ready : (s : StoreState) (marks : Bool) (k : Kept) (x : SlotState) (place : ℕ) → x.region ≡ s.region → marks ≡ s.marks → x.state ≡ state_from marks k → IsPlace s place k.key → IsReady s x
+pub kept-ready : (s : StoreState) (marks : Bool) (k : Kept) (x : SlotState) (place : ℕ) → x.region ≡ s.region → marks ≡ s.keeps_marks → x.state ≡ state_from marks k → IsPlace s place k.key → IsReady s x
 kept-ready s marks k x place g m e p = record {
   region = g;
   marks = ap (λ (t : KeyState). t.marks) e ∙ from-marks marks k ∙ m;

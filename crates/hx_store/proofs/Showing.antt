@@ -111,23 +111,23 @@ any-rooms key [] = refl
 any-rooms key (e ∷ es) = ap (λ b. same_text e.0 key || b) (any-rooms key es)
 
 -- a slot that was opened is as before
-pub opened-state : (old new : StoreState) (key : List ℕ) → new.marks ≡ old.marks → new.states ≡ after_step old key no_moves → state_at new key ≡ state_at old key
+pub opened-state : (old new : StoreState) (key : List ℕ) → new.keeps_marks ≡ old.keeps_marks → new.states ≡ after_step old key no_moves → state_at new key ≡ state_at old key
 opened-state old new key kind e =
     (λ i. state_among (kind i) key (e i))
-    ∙ subst (λ (k : List ℕ). state_among old.marks k (with_state (state_at old key) old.states) ≡ state_at old key) (among-key old.marks key old.states) (found-with old.marks (state_at old key) old.states)
+    ∙ subst (λ (k : List ℕ). state_among old.keeps_marks k (with_state (state_at old key) old.states) ≡ state_at old key) (among-key old.keeps_marks key old.states) (found-with old.keeps_marks (state_at old key) old.states)
 
 -- and there
 pub opened-there : (old new : StoreState) (key : List ℕ) → new.states ≡ after_step old key no_moves → has_slot key new.states ≡ true
 opened-there old new key e =
     ap (has_slot key) e
-    ∙ subst (λ (k : List ℕ). has_slot k (with_state (state_at old key) old.states) ≡ true) (among-key old.marks key old.states) (has-with (state_at old key) old.states)
+    ∙ subst (λ (k : List ℕ). has_slot k (with_state (state_at old key) old.states) ≡ true) (among-key old.keeps_marks key old.states) (has-with (state_at old key) old.states)
 
 -- what is put over it stands in its place
 pub opened-put : (old new : StoreState) (key : List ℕ) (w : KeyState) → new.states ≡ after_step old key no_moves → w.base.key ≡ key → with_state w new.states ≡ with_state w old.states
-opened-put old new key w e k = ap (with_state w) e ∙ with-again (state_at old key) w old.states (k ∙ sym (among-key old.marks key old.states))
+opened-put old new key w e k = ap (with_state w) e ∙ with-again (state_at old key) w old.states (k ∙ sym (among-key old.keeps_marks key old.states))
 
 -- a step of an opened slot
-pub opened-step : (old new : StoreState) (key : List ℕ) (step : RegionId → KeyState → KeyState) (after : KeyState) (region : RegionId) (before : KeyState) (states : List KeyState) → new.states ≡ after_step old key no_moves → new.marks ≡ old.marks → new.region ≡ old.region
+pub opened-step : (old new : StoreState) (key : List ℕ) (step : RegionId → KeyState → KeyState) (after : KeyState) (region : RegionId) (before : KeyState) (states : List KeyState) → new.states ≡ after_step old key no_moves → new.keeps_marks ≡ old.keeps_marks → new.region ≡ old.region
     → before ≡ state_at new key → region ≡ new.region → after ≡ step region before → after.base.key ≡ key → with_state after new.states ≡ states → states ≡ after_step old key step
 opened-step old new key step after region before states e kind place b r a k is =
     sym is ∙ opened-put old new key after e k ∙ ap (λ (s : KeyState). with_state s old.states) (a ∙ (λ i. step ((r ∙ place) i) ((b ∙ opened-state old new key kind e) i)))
@@ -136,7 +136,7 @@ opened-step old new key step after region before states e kind place b r a k is 
 abbrev pub shown : RegionId → Bool → ℕ → List Entry → List ℕ → Bool → StoreState
 shown g marks attributes es order ordered = record {
   region = g;
-  marks = marks;
+  keeps_marks = marks;
   attributes = attributes;
   states = states_in es order;
   rooms = rooms_in es;
@@ -144,11 +144,11 @@ shown g marks attributes es order ordered = record {
 }
 
 -- a store of which nothing changed but that it is in order
-pub ordered-same : (old new : StoreState) → new.region ≡ old.region → new.marks ≡ old.marks → new.attributes ≡ old.attributes
+pub ordered-same : (old new : StoreState) → new.region ≡ old.region → new.keeps_marks ≡ old.keeps_marks → new.attributes ≡ old.attributes
     → new.states ≡ old.states → new.rooms ≡ old.rooms → new.ordered ≡ true → new ≡ record old { ordered = true }
 ordered-same old new region marks attributes states rooms ordered = λ k. record {
   region = region k;
-  marks = marks k;
+  keeps_marks = marks k;
   attributes = attributes k;
   states = states k;
   rooms = rooms k;
@@ -187,8 +187,8 @@ module _ {g : RegionId} {marks : Bool} {es : List Entry} {order : List ℕ} {cap
     pub slot-region : w.slot.region ≡ self.region
     slot-region = ap (λ (x : StoreSlot). x.slot.region) (sym entry.2) ∙ (own h place entry.0 entry.1).region ∙ ap (λ (s : StoreState). s.region) view
 
-    pub slot-marks : w.slot.state.marks ≡ self.marks
-    slot-marks = ap (λ (x : StoreSlot). x.slot.state.marks) (sym entry.2) ∙ (own h place entry.0 entry.1).marks_are ∙ ap (λ (s : StoreState). s.marks) view
+    pub slot-marks : w.slot.state.marks ≡ self.keeps_marks
+    slot-marks = ap (λ (x : StoreSlot). x.slot.state.marks) (sym entry.2) ∙ (own h place entry.0 entry.1).marks_are ∙ ap (λ (s : StoreState). s.keeps_marks) view
 
     pub slot-spare : w.slot.spare ≡ spare_at self place
     slot-spare = ap (λ (x : StoreSlot). x.slot.spare) (sym entry.2) ∙ sym (ap (λ (s : StoreState). spare_at s place) (sym view) ∙ ap (λ (o : Option Room). when_some o 0 (λ (r : Room). r.spare)) (at-map room_of es place entry.0 entry.1))
@@ -285,14 +285,14 @@ module _ {g : RegionId} {marks : Bool} {es : List Entry} {order : List ℕ} {cap
 
   -- a listed slot is set
   pub set-there : (place : ℕ) (before after : StoreSlot) (new : List Entry) → stored_at es place ≡ Some before → new ≡ set_value_at es place after → after.listed ≡ before.listed → after.slot.state.base.key ≡ key_at self place
-      → after.slot.region ≡ self.region → after.slot.state.marks ≡ self.marks → has_slot (key_at self place) self.states ≡ true → IsStore g marks new order cap × (with_state after.slot.state self.states ≡ states_in new order)
+      → after.slot.region ≡ self.region → after.slot.state.marks ≡ self.keeps_marks → has_slot (key_at self place) self.states ≡ true → IsStore g marks new order cap × (with_state after.slot.state self.states ≡ states_in new order)
   set-there place before after new found set same key region kind there =
       let e = stored-entry es place before found in
       let listed : before.listed ≡ true = sym (slot-listed place found) ∙ there in
       let kept : IsStoreSlot g marks e.0.0 after = record {
         key_is = key ∙ slot-key place found;
         region = region ∙ ap (λ (s : StoreState). s.region) (sym view);
-        marks_are = kind ∙ ap (λ (s : StoreState). s.marks) (sym view);
+        marks_are = kind ∙ ap (λ (s : StoreState). s.keeps_marks) (sym view);
         closed = λ c. absurd (false≢true (sym c ∙ same ∙ listed));
       } in
       let both = set-listed h place e.0 e.1 after kept (ap (λ (x : StoreSlot). x.listed) e.2 ∙ listed) (same ∙ ap (λ (x : StoreSlot). x.listed) (sym e.2)) in (
@@ -393,12 +393,12 @@ module _ {g : RegionId} {marks : Bool} {es : List Entry} {order : List ℕ} {cap
   -- an opened slot made a step
   pub step-there : (old : StoreState) (place : ℕ) (step : RegionId → KeyState → KeyState) → StepKeeps step → (fall : ℕ) (new : List Entry)
       → HasMoved place step fall es new → (key : List ℕ) → key_at self place ≡ key → self.states ≡ after_step old key no_moves
-      → self.marks ≡ old.marks → self.region ≡ old.region
+      → self.keeps_marks ≡ old.keeps_marks → self.region ≡ old.region
       → IsStore g marks new order cap × (states_in new order ≡ after_step old key step)
   step-there old place step keeps fall new m key k e kind region =
       let is = slot-is place m.found in
       let kept = keeps m.before.slot.region m.before.slot.state in
-      let here : m.before.slot.state.base.key ≡ key = ap (λ (s : KeyState). s.base.key) is ∙ among-key self.marks (key_at self place) self.states ∙ k in
+      let here : m.before.slot.state.base.key ≡ key = ap (λ (s : KeyState). s.base.key) is ∙ among-key self.keeps_marks (key_at self place) self.states ∙ k in
       let after_key : m.after.slot.state.base.key ≡ key = ap (λ (s : KeyState). s.base.key) m.state ∙ kept.0 ∙ here in
       let its-region = slot-region place m.found in
       let its-kind = ap (λ (s : KeyState). s.marks) m.state ∙ kept.1 ∙ slot-marks place m.found in

@@ -67,15 +67,15 @@ IsSplit es key (suc p) [] = ⊥
 IsSplit es key (suc p) (j ∷ rest) = (text_below (key_in es j) key ≡ true) × IsSplit es key p rest
 
 -- the slot is of this key, region and kind, and empty where it isn't listed
-pub record IsStoreSlot (g : RegionId) (marks : Bool) (key : List ℕ) (h : StoreSlot) : Type 0 where
+pub record IsStoreSlot (g : RegionId) (keeps_marks : Bool) (key : List ℕ) (h : StoreSlot) : Type 0 where
   pub key_is : h.slot.state.base.key ≡ key
   pub region : h.slot.region ≡ g
-  pub marks_are : h.slot.state.marks ≡ marks
-  pub closed : h.listed ≡ false → h.slot.state ≡ new_state marks key
+  pub marks_are : h.slot.state.marks ≡ keeps_marks
+  pub closed : h.listed ≡ false → h.slot.state ≡ new_state keeps_marks key
 
 -- each slot is of its key; the places are those of the listed slots, in byte order of keys, with room for all
-pub record IsStore (g : RegionId) (marks : Bool) (es : List Entry) (order : List ℕ) (capacity : ℕ) : Type 0 where
-  pub each : AllByRecursion (λ (e : Entry). IsStoreSlot g marks e.0 e.1) es
+pub record IsStore (g : RegionId) (keeps_marks : Bool) (es : List Entry) (order : List ℕ) (capacity : ℕ) : Type 0 where
+  pub each : AllByRecursion (λ (e : Entry). IsStoreSlot g keeps_marks e.0 e.1) es
   pub apart : KeysApart es
   pub listed : (i : ℕ) → list_any (is_place i) order ≡ is_listed es i
   pub ascend : KeysAscend (states_in es order)
@@ -83,10 +83,10 @@ pub record IsStore (g : RegionId) (marks : Bool) (es : List Entry) (order : List
   pub room : length es ≤ capacity
 
 -- a key came, last, with an empty slot that isn't listed
-pub record IsAdded (g : RegionId) (marks : Bool) (key : List ℕ) (old new : List Entry) : Type 0 where
+pub record IsAdded (g : RegionId) (keeps_marks : Bool) (key : List ℕ) (old new : List Entry) : Type 0 where
   pub slot : SlotState
   pub region : slot.region ≡ g
-  pub state : slot.state ≡ new_state marks key
+  pub state : slot.state ≡ new_state keeps_marks key
   pub set : new ≡ old ++ (key, record { slot = slot; listed = false }) ∷ []
 
 -- the slot at a place is listed
@@ -132,8 +132,8 @@ order_of es = in_order es (filter (is_listed es) (below_from (length es)))
 
 -- a store whose list has the places of the listed slots, each once: so many of them from the first on in byte order of keys, and
 -- then those that came since
-pub record IsLateStore (g : RegionId) (marks : Bool) (es : List Entry) (places : List ℕ) (sorted capacity : ℕ) : Type 0 where
-  pub store : IsStore g marks es (order_of es) capacity
+pub record IsLateStore (g : RegionId) (keeps_marks : Bool) (es : List Entry) (places : List ℕ) (sorted capacity : ℕ) : Type 0 where
+  pub store : IsStore g keeps_marks es (order_of es) capacity
   pub each : (i : ℕ) → times i places ≡ one_if (is_listed es i)
   pub begun : sorted ≤ length places
   pub ascend : AscendAt es (take sorted places)

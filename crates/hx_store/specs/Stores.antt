@@ -14,13 +14,13 @@ pub record Room : Type 0 where
   pub key : List ℕ
   pub spare : ℕ
 
--- marks: whether the slots keep marks and touches, as those of key regions do; attributes: how many an object has, the key
--- among them; states: the slots in byte order of keys; rooms: by the places of their keys, which are the numbers in the order
--- of coming; ordered: whether the places stand in byte order of keys in the store itself too, so that a slot can be found by its
--- number in that order
+-- keeps_marks: whether the slots keep marks and touches, as those of key regions do; attributes: how many an object has, the
+-- key among them; states: the slots in byte order of keys; rooms: by the places of their keys, which are the numbers in the
+-- order of coming; ordered: whether the places stand in byte order of keys in the store itself too, so that a slot can be
+-- found by its number in that order
 pub record StoreState : Type 0 where
   pub region : RegionId
-  pub marks : Bool
+  pub keeps_marks : Bool
   pub attributes : ℕ
   pub states : List KeyState
   pub rooms : List Room
@@ -84,12 +84,12 @@ states_of slots = map (λ (x : SlotState). x.state) slots
 -- a slot of the store's region and kind, whose key has a place
 pub record IsReady (s : StoreState) (x : SlotState) : Type 0 where
   pub region : x.region ≡ s.region
-  pub marks : x.state.marks ≡ s.marks
+  pub marks : x.state.marks ≡ s.keeps_marks
   pub place : has_room s x.state.base.key ≡ true
 
 -- the slot of a key, an empty one where there is none
 abbrev pub state_at : StoreState → List ℕ → KeyState
-state_at s key = state_among s.marks key s.states
+state_at s key = state_among s.keeps_marks key s.states
 
 -- the slots after a step of a key's
 abbrev pub after_step : StoreState → List ℕ → (RegionId → KeyState → KeyState) → List KeyState

@@ -143,11 +143,11 @@ impl Slots {
         &mut self,
         alloc: Global,
         region: RegionId,
-        marks: bool,
+        keeps_marks: bool,
         key: &Text,
     ) -> Result<(), Memory>
         requires { list_any (λ (e : Entry). same_text e.0 key.now) self.old.entries ≡ false }
-        ensures ok { OnOk result (IsAdded region marks key.now self.old.entries self.new.entries) }
+        ensures ok { OnOk result (IsAdded region keeps_marks key.now self.old.entries self.new.entries) }
         ensures err { OnErr result (self.new.entries ≡ self.old.entries) }
         ensures attributes { length self.new.index.orders ≡ length self.old.index.orders }
     {
@@ -159,7 +159,7 @@ impl Slots {
         self.prefixes.reserve(1)?;
         let held = key.copy(alloc)?;
         self.keys.insert(key.copy(alloc)?, false)?;
-        let slot = Slot::new(alloc, region, held, marks);
+        let slot = Slot::new(alloc, region, held, keeps_marks);
         self.slots.push_reserved(slot);
         self.prefixes.push_reserved(prefix_of(key.as_str()));
         Ok(())

@@ -36,7 +36,7 @@ const MOST_TO_INSERT: usize = 128;
 /// how many updates of which keys there is room.
 pub struct Store {
     region: RegionId,
-    marks: bool,
+    keeps_marks: bool,
     slots: Slots,
     /// The places of the slots that are part of the store: some of them, from the first on, in byte
     /// order of keys, and then those that came since.
@@ -50,7 +50,7 @@ impl Drop for Store {
     fn drop(self) {
         let Store {
             region: _,
-            marks: _,
+            keeps_marks: _,
             slots: _,
             order: _,
             sorted: _,
@@ -65,22 +65,27 @@ impl Model for Store {
 
     ghost Value = { StoreState };
 
-    ghost view = { λ s. record { region = s.region; marks = s.marks; attributes = length s.slots.index.orders; states = states_in s.slots.entries (order_of s.slots.entries); rooms = rooms_in s.slots.entries; ordered = nat_eq s.sorted (length s.order.items) } };
+    ghost view = { λ s. record { region = s.region; keeps_marks = s.keeps_marks; attributes = length s.slots.index.orders; states = states_in s.slots.entries (order_of s.slots.entries); rooms = rooms_in s.slots.entries; ordered = nat_eq s.sorted (length s.order.items) } };
 
-    ghost invariant = { λ s. IsLateStore s.region s.marks s.slots.entries s.order.items s.sorted (vec_capacity s.order) };
+    ghost invariant = { λ s. IsLateStore s.region s.keeps_marks s.slots.entries s.order.items s.sorted (vec_capacity s.order) };
 }
 
 impl Store {
     /// The store of a region of a space, of which nothing was heard. Its slots keep marks and
-    /// touches where `marks` says so, as those of key regions do.
-    pub fn new(alloc: Global, space: &Space, region: RegionId, marks: bool) -> Result<Store, Memory>
+    /// touches where `keeps_marks` says so, as those of key regions do.
+    pub fn new(
+        alloc: Global,
+        space: &Space,
+        region: RegionId,
+        keeps_marks: bool,
+    ) -> Result<Store, Memory>
         requires { length space.now.attributes ≤ MOST_ATTRIBUTES }
-        ensures { IfOk result (λ store. store ≡ record { region = region; marks = marks; attributes = length space.now.attributes + 1; states = []; rooms = []; ordered = true }) }
+        ensures { IfOk result (λ store. store ≡ record { region = region; keeps_marks = keeps_marks; attributes = length space.now.attributes + 1; states = []; rooms = []; ordered = true }) }
     {
         let slots = Slots::new(alloc, space.attributes.len() as u32)?;
         Ok(Store {
             region,
-            marks,
+            keeps_marks,
             slots,
             order: Vec::new(alloc),
             sorted: 0,
@@ -134,7 +139,7 @@ impl Store {
         requires { self.now.ordered ≡ true }
         ensures state { option_map (λ (b : Bor SlotState). b.now.state) result ≡ slice_get self.now.states i }
         ensures region { IfSome result (λ slot. slot.now.region ≡ self.now.region) }
-        ensures marks { IfSome result (λ slot. slot.now.state.marks ≡ self.now.marks) }
+        ensures marks { IfSome result (λ slot. slot.now.state.marks ≡ self.now.keeps_marks) }
         ensures ascend { KeysAscend self.now.states }
     {
         match self.order.get(i) {
@@ -207,7 +212,7 @@ impl Store {
     /// comes.
     pub fn reserve(&mut self, alloc: Global, key: &Text, n: u32) -> Result<usize, Memory>
         ensures region { self.new.region ≡ self.old.region }
-        ensures marks { self.new.marks ≡ self.old.marks }
+        ensures marks { self.new.keeps_marks ≡ self.old.keeps_marks }
         ensures attributes { self.new.attributes ≡ self.old.attributes }
         ensures states { self.new.states ≡ self.old.states }
         ensures ordered { self.new.ordered ≡ self.old.ordered }
@@ -223,7 +228,7 @@ impl Store {
     /// Gives a key a slot, which is empty where it had none, and tells its place.
     pub fn ensure(&mut self, alloc: Global, key: &Text) -> Result<usize, Memory>
         ensures region { self.new.region ≡ self.old.region }
-        ensures marks { self.new.marks ≡ self.old.marks }
+        ensures marks { self.new.keeps_marks ≡ self.old.keeps_marks }
         ensures attributes { self.new.attributes ≡ self.old.attributes }
         ensures states { OnOk result (self.new.states ≡ after_step self.old key.now no_moves) }
         ensures stays { OnErr result (self.new.states ≡ self.old.states) }
@@ -239,7 +244,7 @@ impl Store {
     /// Gives a key a place where it has none.
     fn give_place(&mut self, alloc: Global, key: &Text) -> Result<usize, Memory>
         ensures region { self.new.region ≡ self.old.region }
-        ensures marks { self.new.marks ≡ self.old.marks }
+        ensures marks { self.new.keeps_marks ≡ self.old.keeps_marks }
         ensures attributes { self.new.attributes ≡ self.old.attributes }
         ensures states { self.new.states ≡ self.old.states }
         ensures ordered { self.new.ordered ≡ self.old.ordered }
@@ -251,7 +256,7 @@ impl Store {
         }
         let place = self.slots.len();
         self.order.reserve(place + 1 - self.order.len())?;
-        self.slots.add(alloc, self.region, self.marks, key)?;
+        self.slots.add(alloc, self.region, self.keeps_marks, key)?;
         Ok(place)
     }
 
@@ -259,7 +264,7 @@ impl Store {
     fn widen(&mut self, alloc: Global, place: usize, n: u32) -> Result<(), Memory>
         requires { place < length self.old.rooms }
         ensures region { self.new.region ≡ self.old.region }
-        ensures marks { self.new.marks ≡ self.old.marks }
+        ensures marks { self.new.keeps_marks ≡ self.old.keeps_marks }
         ensures attributes { self.new.attributes ≡ self.old.attributes }
         ensures states { self.new.states ≡ self.old.states }
         ensures ordered { self.new.ordered ≡ self.old.ordered }
@@ -274,7 +279,7 @@ impl Store {
     pub fn ensure_slot(&mut self, place: usize)
         requires { place < length self.old.rooms }
         ensures region { self.new.region ≡ self.old.region }
-        ensures marks { self.new.marks ≡ self.old.marks }
+        ensures marks { self.new.keeps_marks ≡ self.old.keeps_marks }
         ensures attributes { self.new.attributes ≡ self.old.attributes }
         ensures states { self.new.states ≡ after_step self.old (key_at self.old place) no_moves }
         ensures ordered { has_slot (key_at self.old place) self.old.states ≡ true → self.new.ordered ≡ self.old.ordered }
@@ -291,7 +296,7 @@ impl Store {
     /// that stand in it, or else all are sorted. It takes no memory.
     pub fn sort_order(&mut self)
         ensures region { self.new.region ≡ self.old.region }
-        ensures marks { self.new.marks ≡ self.old.marks }
+        ensures marks { self.new.keeps_marks ≡ self.old.keeps_marks }
         ensures attributes { self.new.attributes ≡ self.old.attributes }
         ensures states { self.new.states ≡ self.old.states }
         ensures rooms { self.new.rooms ≡ self.old.rooms }
@@ -318,7 +323,7 @@ impl Store {
         requires offer { CanBeOffered self.old.region update number }
         requires pending { ArePending (moved_all (offered self.old.region (state_at self.old update.key) update) (state_at self.old update.key)) ends.now }
         ensures region { self.new.region ≡ self.old.region }
-        ensures marks { self.new.marks ≡ self.old.marks }
+        ensures marks { self.new.keeps_marks ≡ self.old.keeps_marks }
         ensures attributes { self.new.attributes ≡ self.old.attributes }
         ensures states { self.new.states ≡ after_step self.old update.key (accepted_at update ends.now) }
         ensures ordered { has_slot update.key self.old.states ≡ true → self.new.ordered ≡ self.old.ordered }
@@ -332,7 +337,7 @@ impl Store {
     pub fn acknowledge(&mut self, place: usize, version: Version)
         requires { place < length self.old.rooms }
         ensures region { self.new.region ≡ self.old.region }
-        ensures marks { self.new.marks ≡ self.old.marks }
+        ensures marks { self.new.keeps_marks ≡ self.old.keeps_marks }
         ensures attributes { self.new.attributes ≡ self.old.attributes }
         ensures states { self.new.states ≡ after_step self.old (key_at self.old place) (acknowledged_at version.0) }
         ensures ordered { has_slot (key_at self.old place) self.old.states ≡ true → self.new.ordered ≡ self.old.ordered }
@@ -358,7 +363,7 @@ impl Store {
     pub fn reset_acks(&mut self, place: usize)
         requires { place < length self.old.rooms }
         ensures region { self.new.region ≡ self.old.region }
-        ensures marks { self.new.marks ≡ self.old.marks }
+        ensures marks { self.new.keeps_marks ≡ self.old.keeps_marks }
         ensures attributes { self.new.attributes ≡ self.old.attributes }
         ensures states { self.new.states ≡ after_step self.old (key_at self.old place) forgotten_at }
         ensures ordered { has_slot (key_at self.old place) self.old.states ≡ true → self.new.ordered ≡ self.old.ordered }
@@ -374,7 +379,7 @@ impl Store {
         requires place { place < length self.old.rooms }
         requires pending { is_pending version.0 (state_at self.old (key_at self.old place)) ≡ true }
         ensures region { self.new.region ≡ self.old.region }
-        ensures marks { self.new.marks ≡ self.old.marks }
+        ensures marks { self.new.keeps_marks ≡ self.old.keeps_marks }
         ensures attributes { self.new.attributes ≡ self.old.attributes }
         ensures states { self.new.states ≡ after_step self.old (key_at self.old place) (marked_at version.0) }
         ensures ordered { has_slot (key_at self.old place) self.old.states ≡ true → self.new.ordered ≡ self.old.ordered }
@@ -388,7 +393,7 @@ impl Store {
     pub fn settle(&mut self, place: usize)
         requires { place < length self.old.rooms }
         ensures region { self.new.region ≡ self.old.region }
-        ensures marks { self.new.marks ≡ self.old.marks }
+        ensures marks { self.new.keeps_marks ≡ self.old.keeps_marks }
         ensures attributes { self.new.attributes ≡ self.old.attributes }
         ensures states { self.new.states ≡ after_step self.old (key_at self.old place) settled_at }
         ensures ordered { has_slot (key_at self.old place) self.old.states ≡ true → self.new.ordered ≡ self.old.ordered }
@@ -401,9 +406,9 @@ impl Store {
     /// Puts a slot at its key, in place of the one that is there.
     pub fn put_slot(&mut self, alloc: Global, slot: Slot) -> Result<(), Memory>
         requires region { slot.region ≡ self.old.region }
-        requires marks { slot.state.marks ≡ self.old.marks }
+        requires marks { slot.state.marks ≡ self.old.keeps_marks }
         ensures region { self.new.region ≡ self.old.region }
-        ensures marks { self.new.marks ≡ self.old.marks }
+        ensures marks { self.new.keeps_marks ≡ self.old.keeps_marks }
         ensures attributes { self.new.attributes ≡ self.old.attributes }
         ensures states { OnOk result (self.new.states ≡ with_state slot.state self.old.states) }
         ensures stays { OnErr result (self.new.states ≡ self.old.states) }
@@ -419,7 +424,7 @@ impl Store {
     fn put_ready(&mut self, slot: Slot)
         requires { IsReady self.old slot }
         ensures region { self.new.region ≡ self.old.region }
-        ensures marks { self.new.marks ≡ self.old.marks }
+        ensures marks { self.new.keeps_marks ≡ self.old.keeps_marks }
         ensures attributes { self.new.attributes ≡ self.old.attributes }
         ensures states { self.new.states ≡ with_state slot.state self.old.states }
         ensures others { KeepsOtherRooms slot.state.base.key self.old.rooms self.new.rooms }
@@ -441,9 +446,9 @@ impl Store {
         requires ascend { KeptsAscend snapshot.now }
         requires orderly { All IsOrderly snapshot.now }
         ensures region { self.new.region ≡ self.old.region }
-        ensures marks { self.new.marks ≡ self.old.marks }
+        ensures marks { self.new.keeps_marks ≡ self.old.keeps_marks }
         ensures attributes { self.new.attributes ≡ self.old.attributes }
-        ensures states { OnOk result (self.new.states ≡ map (state_from self.old.marks) snapshot.now) }
+        ensures states { OnOk result (self.new.states ≡ map (state_from self.old.keeps_marks) snapshot.now) }
         ensures stays { OnErr result (self.new.states ≡ self.old.states) }
         ensures rooms { OnErr result (KeepsRooms self.old.rooms self.new.rooms) }
         ensures others { KeepsRoomsBut (has_kept snapshot.now) self.old.rooms self.new.rooms }
@@ -457,17 +462,17 @@ impl Store {
     fn slots_of(&mut self, alloc: Global, snapshot: &Snapshot) -> Result<VecDeque<Slot>, Memory>
         requires { All IsOrderly snapshot.now }
         ensures region { self.new.region ≡ self.old.region }
-        ensures marks { self.new.marks ≡ self.old.marks }
+        ensures marks { self.new.keeps_marks ≡ self.old.keeps_marks }
         ensures attributes { self.new.attributes ≡ self.old.attributes }
         ensures states { self.new.states ≡ self.old.states }
         ensures rooms { KeepsRooms self.old.rooms self.new.rooms }
-        ensures slots { IfOk result (λ slots. states_of slots.items ≡ map (state_from self.old.marks) snapshot.now) }
+        ensures slots { IfOk result (λ slots. states_of slots.items ≡ map (state_from self.old.keeps_marks) snapshot.now) }
         ensures ready { IfOk result (λ slots. AllByRecursion (IsReady self.new) slots.items) }
     {
         let mut slots = VecDeque::new(alloc);
         for kept in snapshot.as_slice() {
             let _ = self.give_place(alloc, &kept.key)?;
-            let slot = Slot::of_kept(alloc, self.region, kept.copy(alloc)?, self.marks);
+            let slot = Slot::of_kept(alloc, self.region, kept.copy(alloc)?, self.keeps_marks);
             slots.push_back(slot)?;
         }
         Ok(slots)
@@ -479,7 +484,7 @@ impl Store {
         requires ascend { KeysAscend (states_of slots.items) }
         requires ready { AllByRecursion (IsReady self.old) slots.items }
         ensures region { self.new.region ≡ self.old.region }
-        ensures marks { self.new.marks ≡ self.old.marks }
+        ensures marks { self.new.keeps_marks ≡ self.old.keeps_marks }
         ensures attributes { self.new.attributes ≡ self.old.attributes }
         ensures states { self.new.states ≡ states_of slots.items }
         ensures others { KeepsRoomsBut (is_key_of slots.items) self.old.rooms self.new.rooms }

@@ -10,7 +10,7 @@ use Rattle.hx_replica.proofs.installing.install_all.Goals as goal
 
 pub join_all-requires-clause-fresh : goal.join_all-requires-clause-fresh
 join_all-requires-clause-fresh c =
-    subst (AllByRecursion (IsFresh c.args.context.now.region)) (sym c.in_ok-install.ensures.states) (snapshot_fresh c.args.context.now.region c.args.store.now.marks c.args.snapshot.now)
+    subst (AllByRecursion (IsFresh c.args.context.now.region)) (sym c.in_ok-install.ensures.states) (snapshot_fresh c.args.context.now.region c.args.store.now.keeps_marks c.args.snapshot.now)
 
 pub join_all-requires-clause-kinds : goal.join_all-requires-clause-kinds
 join_all-requires-clause-kinds c =

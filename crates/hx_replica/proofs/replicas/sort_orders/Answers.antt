@@ -11,7 +11,9 @@ loop-place-preserved c =
     let y = c.index_mut.result.now in
     let s = c.sort_order.ensures in
     let whole : c.sort_order.new.self ≡ record y.store { ordered = true } =
-    (λ j. record { region = s.region j; marks = s.marks j; attributes = s.attributes j; states = s.states j; rooms = s.rooms j; ordered = s.ordered j }) in
+    (
+    λ j. record { region = s.region j; keeps_marks = s.marks j; attributes = s.attributes j; states = s.states j; rooms = s.rooms j; ordered = s.ordered j }
+    ) in
     let put : StoreState → Replica = λ x. record { region = y.region; installed = y.installed; store = x } in
     let count = c.len-place-end.ensures in
     let within : place < length rs = omega (arith, c.loop-place-test.true, count) in

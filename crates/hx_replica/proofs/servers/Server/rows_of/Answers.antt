@@ -18,7 +18,7 @@ invariant_of-self c =
       map_is = c.self.invariant.map_is;
       replicas_are =
           reserved i.space i.replicas.items c.args.place y c.find.new.self c.self.invariant.replicas_are here c.index_mut-replica.ensures.value
-          (ap (λ (s : StoreState). s.region) stays) (ap (λ (s : StoreState). s.marks) stays) (ap (λ (s : StoreState). s.states) stays);
+          (ap (λ (s : StoreState). s.region) stays) (ap (λ (s : StoreState). s.keeps_marks) stays) (ap (λ (s : StoreState). s.states) stays);
       bare =
           bare_same _ _
           (

@@ -20,7 +20,7 @@ pub returns-clause-none : goal.returns-clause-none
 returns-clause-none c =
     let here = is_here c.self.inside c.args.self.now c.args.region c.in_ok-replica.replica c.index.result.now c.self.view_is c.self.invariant c.index.ensures (rw c.as_slice.ensures.value at c.in_ok-replica.ensures) in
     if_none_then c.slot.result _ c.slot.ensures.found
-    (λ e. if_there _ (replica_of c.args.region c.args.self.now.state.replicas) _ here.found (sym (here.state c.args.key.now) ∙ no_slot c.index.result.now.store.marks c.args.key.now c.index.result.now.store.states e ∙ here.empty c.args.key.now))
+    (λ e. if_there _ (replica_of c.args.region c.args.self.now.state.replicas) _ here.found (sym (here.state c.args.key.now) ∙ no_slot c.index.result.now.store.keeps_marks c.args.key.now c.index.result.now.store.states e ∙ here.empty c.args.key.now))
 
 pub returns-clause-found : goal.returns-clause-found
 returns-clause-found c =

@@ -53,7 +53,7 @@ returns-clause-ok c =
     record {
       slot = c.new-slot.result;
       region = c.new-slot.ensures.region;
-      state = c.new-slot.ensures.state ∙ ap (new_state c.args.marks) c.in_ok-held.ensures;
+      state = c.new-slot.ensures.state ∙ ap (new_state c.args.keeps_marks) c.in_ok-held.ensures;
       set = (λ k. entries_of (keys k) (items k))
           ∙ entry-added c.self.inside.keys.entries c.self.inside.slots.items (c.args.key.now, false) c.new-slot.result c.self.invariant.count
           ∙ ap (λ (s : SlotsState). s.entries ++ (c.args.key.now, record { slot = c.new-slot.result; listed = false }) ∷ []) c.self.view_is;

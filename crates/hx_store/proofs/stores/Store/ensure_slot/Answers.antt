@@ -35,7 +35,7 @@ invariant_of-self c =
     let closed = sym (listed-stored es c.args.place w.0 w.1) ∙ sym c.is_listed.ensures ∙ c.if-is_listed.false in
     let done = open-late c.self.invariant c.self.view_is c.args.place w.1 closed c.list_at.ensures.listed in
     let region = c.self.inside.region in
-    let marks = c.self.inside.marks in
+    let marks = c.self.inside.keeps_marks in
     let sorted = c.self.inside.sorted in
     let wide = vec_capacity c.push_reserved.new.self in
     subst (λ (places : List ℕ). IsLateStore region marks new places sorted wide) (sym c.push_reserved.ensures.items)

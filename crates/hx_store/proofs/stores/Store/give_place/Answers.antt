@@ -44,7 +44,7 @@ invariant_of-self-2 c =
     let cap = vec_capacity c.reserve.new.self in
     let room : length c.self.inside.slots.entries + 1 ≤ cap = omega (arith, most, alike, place, len, ok, more, same) in
     let g = c.self.inside.region in
-    let marks = c.self.inside.marks in
+    let marks = c.self.inside.keeps_marks in
     subst (λ (places : List ℕ). IsLateStore g marks c.add.new.self.entries places c.self.inside.sorted cap) (sym c.in_ok-reserve.ensures.items)
     (added-store c.self.invariant c.self.view_is c.in_ok-add.ensures.ok c.in_default.ensures.none cap room)
 

@@ -7,7 +7,7 @@ use Rattle.hx_store.proofs.stores.Store.put_all.Given as goal
 abbrev pub invariant-places : goal.invariant-places
 invariant-places l = record {
   region : l.self.region ≡ l.initial.self.region;
-  marks : l.self.marks ≡ l.initial.self.marks;
+  marks : l.self.keeps_marks ≡ l.initial.self.keeps_marks;
   attributes : l.self.attributes ≡ l.initial.self.attributes;
   states : l.self.states ++ states_of l.slots.items ≡ states_of l.initial.slots.items;
   ready : AllByRecursion (IsReady l.self) l.slots.items;

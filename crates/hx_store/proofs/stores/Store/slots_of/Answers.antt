@@ -45,18 +45,18 @@ loop-kept-preserved c =
     subst (λ (xs : List Kept). slice_get xs c.loop-kept.kept-index ≡ Some k) c.as_slice-kept-items.ensures
     (slice_get-get_or items c.loop-kept.kept-index k c.loop-kept-test.true ∙ ap (λ (x : Kept). Some x) (sym c.kept-item.is))
     in
-    let kind = ap (λ (s : StoreState). s.marks) c.self.view_is in
+    let kind = ap (λ (s : StoreState). s.keeps_marks) c.self.view_is in
     let x = c.of_kept-slot.result in
-    let state : x.state ≡ state_from c.args.self.now.marks k =
+    let state : x.state ≡ state_from c.args.self.now.keeps_marks k =
     c.of_kept-slot.ensures.state ∙ (λ j. state_from ((kind ∙ marks) j) (c.in_ok-copy.ensures j)) in
     let region = c.of_kept-slot.ensures.region ∙ ap (λ (s : StoreState). s.region) c.self.view_is in
     let given = c.give_place.ensures in
     let pushed = c.in_ok-push_back.ensures.items in
     let kept = ready-kept before now c.loop-kept.slots.items given.region given.marks given.rooms c.loop-kept.invariant.ready in
-    let own = kept-ready now c.args.self.now.marks k x _ region (sym marks) state c.in_ok-give_place.ensures.place in
+    let own = kept-ready now c.args.self.now.keeps_marks k x _ region (sym marks) state c.in_ok-give_place.ensures.place in
     let ready = ready-push now c.loop-kept.slots.items x kept own in
     let made =
-    made-next c.args.self.now.marks c.args.snapshot.now c.loop-kept.kept-index k c.loop-kept.slots.items x at c.loop-kept.invariant.made state
+    made-next c.args.self.now.keeps_marks c.args.snapshot.now c.loop-kept.kept-index k c.loop-kept.slots.items x at c.loop-kept.invariant.made state
     in
     record {
       region = c.give_place.ensures.region ∙ c.loop-kept.invariant.region;

@@ -7,10 +7,10 @@ use Rattle.hx_store.proofs.stores.Store.slots_of.Given as goal
 abbrev pub invariant-loop-kept : goal.invariant-loop-kept
 invariant-loop-kept l = record {
   region : l.self.region ≡ l.initial.self.region;
-  marks : l.self.marks ≡ l.initial.self.marks;
+  marks : l.self.keeps_marks ≡ l.initial.self.keeps_marks;
   attributes : l.self.attributes ≡ l.initial.self.attributes;
   states : l.self.states ≡ l.initial.self.states;
   rooms : KeepsRooms l.initial.self.rooms l.self.rooms;
-  made : states_of l.slots.items ≡ map (state_from l.initial.self.marks) (take l.kept-index l.snapshot);
+  made : states_of l.slots.items ≡ map (state_from l.initial.self.keeps_marks) (take l.kept-index l.snapshot);
   ready : AllByRecursion (IsReady l.self) l.slots.items;
 }
