@@ -18,7 +18,7 @@ use Rattle.hx_law_drivers.specs.Joined.{AreInOrder, AreOnce}
 use Rattle.hx_gather.specs.declared.gathering.SeatedPart.{SeatedPart}
 use Rattle.hx_run.specs.declared.joining.OwnedPort.{OwnedPort}
 use Rattle.hx_run.specs.Closed.{seated_of, owned_port_of, IsLeft}
-use Rattle.hx_run.specs.Joined.{place_at, AreInPlaces, HaveIndexes, IsJoined, IsKeptTaker, TookInOrder, TookOnce}
+use Rattle.hx_run.specs.Joined.{place_at, AreInPlaces, HaveIndexes, IsJoined, IsKeptPort, TookInOrder, TookOnce}
 use Rattle.hx_run.proofs.Leaving.{are-in-order, are-once, have-indexes, is-left, outboxes, sorted-places, sorted-ready}
 
 module _ (script : Script) (clock : TableId) (boxes : List Boxed) (w : ℕ) where
@@ -32,34 +32,35 @@ module _ (script : Script) (clock : TableId) (boxes : List Boxed) (w : ℕ) wher
         omega (arith, n, some),
       )
 
-  perm-of : (crews : List Crew) (takers sorted : List OwnedPort) → takers ≡ map owned_port_of (desks_of crews) → IsPermutation takers sorted → IsPermutation (map owned_port_of (desks_of crews)) sorted
-  perm-of crews takers sorted e p = subst (λ l. IsPermutation l sorted) e p
+  perm-of : (crews : List Crew) (owned_ports sorted : List OwnedPort) → owned_ports ≡ map owned_port_of (desks_of crews) → IsPermutation owned_ports sorted → IsPermutation (map owned_port_of (desks_of crews)) sorted
+  perm-of crews owned_ports sorted e p = subst (λ l. IsPermutation l sorted) e p
 
-  pub places-need : AreBoxes script clock boxes → (crews : List Crew) → AllByRecursion (IsCrew script clock boxes w) crews → HaveAllActors script crews → (takers sorted : List OwnedPort) → takers ≡ map owned_port_of (desks_of crews) → IsPermutation takers sorted
+  pub places-need : AreBoxes script clock boxes → (crews : List Crew) → AllByRecursion (IsCrew script clock boxes w) crews → HaveAllActors script crews → (owned_ports sorted : List OwnedPort) → owned_ports ≡ map owned_port_of (desks_of crews) → IsPermutation owned_ports sorted
       → IsNonDecreasingBy (place_at script) sorted → AreInPlaces script 0 sorted × (length sorted ≡ length boxes)
-  places-need are crews h all takers sorted e p up = sorted-places script clock boxes w are crews h all sorted (perm-of crews takers sorted e p) up
+  places-need are crews h all owned_ports sorted e p up = sorted-places script clock boxes w are crews h all sorted (perm-of crews owned_ports sorted e p) up
 
-  pub takers-need : AreBoxes script clock boxes → (crews : List Crew) → AreNumbered w crews → AllByRecursion (IsCrew script clock boxes w) crews → (takers sorted : List OwnedPort) → takers ≡ map owned_port_of (desks_of crews) → IsPermutation takers sorted
+  pub ports-need : AreBoxes script clock boxes → (crews : List Crew) → AreNumbered w crews → AllByRecursion (IsCrew script clock boxes w) crews → (owned_ports sorted : List OwnedPort) → owned_ports ≡ map owned_port_of (desks_of crews) → IsPermutation owned_ports sorted
       → (outs : List Outbox) → outs ≡ map (λ (c : Crew). c.out) crews → AllByRecursion (IsJoined script (length outs) boxes []) sorted
-  takers-need are crews numbered h takers sorted e p outs eo =
+  ports-need are crews numbered h owned_ports sorted e p outs eo =
       let n : length outs ≡ w = ap length eo ∙ (have-indexes w crews numbered).0 in
-      subst (λ k. AllByRecursion (IsJoined script k boxes []) sorted) (sym n) (sorted-ready script clock boxes w are crews h sorted (perm-of crews takers sorted e p))
+      subst (λ k. AllByRecursion (IsJoined script k boxes []) sorted) (sym n) (sorted-ready script clock boxes w are crews h sorted (perm-of crews owned_ports sorted e p))
 
   pub left-of : AreBoxes script clock boxes → (crews : List Crew) → 1 ≤ w → AreNumbered w crews → AllByRecursion (IsCrew script clock boxes w) crews → HaveAllActors script crews → (actors : List SeatedPart) → actors ≡ map seated_of (desks_of crews)
-      → (totals : List Totals) → totals ≡ map (λ (c : Crew). c.totals) crews → (takers sorted joined : List OwnedPort) → takers ≡ map owned_port_of (desks_of crews) → IsPermutation takers sorted → IsNonDecreasingBy (place_at script) sorted
-      → (outs : List Outbox) → outs ≡ map (λ (c : Crew). c.out) crews → Both IsKeptTaker sorted joined → AllByRecursion (IsJoined script (length outs) boxes outs) joined → (ports : List Ported) → ports ≡ map (λ (t : OwnedPort). t.inbox) joined
+      → (totals : List Totals) → totals ≡ map (λ (c : Crew). c.totals) crews → (owned_ports sorted joined : List OwnedPort) → owned_ports ≡ map owned_port_of (desks_of crews) → IsPermutation owned_ports sorted → IsNonDecreasingBy (place_at script) sorted
+      → (outs : List Outbox) → outs ≡ map (λ (c : Crew). c.out) crews → Both IsKeptPort sorted joined → AllByRecursion (IsJoined script (length outs) boxes outs) joined → (ports : List Ported) → ports ≡ map (λ (t : OwnedPort). t.inbox) joined
       → IsLeft script clock crews actors totals ports
-  left-of are crews some numbered h all actors ea totals et takers sorted joined e p up outs eo kept joins ports ep =
-      let q = perm-of crews takers sorted e p in
+  left-of are crews some numbered h all actors ea totals et owned_ports sorted joined e p up outs eo kept joins ports ep =
+      let q = perm-of crews owned_ports sorted e p in
       let pl = sorted-places script clock boxes w are crews h all sorted q up in
       let n : length outs ≡ w = ap length eo ∙ (have-indexes w crews numbered).0 in
       let j : AllByRecursion (IsJoined script w boxes (map (λ (c : Crew). c.out) crews)) joined =
       subst (λ l. AllByRecursion (IsJoined script w boxes l) joined) eo (subst (λ k. AllByRecursion (IsJoined script k boxes outs) joined) n joins) in
       is-left script clock boxes w are crews h all some numbered actors ea totals et sorted joined q pl.0 pl.1 kept j ports ep
 
-  pub order-of : (crews : List Crew) (takers sorted : List OwnedPort) → takers ≡ map owned_port_of (desks_of crews) → IsPermutation takers sorted → (outs : List Outbox) → outs ≡ map (λ (c : Crew). c.out) crews → AllByRecursion (TookInOrder script outs) sorted
+  pub order-of : (crews : List Crew) (owned_ports sorted : List OwnedPort) → owned_ports ≡ map owned_port_of (desks_of crews) → IsPermutation owned_ports sorted → (outs : List Outbox) → outs ≡ map (λ (c : Crew). c.out) crews → AllByRecursion (TookInOrder script outs) sorted
       → AreInOrder script crews
-  order-of crews takers sorted e p outs eo h = are-in-order script clock boxes w crews sorted (perm-of crews takers sorted e p) (subst (λ l. AllByRecursion (TookInOrder script l) sorted) eo h)
+  order-of crews owned_ports sorted e p outs eo h = are-in-order script clock boxes w crews sorted (perm-of crews owned_ports sorted e p) (subst (λ l. AllByRecursion (TookInOrder script l) sorted) eo h)
 
-  pub once-of : (crews : List Crew) (takers sorted : List OwnedPort) → takers ≡ map owned_port_of (desks_of crews) → IsPermutation takers sorted → (outs : List Outbox) → outs ≡ map (λ (c : Crew). c.out) crews → TookOnce outs sorted → AreOnce crews
-  once-of crews takers sorted e p outs eo h = are-once script clock boxes w crews sorted (perm-of crews takers sorted e p) (subst (λ l. TookOnce l sorted) eo h)
+  pub once-of : (crews : List Crew) (owned_ports sorted : List OwnedPort) → owned_ports ≡ map owned_port_of (desks_of crews) → IsPermutation owned_ports sorted → (outs : List Outbox) → outs ≡ map (λ (c : Crew). c.out) crews → TookOnce outs sorted → AreOnce crews
+  once-of crews owned_ports sorted e p outs eo h =
+      are-once script clock boxes w crews sorted (perm-of crews owned_ports sorted e p) (subst (λ l. TookOnce l sorted) eo h)

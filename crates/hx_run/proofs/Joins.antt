@@ -20,7 +20,7 @@ use Rattle.hx_outbox.proofs.Lemmas.{both-at, both-long}
 use Rattle.hx_run.specs.declared.joining.OwnedPort.{OwnedPort}
 use Rattle.hx_driver.specs.Inboxes.{ins_of}
 use Rattle.hx_law_drivers.specs.Joined.{outs_at}
-use Rattle.hx_run.specs.Joined.{joined_lists, place_at, AreInPlaces, AreJoinedFrom, HaveIndexes, IsJoined, IsKeptTaker, TookInOrder}
+use Rattle.hx_run.specs.Joined.{joined_lists, place_at, AreInPlaces, AreJoinedFrom, HaveIndexes, IsJoined, IsKeptPort, TookInOrder}
 
 list-in : (n : ℕ) (outs : List Outbox) (o : Outbox) → IsIn o outs → IsIn (lists_of (o.index + 1) (outs_at n o.ports.items) []) (joined_lists n outs)
 list-in n [] o i = absurd i
@@ -106,10 +106,10 @@ pub place-lt : (boxes : List Boxed) (o : Outbox) (olds news rest : List Ported) 
 place-lt boxes o olds news rest p at n h e f is long =
     (omega (arith, ap length e, length-append news (p ∷ []), ap length f, length-append olds rest, both-long (IsOutPort o.index) boxes o.ports.items h.ports, is, long), omega (arith, ap length e, length-append news (p ∷ []), is))
 
-pub kept-refl : (d : OwnedPort) → IsKeptTaker d d
+pub kept-refl : (d : OwnedPort) → IsKeptPort d d
 kept-refl d = record { actor = refl; ins = refl }
 
-pub kept-trans : (d e f : OwnedPort) → IsKeptTaker d e → IsKeptTaker e f → IsKeptTaker d f
+pub kept-trans : (d e f : OwnedPort) → IsKeptPort d e → IsKeptPort e f → IsKeptPort d f
 kept-trans d e f a b = record { actor = b.actor ∙ a.actor; ins = b.ins ∙ a.ins }
 
 pub none-left : {A : Type 0} (outs done all : List A) → length outs ≡ 0 → outs ++ done ≡ all → done ≡ all
@@ -117,7 +117,7 @@ none-left [] done all e f = f
 none-left (o ∷ outs) done all e f = absurd (omega (arith, e))
 
 module _ (script : Script) where
-  pub place-kept : (d e : OwnedPort) → IsKeptTaker d e → place_at script e ≡ place_at script d
+  pub place-kept : (d e : OwnedPort) → IsKeptPort d e → place_at script e ≡ place_at script d
   place-kept d e k = ap (place_of script.space) k.actor
 
   pub number-at : (n : ℕ) (ds : List OwnedPort) (i : ℕ) (e : OwnedPort) → AreInPlaces script n ds → i < length ds → e ≡ slice_index_or ds i e → place_at script e ≡ n + i
@@ -125,7 +125,7 @@ module _ (script : Script) where
   number-at n (d ∷ ds) zero e h lt is = omega (arith, ap (place_at script) is, h.0)
   number-at n (d ∷ ds) (suc i) e h lt is = omega (arith, number-at (suc n) ds i e h.1 (omega (arith, lt)) is)
 
-  pub places-kept : (n : ℕ) (ds es : List OwnedPort) → Both IsKeptTaker ds es → AreInPlaces script n ds → AreInPlaces script n es
+  pub places-kept : (n : ℕ) (ds es : List OwnedPort) → Both IsKeptPort ds es → AreInPlaces script n ds → AreInPlaces script n es
   places-kept n [] [] h k = tt
   places-kept n [] (e ∷ es) h k = absurd h
   places-kept n (d ∷ ds) [] h k = absurd h
@@ -165,7 +165,7 @@ module _ (script : Script) where
     joined-end o zero (d ∷ ds) e h = (h.0, joined-end o zero ds refl h.1)
     joined-end o (suc k) (d ∷ ds) e h = absurd (omega (arith, e))
 
-    pub order-each : 0 < length outs → HaveIndexes w outs → (ds es : List OwnedPort) → Both IsKeptTaker ds es → AllByRecursion (IsJoined script w boxes outs) es → AllByRecursion (TookInOrder script outs) ds
+    pub order-each : 0 < length outs → HaveIndexes w outs → (ds es : List OwnedPort) → Both IsKeptPort ds es → AllByRecursion (IsJoined script w boxes outs) es → AllByRecursion (TookInOrder script outs) ds
     order-each some index [] es h j = tt
     order-each some index (d ∷ ds) [] h j = absurd h
     order-each some index (d ∷ ds) (e ∷ es) h j =

@@ -41,7 +41,7 @@ use Rattle.hx_gather.specs.declared.gathering.SeatedPart.{SeatedPart}
 use Rattle.hx_gather.specs.Gathered.{parts_by, HasNumber, IsSeated}
 use Rattle.hx_run.specs.declared.joining.OwnedPort.{OwnedPort}
 use Rattle.hx_run.specs.Closed.{seated_of, owned_port_of, HasPut, IsFirstPort, IsLeft}
-use Rattle.hx_run.specs.Joined.{joined_lists, place_at, AreInPlaces, HaveIndexes, IsJoined, IsKeptTaker, TookInOrder, TookOnce}
+use Rattle.hx_run.specs.Joined.{joined_lists, place_at, AreInPlaces, HaveIndexes, IsJoined, IsKeptPort, TookInOrder, TookOnce}
 use Rattle.hx_run.specs.Ran.{taken_under}
 use Rattle.hx_run.proofs.Arranged.{actor-at, actor-exists, filled, is-actor, place-apart, rises}
 use Rattle.hx_run.proofs.Courses.{below-or-not}
@@ -195,8 +195,8 @@ module _ (script : Script) (clock : TableId) (boxes : List Boxed) (w : ℕ) wher
   pub sorted-places : AreBoxes script clock boxes → (crews : List Crew) → AllByRecursion (IsCrew script clock boxes w) crews → HaveAllActors script crews → (sorted : List OwnedPort) → IsPermutation (map owned_port_of (desks_of crews)) sorted
       → IsNonDecreasingBy (place_at script) sorted → AreInPlaces script 0 sorted × (length sorted ≡ length boxes)
   sorted-places are crews h all sorted p up =
-      let takers = map owned_port_of (desks_of crews) in
-      let real : AllByRecursion IsReady sorted = permuted IsReady takers sorted p (ready are (desks_of crews) (all-desks crews h)) in
+      let owned_ports = map owned_port_of (desks_of crews) in
+      let real : AllByRecursion IsReady sorted = permuted IsReady owned_ports sorted p (ready are (desks_of crews) (all-desks crews h)) in
       let exist : AllByRecursion (λ (t : OwnedPort). Exists script t.actor) sorted = each_map IsReady (λ (t : OwnedPort). Exists script t.actor) sorted (λ t i k. k.0) real in
       let n = 1 + script.space.servers + length script.sessions in
       let r =
@@ -205,7 +205,7 @@ module _ (script : Script) (clock : TableId) (boxes : List Boxed) (w : ℕ) wher
       (λ j low lt.
       let a = actor-at script j lt in
       let d = all.all a.0 (is-actor script a.0 a.1) in
-      (owned_port_of d.0, in_permuted takers sorted (owned_port_of d.0) p (in_map owned_port_of (desks_of crews) d.0 d.1), ap (place_of script.space) d.2 ∙ a.2)) in
+      (owned_port_of d.0, in_permuted owned_ports sorted (owned_port_of d.0) p (in_map owned_port_of (desks_of crews) d.0 d.1), ap (place_of script.space) d.2 ∙ a.2)) in
       let b = are.count in
       (r.0, omega (arith, r.1, b))
 
@@ -305,7 +305,7 @@ module _ (script : Script) (clock : TableId) (boxes : List Boxed) (w : ℕ) wher
   IsDone crews t = Exists script t.actor × IsFirstPort clock crews t.actor t.inbox
 
   done-each : AreBoxes script clock boxes → (crews : List Crew) (outs : List Outbox) → ((o : Outbox) → IsIn o outs → IsOutOf crews o) → 1 ≤ w → HaveIndexes w outs → AllByRecursion IsSome (desks_of crews) → (sorted joined : List OwnedPort) → ((t : OwnedPort) → IsIn t sorted → IsIn t (map owned_port_of (desks_of crews)))
-      → Both IsKeptTaker sorted joined → AllByRecursion (IsJoined script w boxes outs) joined → AllByRecursion (IsDone crews) joined
+      → Both IsKeptPort sorted joined → AllByRecursion (IsJoined script w boxes outs) joined → AllByRecursion (IsDone crews) joined
   done-each are crews outs from some index all [] [] back k j = tt
   done-each are crews outs from some index all [] (u ∷ joined) back k j = absurd k
   done-each are crews outs from some index all (t ∷ sorted) [] back k j = absurd k
@@ -325,7 +325,7 @@ module _ (script : Script) (clock : TableId) (boxes : List Boxed) (w : ℕ) wher
       let same : t.actor ≡ a = place-apart script t.actor a dt.0.0 ea.0 (pt.0 ∙ sym pa.0) in
       (subst (λ x. IsFirstPort clock crews x t.inbox) same dt.0.1, in-order crews (suc n) xs ts pa.1 ea.1 pt.1 dt.1 (omega (arith, e)))
 
-  places-stay : (n : ℕ) (ds es : List OwnedPort) → Both IsKeptTaker ds es → AreInPlaces script n ds → AreInPlaces script n es
+  places-stay : (n : ℕ) (ds es : List OwnedPort) → Both IsKeptPort ds es → AreInPlaces script n ds → AreInPlaces script n es
   places-stay n [] [] h k = tt
   places-stay n [] (e ∷ es) h k = absurd h
   places-stay n (d ∷ ds) [] h k = absurd h
@@ -341,13 +341,13 @@ module _ (script : Script) (clock : TableId) (boxes : List Boxed) (w : ℕ) wher
 
   pub is-left : AreBoxes script clock boxes → (crews : List Crew) → AllByRecursion (IsCrew script clock boxes w) crews → HaveAllActors script crews → 1 ≤ w → AreNumbered w crews
       → (actors : List SeatedPart) → actors ≡ map seated_of (desks_of crews) → (totals : List Totals) → totals ≡ map (λ (c : Crew). c.totals) crews
-      → (sorted joined : List OwnedPort) → IsPermutation (map owned_port_of (desks_of crews)) sorted → AreInPlaces script 0 sorted → length sorted ≡ length boxes → Both IsKeptTaker sorted joined
+      → (sorted joined : List OwnedPort) → IsPermutation (map owned_port_of (desks_of crews)) sorted → AreInPlaces script 0 sorted → length sorted ≡ length boxes → Both IsKeptPort sorted joined
       → AllByRecursion (IsJoined script w boxes (map (λ (c : Crew). c.out) crews)) joined
       → (ports : List Ported) → ports ≡ map (λ (t : OwnedPort). t.inbox) joined → IsLeft script clock crews actors totals ports
   is-left are crews h all some numbered actors ea totals et sorted joined p placed long kept joins ports ep =
       let ds = all-desks crews h in
       let b = are.count in
-      let many : length (actors_of script) ≡ length joined = omega (arith, how-many script, b, long, both-long IsKeptTaker sorted joined kept) in
+      let many : length (actors_of script) ≡ length joined = omega (arith, how-many script, b, long, both-long IsKeptPort sorted joined kept) in
       let done = done-each are crews (map (λ (c : Crew). c.out) crews) (outs-of crews h) some (have-indexes w crews numbered).1 ds sorted joined (λ t i. in_permuted sorted (map owned_port_of (desks_of crews)) t (IsPermutation-sym _ _ p) i) kept joins in
       record {
         parts = ap parts_by ea ∙ parts-are (desks_of crews);

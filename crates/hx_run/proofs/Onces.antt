@@ -20,7 +20,7 @@ use Rattle.hx_outbox.specs.Zipped.{Both}
 use Rattle.hx_run.specs.declared.joining.OwnedPort.{OwnedPort}
 use Rattle.hx_driver.specs.Inboxes.{ins_of}
 use Rattle.hx_law_drivers.specs.Joined.{outs_at}
-use Rattle.hx_run.specs.Joined.{joined_lists, place_at, AreInPlaces, HaveIndexes, IsJoined, IsKeptTaker, TookOnce}
+use Rattle.hx_run.specs.Joined.{joined_lists, place_at, AreInPlaces, HaveIndexes, IsJoined, IsKeptPort, TookOnce}
 use Rattle.hx_run.proofs.Joins.{joined-has, place-kept, some-at}
 
 -- h of the post, whatever the name
@@ -108,7 +108,7 @@ module _ (script : Script) where
   all-sums h ds [] k = omega arith
   all-sums h ds (o ∷ outs) k = omega (arith, placed-sum h 0 ds o.ports.items k, all-sums h ds outs k)
 
-  once-desks : (w : ℕ) (boxes : List Boxed) (outs : List Outbox) → 0 < length outs → HaveIndexes w outs → (h : Mailed → ℕ) (ds es : List OwnedPort) → Both IsKeptTaker ds es → AllByRecursion (IsJoined script w boxes outs) es
+  once-desks : (w : ℕ) (boxes : List Boxed) (outs : List Outbox) → 0 < length outs → HaveIndexes w outs → (h : Mailed → ℕ) (ds es : List OwnedPort) → Both IsKeptPort ds es → AllByRecursion (IsJoined script w boxes outs) es
       → total (λ (e : OwnedPort). total h (map (λ s. s.mailed) (ins_of e.inbox))) ds ≤ total (λ (e : OwnedPort). total (λ (o : Outbox). total h (outs_at (place_at script e) o.ports.items)) outs) ds
   once-desks w boxes outs some index h [] es k j = omega arith
   once-desks w boxes outs some index h (d ∷ ds) [] k j = absurd k
@@ -125,5 +125,5 @@ module _ (script : Script) where
         once-desks w boxes outs some index h ds es k.1 j.1,
       )
 
-  pub took-once : (w : ℕ) (boxes : List Boxed) (outs : List Outbox) → 0 < length outs → HaveIndexes w outs → (ds es : List OwnedPort) → AreInPlaces script 0 ds → Both IsKeptTaker ds es → AllByRecursion (IsJoined script w boxes outs) es → TookOnce outs ds
+  pub took-once : (w : ℕ) (boxes : List Boxed) (outs : List Outbox) → 0 < length outs → HaveIndexes w outs → (ds es : List OwnedPort) → AreInPlaces script 0 ds → Both IsKeptPort ds es → AllByRecursion (IsJoined script w boxes outs) es → TookOnce outs ds
   took-once w boxes outs some index ds es placed k j h = omega (arith, once-desks w boxes outs some index h ds es k j, exchange h ds outs, all-sums h ds outs placed)

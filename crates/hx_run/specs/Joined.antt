@@ -33,9 +33,9 @@ pub record IsJoined (script : Script) (w : ℕ) (boxes : List Boxed) (outs : Lis
   pub once : (outs ≡ []) ⊎ IsOnce d.inbox.view
 
 -- the same actor and all that was taken, but for what the first port of its box knows of others
-pub record IsKeptTaker (t t' : OwnedPort) : Type 0 where
-  pub actor : t'.actor ≡ t.actor
-  pub ins : ins_of t'.inbox ≡ ins_of t.inbox
+pub record IsKeptPort (p p' : OwnedPort) : Type 0 where
+  pub actor : p'.actor ≡ p.actor
+  pub ins : ins_of p'.inbox ≡ ins_of p.inbox
 
 -- the actors are those of the places n, n + 1 and so on
 abbrev pub AreInPlaces : Script → ℕ → List OwnedPort → Type 0

@@ -36,29 +36,29 @@ fn part_and_port(desk: Desk) -> (SeatedPart, OwnedPort)
 /// What is left of an actor.
 fn take_desk(
     actors: &mut Vec<SeatedPart>,
-    takers: &mut Vec<OwnedPort>,
+    owned_ports: &mut Vec<OwnedPort>,
     desk: Desk,
 ) -> Result<(), Memory>
     ensures actors { OnOk result (actors.new.items ≡ actors.old.items ++ seated_of desk ∷ []) }
-    ensures takers { OnOk result (takers.new.items ≡ takers.old.items ++ owned_port_of desk ∷ []) }
+    ensures owned_ports { OnOk result (owned_ports.new.items ≡ owned_ports.old.items ++ owned_port_of desk ∷ []) }
 {
-    let (seated, taker) = part_and_port(desk);
+    let (seated, owned_port) = part_and_port(desk);
     actors.push(seated)?;
-    takers.push(taker)?;
+    owned_ports.push(owned_port)?;
     Ok(())
 }
 
 /// What is left of a driver's actors.
 fn take_desks(
     actors: &mut Vec<SeatedPart>,
-    takers: &mut Vec<OwnedPort>,
+    owned_ports: &mut Vec<OwnedPort>,
     desks: Vec<Desk>,
 ) -> Result<(), Memory>
     ensures actors { OnOk result (actors.new.items ≡ actors.old.items ++ map seated_of desks.items) }
-    ensures takers { OnOk result (takers.new.items ≡ takers.old.items ++ map owned_port_of desks.items) }
+    ensures owned_ports { OnOk result (owned_ports.new.items ≡ owned_ports.old.items ++ map owned_port_of desks.items) }
 {
     for desk in desks {
-        take_desk(actors, takers, desk)?;
+        take_desk(actors, owned_ports, desk)?;
     }
     Ok(())
 }
@@ -66,18 +66,18 @@ fn take_desks(
 /// What is left of a driver, but for its fate.
 fn take_crew(
     actors: &mut Vec<SeatedPart>,
-    takers: &mut Vec<OwnedPort>,
+    owned_ports: &mut Vec<OwnedPort>,
     outs: &mut Vec<Outbox>,
     totals: &mut Vec<Totals>,
     crew: Crew,
 ) -> Result<(), Memory>
     ensures actors { OnOk result (actors.new.items ≡ actors.old.items ++ map seated_of crew.desks.items) }
-    ensures takers { OnOk result (takers.new.items ≡ takers.old.items ++ map owned_port_of crew.desks.items) }
+    ensures owned_ports { OnOk result (owned_ports.new.items ≡ owned_ports.old.items ++ map owned_port_of crew.desks.items) }
     ensures outs { OnOk result (outs.new.items ≡ outs.old.items ++ crew.out ∷ []) }
     ensures totals { OnOk result (totals.new.items ≡ totals.old.items ++ crew.totals ∷ []) }
 {
     let (desks, out, sum) = crew.into_parts();
-    take_desks(actors, takers, desks)?;
+    take_desks(actors, owned_ports, desks)?;
     outs.push(out)?;
     totals.push(sum)?;
     Ok(())
@@ -88,7 +88,7 @@ fn take_crew(
 #[derive(Drop)]
 struct Apart {
     actors: Vec<SeatedPart>,
-    takers: Vec<OwnedPort>,
+    owned_ports: Vec<OwnedPort>,
     outs: Vec<Outbox>,
     totals: Vec<Totals>,
     fates: Vec<Box<dyn Fate + Send>>,
@@ -97,37 +97,37 @@ struct Apart {
 /// Takes drivers apart.
 fn take_apart(alloc: Global, drivers: Vec<Driver>) -> Result<Apart, Memory>
     ensures actors { IfOk result (λ apart. apart.actors.items ≡ map seated_of (desks_of (map (λ d. d.crew) drivers.items))) }
-    ensures takers { IfOk result (λ apart. apart.takers.items ≡ map owned_port_of (desks_of (map (λ d. d.crew) drivers.items))) }
+    ensures owned_ports { IfOk result (λ apart. apart.owned_ports.items ≡ map owned_port_of (desks_of (map (λ d. d.crew) drivers.items))) }
     ensures outs { IfOk result (λ apart. apart.outs.items ≡ map (λ c. c.out) (map (λ d. d.crew) drivers.items)) }
     ensures totals { IfOk result (λ apart. apart.totals.items ≡ map (λ c. c.totals) (map (λ d. d.crew) drivers.items)) }
     ensures fates { IfOk result (λ apart. apart.fates.items ≡ map (λ d. d.fate) drivers.items) }
 {
     let mut actors = Vec::new(alloc);
-    let mut takers = Vec::new(alloc);
+    let mut owned_ports = Vec::new(alloc);
     let mut outs = Vec::new(alloc);
     let mut totals = Vec::new(alloc);
     let mut fates = Vec::new(alloc);
     for driver in drivers {
         let Driver { crew, fate } = driver;
-        take_crew(&mut actors, &mut takers, &mut outs, &mut totals, crew)?;
+        take_crew(&mut actors, &mut owned_ports, &mut outs, &mut totals, crew)?;
         fates.push(fate)?;
     }
     Ok(Apart {
         actors,
-        takers,
+        owned_ports,
         outs,
         totals,
         fates,
     })
 }
 
-/// The ports of takers, in order.
-fn ports_of(alloc: Global, takers: Vec<OwnedPort>) -> Result<Vec<Port>, Memory>
-    ensures { IfOk result (λ ports. ports.items ≡ map (λ t. t.inbox) takers.items) }
+/// The ports, in order.
+fn ports_of(alloc: Global, owned_ports: Vec<OwnedPort>) -> Result<Vec<Port>, Memory>
+    ensures { IfOk result (λ ports. ports.items ≡ map (λ t. t.inbox) owned_ports.items) }
 {
     let mut ports = Vec::new(alloc);
-    for taker in takers {
-        let OwnedPort { actor: _, inbox } = taker;
+    for owned_port in owned_ports {
+        let OwnedPort { actor: _, inbox } = owned_port;
         ports.push(inbox)?;
     }
     Ok(ports)
@@ -145,14 +145,14 @@ pub fn close<R: Wait, G>(floor: &Floor<'_, R, G>, drivers: Vec<Driver>) -> Resul
     let apart = take_apart(floor.alloc, drivers)?;
     let Apart {
         actors,
-        mut takers,
+        mut owned_ports,
         outs,
         totals,
         fates,
     } = apart;
-    sort_by_place(floor.script, &mut takers)?;
-    join_all(floor.rt, floor.script, floor.boxes, &mut takers, outs);
-    let ports = ports_of(floor.alloc, takers)?;
+    sort_by_place(floor.script, &mut owned_ports)?;
+    join_all(floor.rt, floor.script, floor.boxes, &mut owned_ports, outs);
+    let ports = ports_of(floor.alloc, owned_ports)?;
     Ok(Closed {
         actors,
         totals,

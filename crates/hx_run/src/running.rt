@@ -65,7 +65,7 @@ fn met_worn(alloc: Global, drivers: &[Driver]) -> Result<Vec<Option<Actor>>, Mem
 /// drivers met worn.
 #[derive(Drop)]
 struct Driven {
-    left: Closed,
+    closed: Closed,
     fault: Option<Fault>,
     met_worn: Vec<Option<Actor>>,
 }
@@ -87,7 +87,7 @@ fn run_drivers<R: Threads + Wait + Sync, G: Gate + Sync>(
     requires seats { AreNewSeats clock.now seats.items × (length seats.items ≡ length (actors_of script.now)) }
     requires workers { (1 ≤ workers) × (workers ≤ 16) × (workers ≤ length fates.items) }
     requires capacity { 1 ≤ capacity }
-    ensures left { IfOk result (λ made. (start : List Crew) × (now : List Crew) × AreClosed script.now clock.now workers start now made.fault × IsLeft script.now clock.now now made.left.actors.items made.left.totals.items made.left.ports.items × (made.met_worn.items ≡ map (λ c. worn_in c.fault) now) × (length made.left.fates.items ≡ workers) × ((i : ℕ) (f : _) (g : _) (c : Crew) → slice_get fates.items i ≡ Some f → slice_get made.left.fates.items i ≡ Some g → slice_get now i ≡ Some c → HasPosted c (state f) (state g))) }
+    ensures closed { IfOk result (λ made. (start : List Crew) × (now : List Crew) × AreClosed script.now clock.now workers start now made.fault × IsLeft script.now clock.now now made.closed.actors.items made.closed.totals.items made.closed.ports.items × (made.met_worn.items ≡ map (λ c. worn_in c.fault) now) × (length made.closed.fates.items ≡ workers) × ((i : ℕ) (f : _) (g : _) (c : Crew) → slice_get fates.items i ≡ Some f → slice_get made.closed.fates.items i ≡ Some g → slice_get now i ≡ Some c → HasPosted c (state f) (state g))) }
 {
     let (boxes, ports) = open_boxes(rt, alloc, script, clock, workers, capacity)?;
     let held = boxes.as_slice();
@@ -102,9 +102,9 @@ fn run_drivers<R: Threads + Wait + Sync, G: Gate + Sync>(
         boxes: held,
         gate,
     };
-    let left = close(&floor, drivers)?;
+    let closed = close(&floor, drivers)?;
     Ok(Driven {
-        left,
+        closed,
         fault,
         met_worn,
     })
@@ -155,7 +155,7 @@ pub fn run<R: Threads + Wait + Sync, G: Gate + Sync>(
         rt, alloc, script, &clock, seats, workers, capacity, fates, gate,
     )?;
     let Driven {
-        left,
+        closed,
         fault,
         met_worn,
     } = driven;
@@ -165,7 +165,7 @@ pub fn run<R: Threads + Wait + Sync, G: Gate + Sync>(
         totals,
         fates,
         ports,
-    } = left;
+    } = closed;
     let Gathered { trace, seat } = gather(alloc, clock, seat, actors)?;
     runs_of_drivers_are_paced();
     traces_go_on();

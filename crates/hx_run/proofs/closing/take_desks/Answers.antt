@@ -8,5 +8,6 @@ loop-desk-preserved c =
     let i = c.loop-desk.invariant in
     let n = c.in_ok-take_desk.ensures in (
       n.actors ∙ ap (λ l. l ++ seated_of c.in-Some.desk ∷ []) i.0 ∙ one-more seated_of c.args.actors.now.items c.loop-desk.yielded c.in-Some.desk,
-      n.takers ∙ ap (λ l. l ++ owned_port_of c.in-Some.desk ∷ []) i.1 ∙ one-more owned_port_of c.args.takers.now.items c.loop-desk.yielded c.in-Some.desk,
+      n.owned_ports ∙ ap (λ l. l ++ owned_port_of c.in-Some.desk ∷ []) i.1
+          ∙ one-more owned_port_of c.args.owned_ports.now.items c.loop-desk.yielded c.in-Some.desk,
     )
