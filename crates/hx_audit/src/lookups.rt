@@ -16,13 +16,13 @@ fn is_before(caller: Caller, other: Caller) -> bool
     ensures { result ≡ caller_below caller other }
 {
     caller.session.0 < other.session.0
-        || (caller.session.0 == other.session.0 && caller.number < other.number)
+        || (caller.session == other.session && caller.number < other.number)
 }
 
 fn is_same(caller: Caller, other: Caller) -> bool
     ensures { result ≡ same_caller caller other }
 {
-    caller.session.0 == other.session.0 && caller.number == other.number
+    caller.session == other.session && caller.number == other.number
 }
 
 /// Where the calls of lower callers end.

@@ -32,7 +32,7 @@ fn joiner_in(server: ServerId, members: &[Member]) -> Option<ServerId>
 fn follower(server: ServerId, member: Member, after: &[Member]) -> Option<ServerId>
     ensures { result ≡ (if same_server member.server server && member.ready then option_map (λ (x : Listed). x.server) (first_of_list after.now) else None) }
 {
-    if member.server.0 == server.0 && member.ready {
+    if member.server == server && member.ready {
         Some(after.first()?.server)
     } else {
         None

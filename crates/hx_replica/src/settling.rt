@@ -15,7 +15,7 @@ use std::alloc::Global;
 fn is_among(versions: &[Version], version: Version) -> bool
     ensures { result ≡ list_any (λ (v : Numbered). v.0 == version.0) versions.now }
 {
-    versions.iter().any(|other| other.0 == version.0)
+    versions.iter().any(|other| *other == version)
 }
 
 /// Whether a version is acknowledged, or one of those that are being acknowledged.

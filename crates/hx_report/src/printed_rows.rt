@@ -52,7 +52,7 @@ pub fn no_printed_rows<'a>(alloc: Global) -> PrintedRows<'a>
 fn is_same(row: &Row, other: &Row) -> bool
     ensures { IsTrue result → row.now ≡ other.now }
 {
-    row.version.0 == other.version.0 && row.key.same(&other.key) && row.object.same(&other.object)
+    row.version == other.version && row.key.same(&other.key) && row.object.same(&other.object)
 }
 
 /// Makes the line of a row behind the other lines.

@@ -24,7 +24,7 @@ use std::alloc::Global;
 fn is_of(booked: &Booked, caller: Caller) -> bool
     ensures { result ≡ is_of caller booked.now }
 {
-    booked.caller.session.0 == caller.session.0 && booked.caller.number == caller.number
+    booked.caller.session == caller.session && booked.caller.number == caller.number
 }
 
 /// The first of these that is booked for the call.
