@@ -34,7 +34,7 @@ pub fn space(alloc: Global) -> Result<Space, Memory>
     })
 }
 
-fn halting() -> Post
+pub fn halting() -> Post
     ensures { result ≡ halting }
 {
     Post {

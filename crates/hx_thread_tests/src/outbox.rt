@@ -1,4 +1,5 @@
 //! Envelopes that a driver puts into boxes of one place: what finds no room is kept, and put again.
+//! And the copies of a step's posts.
 ghost use Rattle.std.specs.Prelude.{◌≡◌, [], IfOk};
 ghost use Rattle.hx_clock.specs.Views.{Owns};
 ghost use Rattle.hx_mail.specs.Boxes.{IsPortOf};
@@ -7,11 +8,12 @@ ghost use Rattle.hx_outbox.specs.Places.{AreBoxes, names_for};
 ghost use Rattle.hx_thread_tests.specs.Mailed.{no_calls, small};
 
 use crate::clocks::begun;
-use crate::mail::{SERVER, ask, space};
+use crate::mail::{SERVER, ask, halting, space};
 use hx_clock::{Clock, Seat};
+use hx_fate::{EveryNth, Fate, Tuning};
 use hx_mail::{Envelope, Mailbox, Port};
-use hx_outbox::{Floor, Outbox, put_kept, put_or_keep};
-use hx_types::{Actor, Memory, Script, Sessions, Space, Steps};
+use hx_outbox::{Copies, Floor, Outbox, put_kept, put_or_keep};
+use hx_types::{Actor, Memory, Post, Script, Sessions, Space, Steps};
 use std::alloc::Global;
 use std::collections::VecDeque;
 use std::process::Abort;
@@ -127,5 +129,29 @@ fn what_finds_no_room_is_kept_and_put_again(rt: HostRuntime) -> Result<(), Fail>
         &mut seat,
     );
     assert_eq!(rt; told, ((Some(1), 1), (Some(2), 0)));
+    Ok(())
+}
+
+/// How many posts are in the two lists, once they have copies of these for a fate that repeats one
+/// of so many.
+fn copied<R: Abort>(rt: &R, alloc: Global, posts: &[Post], repeat_every: u32) -> (usize, usize) {
+    let mut fate = EveryNth::new();
+    fate.tune(Tuning {
+        lose_every: 0,
+        repeat_every,
+    });
+    let mut copies = Copies::new(alloc);
+    let Ok(()) = copies.fill(alloc, posts, fate.state().repeats()) else {
+        panic!(rt; "no memory");
+    };
+    (copies.firsts.len(), copies.seconds.len())
+}
+
+#[test]
+fn posts_have_a_second_copy_only_where_a_fate_may_repeat(rt: HostRuntime) -> Result<(), Fail> {
+    let alloc: Global = rt.alloc();
+    let posts = vec![in alloc; halting(), halting()]?;
+    assert_eq!(rt; copied(&rt, alloc, posts.as_slice(), 2), (2, 2));
+    assert_eq!(rt; copied(&rt, alloc, posts.as_slice(), 0), (2, 0));
     Ok(())
 }
