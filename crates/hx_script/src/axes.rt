@@ -1,7 +1,7 @@
 //! How a subspace cuts the values of some attributes.
 
 ghost use Rattle.std.specs.Prelude.{◌≡◌, ◌≤◌, ◌+◌, ◌*◌, IfOk, OnOk, length};
-ghost use Rattle.hx_types.specs.declared.limits.TheConstants.{MOST_REGIONS};
+ghost use Rattle.hx_types.specs.declared.limits.TheConstants.{MOST_ATTRIBUTES, MOST_REGIONS};
 ghost use Rattle.hx_script.specs.Readers.{Reads};
 ghost use Rattle.hx_script.specs.Axes.{has_axis, free_axis, parts, axis, next_axis, more_axes, subspace};
 
@@ -29,7 +29,7 @@ fn has_axis(axes: &Axes, attribute: u32) -> bool
 /// A declared attribute that isn't an axis yet, by its name.
 #[tactic(auto, unfolding(crate::specs::Axes::free_axis))]
 fn free_axis(space: &Space, axes: &Axes, line: &mut Line<'_>) -> Result<u32, Stop>
-    requires few { length space.now.attributes ≤ 16 }
+    requires few { length space.now.attributes ≤ MOST_ATTRIBUTES }
     ensures { Reads (λ a. a) result line.new (free_axis space.now axes.now line.old) }
 {
     let word = named(line)?;
@@ -60,7 +60,7 @@ fn parts(regions: u32, size: u32, line: &mut Line<'_>) -> Result<u32, Stop>
 /// One more axis.
 #[tactic(auto, unfolding(crate::specs::Axes::axis))]
 fn axis(space: &Space, regions: u32, draft: &mut AxesDraft, line: &mut Line<'_>) -> Result<(), Stop>
-    requires few { length space.now.attributes ≤ 16 }
+    requires few { length space.now.attributes ≤ MOST_ATTRIBUTES }
     ensures reads { Reads (λ _. draft.new) result line.new (axis space.now regions draft.old line.old) }
     ensures within { OnOk result (regions + draft.new.size ≤ MOST_REGIONS) }
 {
@@ -79,7 +79,7 @@ fn next_axis(
     draft: &mut AxesDraft,
     line: &mut Line<'_>,
 ) -> Result<(), Stop>
-    requires few { length space.now.attributes ≤ 16 }
+    requires few { length space.now.attributes ≤ MOST_ATTRIBUTES }
     ensures reads { Reads (λ _. draft.new) result line.new (next_axis space.now regions draft.old line.old) }
     ensures within { OnOk result (regions + draft.new.size ≤ MOST_REGIONS) }
 {
@@ -95,7 +95,7 @@ fn more_axes(
     draft: &mut AxesDraft,
     line: &mut Line<'_>,
 ) -> Result<(), Stop>
-    requires few { length space.now.attributes ≤ 16 }
+    requires few { length space.now.attributes ≤ MOST_ATTRIBUTES }
     requires room { regions + draft.old.size ≤ MOST_REGIONS }
     ensures reads { Reads (λ _. draft.new) result line.new (more_axes space.now regions draft.old line.old) }
     ensures within { OnOk result (regions + draft.new.size ≤ MOST_REGIONS) }
@@ -114,7 +114,7 @@ pub(crate) fn subspace(
     regions: u32,
     line: &mut Line<'_>,
 ) -> Result<AxesDraft, Stop>
-    requires few { length space.now.attributes ≤ 16 }
+    requires few { length space.now.attributes ≤ MOST_ATTRIBUTES }
     ensures reads { Reads (λ c. c) result line.new (subspace space.now regions line.old) }
     ensures within { IfOk result (λ c. regions + c.size ≤ MOST_REGIONS) }
 {

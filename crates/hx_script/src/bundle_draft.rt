@@ -2,6 +2,8 @@
 
 ghost use Rattle.std.specs.Prelude.{◌≡◌, ◌<◌, ◌≤◌, IfOk, length};
 ghost use Rattle.std.specs.List.{All};
+ghost use Rattle.hx_types.specs.declared.limits.TheConstants.{MOST_ATTRIBUTES, MOST_SESSIONS};
+ghost use Rattle.hx_bundle.specs.declared.limits.TheConstants.{MOST_SPACES};
 ghost use Rattle.hx_script.specs.declared.draft.Draft.{Draft};
 ghost use Rattle.hx_script.specs.BundleGrammar.{all_servers_line, all_steps_line, all_tolerate_line, behind_keys, bundle_command, bundle_heading_line, bundle_line_of, last_space_line, new_space_name, next_session_line, next_space_line, second_hx_line, space_call_line, space_named, space_step_line, spaces_line};
 ghost use Rattle.hx_script.specs.BundleTexts.{TextAnswers, bundle_finished, bundle_may_end, empty_bundle_draft};
@@ -62,7 +64,7 @@ impl Drop for BundleDraft {
 /// A declared space, by its name.
 #[tactic(auto, unfolding(crate::specs::BundleGrammar::space_named))]
 fn space_named(spaces: &Drafts, line: &mut Line<'_>) -> Result<u32, Stop>
-    requires few { length spaces.now ≤ 8 }
+    requires few { length spaces.now ≤ MOST_SPACES }
     ensures reads { Reads (λ k. k) result line.new (space_named spaces.now line.old) }
     ensures within { IfOk result (λ k. k < length spaces.now) }
 {
@@ -141,7 +143,7 @@ impl BundleDraft {
         heading: Heading,
         line: &mut Line<'_>,
     ) -> Result<(), Stop>
-        requires attributes { All (λ (d : Draft). length d.space.attributes ≤ 16) self.old.spaces }
+        requires attributes { All (λ (d : Draft). length d.space.attributes ≤ MOST_ATTRIBUTES) self.old.spaces }
         ensures { Reads (λ _. self.new) result line.new (last_space_line self.old heading line.old) }
     {
         self.spaces.head_line(alloc, heading, line)
@@ -176,8 +178,8 @@ impl BundleDraft {
     /// One more call of the last session, in the space that is named behind the first word.
     #[tactic(auto, unfolding(crate::specs::BundleGrammar::space_call_line))]
     fn call_line(&mut self, alloc: Global, word: CallWord, line: &mut Line<'_>) -> Result<(), Stop>
-        requires spaces { length self.old.spaces ≤ 8 }
-        requires attributes { All (λ (d : Draft). length d.space.attributes ≤ 16) self.old.spaces }
+        requires spaces { length self.old.spaces ≤ MOST_SPACES }
+        requires attributes { All (λ (d : Draft). length d.space.attributes ≤ MOST_ATTRIBUTES) self.old.spaces }
         ensures { Reads (λ _. self.new) result line.new (space_call_line self.old word line.old) }
     {
         if self.calls as usize >= MOST_CALLS {
@@ -193,8 +195,8 @@ impl BundleDraft {
     /// One more step in the space that is named behind the first word, on the line of that number.
     #[tactic(auto, unfolding(crate::specs::BundleGrammar::space_step_line))]
     fn step_line(&mut self, number: u64, word: StepWord, line: &mut Line<'_>) -> Result<(), Stop>
-        requires spaces { length self.old.spaces ≤ 8 }
-        requires sessions { length self.old.turns ≤ 16 }
+        requires spaces { length self.old.spaces ≤ MOST_SPACES }
+        requires sessions { length self.old.turns ≤ MOST_SESSIONS }
         ensures { Reads (λ _. self.new) result line.new (space_step_line number self.old word line.old) }
     {
         if self.steps.len() >= MOST_STEPS {
@@ -238,7 +240,7 @@ impl BundleDraft {
         heading: Heading,
         line: &mut Line<'_>,
     ) -> Result<(), Stop>
-        requires attributes { All (λ (d : Draft). length d.space.attributes ≤ 16) self.old.spaces }
+        requires attributes { All (λ (d : Draft). length d.space.attributes ≤ MOST_ATTRIBUTES) self.old.spaces }
         ensures { Reads (λ _. self.new) result line.new (spaces_line self.old heading line.old) }
     {
         match heading {
@@ -256,7 +258,7 @@ impl BundleDraft {
         heading: Heading,
         line: &mut Line<'_>,
     ) -> Result<(), Stop>
-        requires attributes { All (λ (d : Draft). length d.space.attributes ≤ 16) self.old.spaces }
+        requires attributes { All (λ (d : Draft). length d.space.attributes ≤ MOST_ATTRIBUTES) self.old.spaces }
         ensures { Reads (λ _. self.new) result line.new (bundle_heading_line self.old self.old.section heading line.old) }
     {
         match (self.section, heading) {
@@ -274,9 +276,9 @@ impl BundleDraft {
     /// A line that isn't empty.
     #[tactic(auto, unfolding(crate::specs::BundleGrammar::bundle_command))]
     fn command(&mut self, alloc: Global, number: u64, line: &mut Line<'_>) -> Result<(), Stop>
-        requires spaces { length self.old.spaces ≤ 8 }
-        requires sessions { length self.old.turns ≤ 16 }
-        requires attributes { All (λ (d : Draft). length d.space.attributes ≤ 16) self.old.spaces }
+        requires spaces { length self.old.spaces ≤ MOST_SPACES }
+        requires sessions { length self.old.turns ≤ MOST_SESSIONS }
+        requires attributes { All (λ (d : Draft). length d.space.attributes ≤ MOST_ATTRIBUTES) self.old.spaces }
         ensures { Reads (λ _. self.new) result line.new (bundle_command number self.old line.old) }
     {
         let word = line.word()?;
@@ -292,9 +294,9 @@ impl BundleDraft {
 
     /// Reads the line of that number, which is given without its newline.
     pub(crate) fn read_line(&mut self, alloc: Global, number: u64, line: &[u8]) -> Result<(), Stop>
-        requires spaces { length self.old.spaces ≤ 8 }
-        requires sessions { length self.old.turns ≤ 16 }
-        requires attributes { All (λ (d : Draft). length d.space.attributes ≤ 16) self.old.spaces }
+        requires spaces { length self.old.spaces ≤ MOST_SPACES }
+        requires sessions { length self.old.turns ≤ MOST_SESSIONS }
+        requires attributes { All (λ (d : Draft). length d.space.attributes ≤ MOST_ATTRIBUTES) self.old.spaces }
         ensures { Gives (λ _. self.new) result (bundle_line_of number self.old line.now) }
     {
         let tokens = tokens_in(alloc, line)?;

@@ -1,6 +1,7 @@
 //! A script as far as its lines were read.
 
 ghost use Rattle.std.specs.Prelude.{◌≡◌, OnOk, ◌≤◌, length};
+ghost use Rattle.hx_types.specs.declared.limits.TheConstants.{MOST_ATTRIBUTES, MOST_SESSIONS};
 ghost use Rattle.hx_script.specs.Readers.{Reads, Gives};
 ghost use Rattle.hx_script.specs.Grammar.{push_to_last, call_line, step_line, command, line_of};
 ghost use Rattle.hx_script.specs.BundleTexts.{script_so_far};
@@ -87,7 +88,7 @@ impl Draft {
         word: CallWord,
         line: &mut Line<'_>,
     ) -> Result<(), Stop>
-        requires attributes { length self.old.space.attributes ≤ 16 }
+        requires attributes { length self.old.space.attributes ≤ MOST_ATTRIBUTES }
         ensures { Reads (λ _. self.new) result line.new (call_line self.old word line.old) }
     {
         if self.calls as usize >= MOST_CALLS {
@@ -102,7 +103,7 @@ impl Draft {
     /// One more step, which stands on the line of that number.
     #[tactic(auto, unfolding(crate::specs::Grammar::step_line))]
     fn step_line(&mut self, number: u64, word: StepWord, line: &mut Line<'_>) -> Result<(), Stop>
-        requires sessions { length self.old.sessions ≤ 16 }
+        requires sessions { length self.old.sessions ≤ MOST_SESSIONS }
         ensures { Reads (λ _. self.new) result line.new (step_line number self.old word line.old) }
     {
         if self.steps.len() >= MOST_STEPS {
@@ -117,8 +118,8 @@ impl Draft {
     /// A line that isn't empty.
     #[tactic(auto, unfolding(crate::specs::Grammar::command))]
     fn command(&mut self, alloc: Global, number: u64, line: &mut Line<'_>) -> Result<(), Stop>
-        requires sessions { length self.old.sessions ≤ 16 }
-        requires attributes { length self.old.space.attributes ≤ 16 }
+        requires sessions { length self.old.sessions ≤ MOST_SESSIONS }
+        requires attributes { length self.old.space.attributes ≤ MOST_ATTRIBUTES }
         ensures { Reads (λ _. self.new) result line.new (command number self.old line.old) }
     {
         let word = line.word()?;
@@ -132,8 +133,8 @@ impl Draft {
 
     /// Reads the line of that number, which is given without its newline.
     pub(crate) fn read_line(&mut self, alloc: Global, number: u64, line: &[u8]) -> Result<(), Stop>
-        requires sessions { length self.old.sessions ≤ 16 }
-        requires attributes { length self.old.space.attributes ≤ 16 }
+        requires sessions { length self.old.sessions ≤ MOST_SESSIONS }
+        requires attributes { length self.old.space.attributes ≤ MOST_ATTRIBUTES }
         ensures { Gives (λ _. self.new) result (line_of number self.old line.now) }
     {
         let tokens = tokens_in(alloc, line)?;

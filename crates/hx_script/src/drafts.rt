@@ -2,6 +2,8 @@
 
 ghost use Rattle.std.specs.Prelude.{◌≡◌, ◌++◌, ◌∷◌, [], ◌<◌, ◌≤◌, IfOk, IfSome, OnOk, length, map, position};
 ghost use Rattle.std.specs.List.{All, list_any};
+ghost use Rattle.hx_types.specs.declared.limits.TheConstants.{MOST_ATTRIBUTES};
+ghost use Rattle.hx_bundle.specs.declared.limits.TheConstants.{MOST_SPACES};
 ghost use Rattle.hx_script.specs.declared.draft.Draft.{Draft};
 ghost use Rattle.hx_script.specs.BundleGrammar.{have_keys, has_key, in_last_space, in_space, is_space, named_draft, space_number, with_session};
 ghost use Rattle.hx_script.specs.BundleTexts.{script_so_far};
@@ -112,7 +114,7 @@ fn head_line_at(
     line: &mut Line<'_>,
 ) -> Result<(), Stop>
     requires within { place < length drafts.old.items }
-    requires attributes { All (λ (d : Draft). length d.space.attributes ≤ 16) drafts.old.items }
+    requires attributes { All (λ (d : Draft). length d.space.attributes ≤ MOST_ATTRIBUTES) drafts.old.items }
     ensures { Reads (λ _. drafts.new.items) result line.new (in_space drafts.old.items place (λ d. heading_line d d.section heading) line.old) }
 {
     drafts[place].heading_line(alloc, heading, line)
@@ -127,7 +129,7 @@ fn call_line_at(
     line: &mut Line<'_>,
 ) -> Result<(), Stop>
     requires within { place < length drafts.old.items }
-    requires attributes { All (λ (d : Draft). length d.space.attributes ≤ 16) drafts.old.items }
+    requires attributes { All (λ (d : Draft). length d.space.attributes ≤ MOST_ATTRIBUTES) drafts.old.items }
     ensures { Reads (λ _. drafts.new.items) result line.new (in_space drafts.old.items place (λ d. call_line d word) line.old) }
 {
     drafts[place].call_line(alloc, word, line)
@@ -170,7 +172,7 @@ impl Drafts {
 
     /// The number of a declared space, from 0.
     pub(crate) fn space_number(&self, name: &str) -> Result<u32, Stop>
-        requires few { length self.now ≤ 8 }
+        requires few { length self.now ≤ MOST_SPACES }
         ensures number { Gives (λ k. k) result (space_number self.now name.now) }
         ensures within { IfOk result (λ k. k < length self.now) }
     {
@@ -209,7 +211,7 @@ impl Drafts {
         heading: Heading,
         line: &mut Line<'_>,
     ) -> Result<(), Stop>
-        requires attributes { All (λ (d : Draft). length d.space.attributes ≤ 16) self.old }
+        requires attributes { All (λ (d : Draft). length d.space.attributes ≤ MOST_ATTRIBUTES) self.old }
         ensures { Reads (λ _. self.new) result line.new (in_last_space self.old heading line.old) }
     {
         let Some(place) = self.items.len().checked_sub(1) else {
@@ -227,7 +229,7 @@ impl Drafts {
         line: &mut Line<'_>,
     ) -> Result<(), Stop>
         requires within { place < length self.old }
-        requires attributes { All (λ (d : Draft). length d.space.attributes ≤ 16) self.old }
+        requires attributes { All (λ (d : Draft). length d.space.attributes ≤ MOST_ATTRIBUTES) self.old }
         ensures { Reads (λ _. self.new) result line.new (in_space self.old place (λ d. call_line d word) line.old) }
     {
         call_line_at(alloc, &mut self.items, place, word, line)

@@ -1,6 +1,7 @@
 //! Edits in a line.
 
 ghost use Rattle.std.specs.Prelude.{◌≡◌, [], ◌≤◌, length};
+ghost use Rattle.hx_types.specs.declared.limits.TheConstants.{MOST_ATTRIBUTES};
 ghost use Rattle.hx_script.specs.Readers.{Reads, Gives, repeat};
 ghost use Rattle.hx_script.specs.declared.line.Until.TheVariants as until;
 ghost use Rattle.hx_script.specs.Edits.{edit_kind, edit_word, has_edit, unedited_attribute, is_edit_of, edit_value, edit, one_more_edit, some_edits};
@@ -50,7 +51,7 @@ fn has_edit(edits: &Edits, attribute: u32) -> bool
 /// A declared attribute that isn't edited yet, by its name.
 #[tactic(auto, unfolding(crate::specs::Edits::unedited_attribute))]
 fn unedited_attribute(space: &Space, edits: &Edits, line: &mut Line<'_>) -> Result<u32, Stop>
-    requires few { length space.now.attributes ≤ 16 }
+    requires few { length space.now.attributes ≤ MOST_ATTRIBUTES }
     ensures { Reads (λ a. a) result line.new (unedited_attribute space.now edits.now line.old) }
 {
     let word = named(line)?;
@@ -89,7 +90,7 @@ fn edit_value(alloc: Global, what: EditKind, kind: Kind, line: &mut Line<'_>) ->
 /// One edit.
 #[tactic(auto, unfolding(crate::specs::Edits::edit))]
 fn edit(alloc: Global, space: &Space, edits: &Edits, line: &mut Line<'_>) -> Result<Edit, Stop>
-    requires few { length space.now.attributes ≤ 16 }
+    requires few { length space.now.attributes ≤ MOST_ATTRIBUTES }
     ensures { Reads (λ e. e) result line.new (edit space.now edits.now line.old) }
 {
     let what = edit_word(line)?;
@@ -111,7 +112,7 @@ fn more_edits(
     edits: &mut Edits,
     line: &mut Line<'_>,
 ) -> Result<(), Stop>
-    requires few { length space.now.attributes ≤ 16 }
+    requires few { length space.now.attributes ≤ MOST_ATTRIBUTES }
     ensures { Reads (λ _. edits.new) result line.new
         (repeat until.End (one_more_edit space.now) edits.old line.old) }
 {
@@ -130,7 +131,7 @@ pub(crate) fn some_edits(
     edits: &mut Edits,
     line: &mut Line<'_>,
 ) -> Result<(), Stop>
-    requires few { length space.now.attributes ≤ 16 }
+    requires few { length space.now.attributes ≤ MOST_ATTRIBUTES }
     requires empty { edits.old ≡ [] }
     ensures { Reads (λ _. edits.new) result line.new (some_edits space.now line.old) }
 {

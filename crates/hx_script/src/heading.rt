@@ -1,6 +1,7 @@
 //! The lines of a script's head and those that begin its sections.
 
 ghost use Rattle.std.specs.Prelude.{◌≤◌, length};
+ghost use Rattle.hx_types.specs.declared.limits.TheConstants.{MOST_ATTRIBUTES};
 ghost use Rattle.hx_script.specs.Readers.{Reads};
 ghost use Rattle.hx_script.specs.Grammar.{hx_line, space_line, key_line, string_attribute, int_attribute, attribute_line};
 ghost use Rattle.hx_script.specs.Grammar.{subspace_line, servers_line, tolerate_line, session_line, steps_line, heading_line};
@@ -107,7 +108,7 @@ impl Draft {
 
     #[tactic(auto, unfolding(crate::specs::Grammar::subspace_line))]
     fn subspace_line(&mut self, alloc: Global, line: &mut Line<'_>) -> Result<(), Stop>
-        requires attributes { length self.old.space.attributes ≤ 16 }
+        requires attributes { length self.old.space.attributes ≤ MOST_ATTRIBUTES }
         ensures { Reads (λ _. self.new) result line.new (subspace_line self.old line.old) }
     {
         if self.space.subspaces.len() >= MOST_SUBSPACES {
@@ -175,7 +176,7 @@ impl Draft {
         heading: Heading,
         line: &mut Line<'_>,
     ) -> Result<(), Stop>
-        requires attributes { length self.old.space.attributes ≤ 16 }
+        requires attributes { length self.old.space.attributes ≤ MOST_ATTRIBUTES }
         ensures { Reads (λ _. self.new) result line.new (heading_line self.old self.old.section heading line.old) }
     {
         match (self.section, heading) {

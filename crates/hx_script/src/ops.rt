@@ -1,6 +1,7 @@
 //! Calls and steps, each on a line of its own.
 
 ghost use Rattle.std.specs.Prelude.{◌≡◌, ◌≤◌, length};
+ghost use Rattle.hx_types.specs.declared.limits.TheConstants.{MOST_ATTRIBUTES};
 ghost use Rattle.hx_script.specs.Readers.{Reads};
 ghost use Rattle.hx_script.specs.Calls.{put, get, del, cput, search_call, stop, add, atomic, call, deliver, tick, halt, step};
 
@@ -15,7 +16,7 @@ use std::alloc::Global;
 
 #[tactic(auto, unfolding(crate::specs::Calls::put))]
 fn put(alloc: Global, space: &Space, line: &mut Line<'_>) -> Result<Op, Stop>
-    requires few { length space.now.attributes ≤ 16 }
+    requires few { length space.now.attributes ≤ MOST_ATTRIBUTES }
     ensures { Reads (λ op. op) result line.new (put space.now line.old) }
 {
     let key = short_text(alloc, line)?;
@@ -44,7 +45,7 @@ fn del(alloc: Global, line: &mut Line<'_>) -> Result<Op, Stop>
 
 #[tactic(auto, unfolding(crate::specs::Calls::cput))]
 fn cput(alloc: Global, space: &Space, line: &mut Line<'_>) -> Result<Op, Stop>
-    requires few { length space.now.attributes ≤ 16 }
+    requires few { length space.now.attributes ≤ MOST_ATTRIBUTES }
     ensures { Reads (λ op. op) result line.new (cput space.now line.old) }
 {
     let key = short_text(alloc, line)?;
@@ -59,7 +60,7 @@ fn cput(alloc: Global, space: &Space, line: &mut Line<'_>) -> Result<Op, Stop>
 
 #[tactic(auto, unfolding(crate::specs::Calls::search_call))]
 fn search(alloc: Global, space: &Space, line: &mut Line<'_>) -> Result<Op, Stop>
-    requires few { length space.now.attributes ≤ 16 }
+    requires few { length space.now.attributes ≤ MOST_ATTRIBUTES }
     ensures { Reads (λ op. op) result line.new (search_call space.now line.old) }
 {
     let mut terms = Terms::new(alloc);
@@ -88,7 +89,7 @@ fn add(space: &Space, regions: u32, line: &mut Line<'_>) -> Result<Op, Stop>
 
 #[tactic(auto, unfolding(crate::specs::Calls::atomic))]
 fn atomic(alloc: Global, space: &Space, line: &mut Line<'_>) -> Result<Op, Stop>
-    requires few { length space.now.attributes ≤ 16 }
+    requires few { length space.now.attributes ≤ MOST_ATTRIBUTES }
     ensures { Reads (λ op. op) result line.new (atomic space.now line.old) }
 {
     let key = short_text(alloc, line)?;
@@ -105,7 +106,7 @@ pub(crate) fn call(
     word: CallWord,
     line: &mut Line<'_>,
 ) -> Result<Op, Stop>
-    requires few { length space.now.attributes ≤ 16 }
+    requires few { length space.now.attributes ≤ MOST_ATTRIBUTES }
     ensures { Reads (λ op. op) result line.new (call space.now regions word line.old) }
 {
     match word {

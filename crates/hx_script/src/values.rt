@@ -2,6 +2,7 @@
 
 ghost use Rattle.std.specs.Prelude.{◌≡◌, [], ◌≤◌, length};
 ghost use Rattle.hx_types.specs.Spaces.{attribute_of};
+ghost use Rattle.hx_types.specs.declared.limits.TheConstants.{MOST_ATTRIBUTES};
 ghost use Rattle.hx_script.specs.Readers.{Reads};
 ghost use Rattle.hx_script.specs.Values.{short_text, value, has_assign, free_attribute, assign, more_assigns, some_assigns, has_term, free_known, range, rest_of_term, term, all_terms};
 
@@ -54,7 +55,7 @@ fn has_assign(assigns: &Assigns, attribute: u32) -> bool
 /// A declared attribute that isn't assigned yet, by its name.
 #[tactic(auto, unfolding(crate::specs::Values::free_attribute))]
 fn free_attribute(space: &Space, assigns: &Assigns, line: &mut Line<'_>) -> Result<u32, Stop>
-    requires few { length space.now.attributes ≤ 16 }
+    requires few { length space.now.attributes ≤ MOST_ATTRIBUTES }
     ensures { Reads (λ a. a) result line.new (free_attribute space.now assigns.now line.old) }
 {
     let word = named(line)?;
@@ -73,7 +74,7 @@ fn assign(
     assigns: &Assigns,
     line: &mut Line<'_>,
 ) -> Result<Assign, Stop>
-    requires few { length space.now.attributes ≤ 16 }
+    requires few { length space.now.attributes ≤ MOST_ATTRIBUTES }
     ensures { Reads (λ a. a) result line.new (assign space.now assigns.now line.old) }
 {
     let attribute = free_attribute(space, assigns, line)?;
@@ -91,7 +92,7 @@ pub(crate) fn more_assigns(
     assigns: &mut Assigns,
     line: &mut Line<'_>,
 ) -> Result<(), Stop>
-    requires few { length space.now.attributes ≤ 16 }
+    requires few { length space.now.attributes ≤ MOST_ATTRIBUTES }
     ensures { Reads (λ _. assigns.new) result line.new (more_assigns space.now until assigns.old line.old) }
 {
     'assigns: while !line.is_at(until) {
@@ -110,7 +111,7 @@ pub(crate) fn some_assigns(
     assigns: &mut Assigns,
     line: &mut Line<'_>,
 ) -> Result<(), Stop>
-    requires few { length space.now.attributes ≤ 16 }
+    requires few { length space.now.attributes ≤ MOST_ATTRIBUTES }
     requires empty { assigns.old ≡ [] }
     ensures { Reads (λ _. assigns.new) result line.new (some_assigns space.now until line.old) }
 {
@@ -139,7 +140,7 @@ fn has_term(terms: &Terms, attribute: u32) -> bool
 /// The key or a declared attribute of which nothing is asked yet, by its name.
 #[tactic(auto, unfolding(crate::specs::Values::free_known))]
 fn free_known(space: &Space, terms: &Terms, line: &mut Line<'_>) -> Result<u32, Stop>
-    requires few { length space.now.attributes ≤ 16 }
+    requires few { length space.now.attributes ≤ MOST_ATTRIBUTES }
     ensures { Reads (λ a. a) result line.new (free_known space.now terms.now line.old) }
 {
     let word = named(line)?;
@@ -172,7 +173,7 @@ fn rest_of_term(attribute: u32, value: Value, line: &mut Line<'_>) -> Result<Ter
 /// One term.
 #[tactic(auto, unfolding(crate::specs::Values::term))]
 fn term(alloc: Global, space: &Space, terms: &Terms, line: &mut Line<'_>) -> Result<Term, Stop>
-    requires few { length space.now.attributes ≤ 16 }
+    requires few { length space.now.attributes ≤ MOST_ATTRIBUTES }
     ensures { Reads (λ t. t) result line.new (term space.now terms.now line.old) }
 {
     let attribute = free_known(space, terms, line)?;
@@ -189,7 +190,7 @@ pub(crate) fn all_terms(
     terms: &mut Terms,
     line: &mut Line<'_>,
 ) -> Result<(), Stop>
-    requires few { length space.now.attributes ≤ 16 }
+    requires few { length space.now.attributes ≤ MOST_ATTRIBUTES }
     requires empty { terms.old ≡ [] }
     ensures { Reads (λ _. terms.new) result line.new (all_terms space.now line.old) }
 {

@@ -3,6 +3,7 @@
 ghost use Rattle.std.specs.Prelude.{◌≡◌, ◌≤◌, length, IfSome, ◌<◌};
 ghost use Rattle.std.specs.Str.{bytes_eq};
 ghost use Rattle.hx_types.specs.Subspaces.{kind_at};
+ghost use Rattle.hx_types.specs.declared.limits.TheConstants.{MOST_ATTRIBUTES};
 ghost use Rattle.hx_script.specs.Readers.{Reads, Gives};
 ghost use Rattle.hx_script.specs.Words.{named, name, new_name, has_attribute, is_declared, place_of, declared_number, known_number};
 
@@ -87,7 +88,7 @@ fn place_of(space: &Space, name: &str) -> Option<usize>
 
 /// The number of a declared attribute, from 1.
 pub(crate) fn declared_number(space: &Space, name: &str) -> Result<u32, Stop>
-    requires few { length space.now.attributes ≤ 16 }
+    requires few { length space.now.attributes ≤ MOST_ATTRIBUTES }
     ensures { Gives (λ a. a) result (declared_number space.now name.now) }
 {
     match place_of(space, name) {
@@ -98,7 +99,7 @@ pub(crate) fn declared_number(space: &Space, name: &str) -> Result<u32, Stop>
 
 /// The number of a declared attribute, or 0 for the key.
 pub(crate) fn known_number(space: &Space, name: &str) -> Result<u32, Stop>
-    requires few { length space.now.attributes ≤ 16 }
+    requires few { length space.now.attributes ≤ MOST_ATTRIBUTES }
     ensures { Gives (λ a. a) result (known_number space.now name.now) }
 {
     if space.key_name.as_bytes() == name.as_bytes() {
