@@ -6,8 +6,8 @@ ghost use Rattle.hx_types.specs.Spaces.{IsSpace};
 ghost use Rattle.hx_types.specs.Subspaces.{axes_of, first_region, region_count, size_of};
 
 use crate::meeting::{count_meeting, regions_from, rows_meeting};
-use crate::rows::{row, row_meets, size};
-use hx_types::{Axes, Axis, Exact, Memory, Object, RegionId, RegionList, Space, Terms, Text};
+use crate::rows::{row, row_meets};
+use hx_types::{Axes, Axis, Exact, Memory, Object, RegionId, RegionList, Space, Terms, Text, size};
 use std::alloc::Global;
 use std::marker::Model;
 

@@ -11,19 +11,6 @@ ghost use Rattle.hx_types.specs.declared.values.Value.TheVariants as a_value;
 use crate::{cell, int_cell, text_cell};
 use hx_types::{Axis, Kind, Object, Space, Term, Text};
 
-/// How many regions a subspace of these axes has.
-pub fn size(axes: &[Axis]) -> u32
-    requires parts { All (λ (a : Axis). ArePart a.parts) axes.now }
-    requires few { size_of axes.now ≤ MOST_REGIONS }
-    ensures { result ≡ size_of axes.now }
-{
-    let mut size = 1;
-    for axis in axes {
-        size *= axis.parts;
-    }
-    size
-}
-
 /// The cells of a key and object on these axes, read as a number of mixed radix, the first axis
 /// slowest.
 pub fn row(space: &Space, axes: &[Axis], key: &Text, object: &Object) -> u32

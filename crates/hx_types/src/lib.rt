@@ -128,6 +128,7 @@ pub use spaces::Subspaces;
 pub use starting::count_regions;
 pub use starting::first_config;
 pub use starting::first_shared_config;
+pub use starting::size;
 pub use texts::Text;
 pub use totals::Totals;
 pub use traces::Entry;

@@ -107,7 +107,7 @@ pub fn count_regions(space: &Space) -> u32
 
 /// How many regions a subspace of these axes has.
 #[tactic(auto, using(crate::proofs::Counting::parts_of_rest, crate::proofs::Counting::small_rest))]
-fn size(axes: &[Axis]) -> u32
+pub fn size(axes: &[Axis]) -> u32
     requires parts { All (λ (a : Axis). ArePart a.parts) axes.now }
     requires few { size_of axes.now ≤ MOST_REGIONS }
     ensures { result ≡ size_of axes.now }
