@@ -14,12 +14,12 @@ ghost use Rattle.hx_words.specs.declared.commands.Question.{Question};
 ghost use Rattle.hx_replay.specs.Streams.{drawn, filled};
 
 use crate::finished::Finished;
-use crate::space_runs::MOST_DRIVERS;
 use crate::top::hyperstore;
 use hx_driver::Open;
 use hx_fate::{Fate, Losing};
 use hx_io::{Sink, Source, write_all};
 use hx_replay::{Done, Outcome, fault_text, status};
+use hx_run::MOST_DRIVERS;
 use hx_types::Memory;
 use hx_words::{Question, Request, request_of};
 use std::alloc::Global;

@@ -13,14 +13,11 @@ use crate::threads::{Threading, run_threads};
 use hx_bundle::Bundle;
 use hx_driver::Gate;
 use hx_fate::Fate;
-use hx_run::Ran;
+use hx_run::{MOST_DRIVERS, Ran};
 use hx_types::{Actor, Memory, Script};
 use std::alloc::Global;
 use std::sync::Wait;
 use std::thread::Threads;
-
-/// How many threads can work for all spaces of a bundle together.
-pub const MOST_DRIVERS: u32 = 16;
 
 /// What threads made of the spaces of a bundle, one after the other: of all, or of those up to one
 /// in which an actor was worn, and then that actor.

@@ -21,8 +21,9 @@ use std::sync::Wait;
 use std::thread;
 use std::thread::Threads;
 
-/// How many drivers are moved side by side at most.
-const MOST_DRIVERS: usize = 16;
+/// How many drivers are moved side by side at most, those of all spaces of a bundle together. This
+/// project's choice: as many as a script has sessions at most.
+pub const MOST_DRIVERS: u32 = 16;
 
 /// A slice of one driver.
 fn slice_one<R: Wait, G: Gate>(floor: &Floor<'_, R, G>, driver: &mut Driver, at_work: &AtWork)
@@ -57,7 +58,7 @@ fn slice_all<R: Threads + Wait + Sync, G: Gate + Sync>(
     thread::for_each_mut(
         floor.rt,
         drivers,
-        MOST_DRIVERS,
+        MOST_DRIVERS as usize,
         &|_place: usize, driver: &mut Driver|
             requires crew { (w : ℕ) × IsCrewOn floor.now w driver.now.crew }
             ensures crew { StaysCrewOn floor.entry.now driver.entry.now.crew driver.exit.now.crew }
