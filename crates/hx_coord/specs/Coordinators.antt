@@ -1,5 +1,5 @@
 -- Which inputs the coordinator can take, and its entry for an input.
-use Rattle.std.specs.Prelude.{ℕ, ◌+◌, ◌≤◌, ◌^◌, List, ◌∷◌, ◌++◌, map, Option, None, Some, ⊤}
+use Rattle.std.specs.Prelude.{ℕ, ◌+◌, ◌≤◌, List, ◌∷◌, ◌++◌, map, Option, None, Some, ⊤}
 use Rattle.std.specs.List.{All, flat_map}
 use Rattle.hx_model.specs.Types.{Actor, Answer, Coordinator, Deliver, Entry, Halt, Input, Message, Session, Space, Tick}
 use Rattle.hx_types.specs.Posts.{AnswerUpTo, IsSessionOf, IsSoundPost}
@@ -8,6 +8,7 @@ use Rattle.hx_types.specs.Words.{below, post}
 use Rattle.hx_model.specs.CoordinatorSteps.{CoordinatorState, Newest, Task, coordinator_step}
 use Rattle.hx_model.specs.Runs.{entry_of}
 use Rattle.hx_types.specs.Posted.{actors_of_config, actors_of_input, actors_of_op}
+use Rattle.hx_types.specs.declared.limits.TheConstants.{GREATEST_NUMBER}
 
 -- the coordinator's entry for an input
 abbrev pub coordinator_entry : CoordinatorState → Input → Entry
@@ -18,7 +19,7 @@ coordinator_entry c input =
 abbrev pub CanTake : CoordinatorState → Input → Type 0
 CanTake c Tick = ⊤
 CanTake c Halt = ⊥
-CanTake c (Deliver id from m) = c.config.epoch.0 ≤ 2 ^ 62
+CanTake c (Deliver id from m) = c.config.epoch.0 ≤ GREATEST_NUMBER
 
 -- ---- what a coordinator has of a space
 

@@ -1,4 +1,5 @@
-ghost use Rattle.std.specs.Prelude.{◌≡◌, ◌≤◌, ◌^◌, None, IfOk};
+ghost use Rattle.std.specs.Prelude.{◌≡◌, ◌≤◌, None, IfOk};
+ghost use Rattle.hx_types.specs.declared.limits.TheConstants.{GREATEST_NUMBER};
 ghost use Rattle.hx_model.specs.CoordinatorSteps.{add_step, adds, judged, stop_step, stops};
 ghost use Rattle.hx_coord.specs.Changes.{IsOutputOf, done_by, issued_as, known_posts, numbered, standing, told};
 ghost use Rattle.hx_coord.specs.Numbers.{Comes};
@@ -56,7 +57,7 @@ pub fn add_replica(
     server: ServerId,
     region: RegionId,
 ) -> Result<StepOutput, Memory>
-    requires { config.now.epoch.0 ≤ 2 ^ 62 }
+    requires { config.now.epoch.0 ≤ GREATEST_NUMBER }
     ensures { IfOk result (IsOutputOf config.now (add_step (standing config.now agenda) caller.number server region caller.session)) }
 {
     match compare_number(alloc, &agenda.newest, caller)? {
@@ -130,7 +131,7 @@ fn add(
     server: ServerId,
     region: RegionId,
 ) -> Result<StepOutput, Memory>
-    requires { config.now.epoch.0 ≤ 2 ^ 62 }
+    requires { config.now.epoch.0 ≤ GREATEST_NUMBER }
     ensures { IfOk result (IsOutputOf config.now (adds (standing config.now agenda) caller server region (judged config.now server region))) }
 {
     match judge(config, server, region) {

@@ -1,4 +1,5 @@
-ghost use Rattle.std.specs.Prelude.{◌≡◌, ◌≤◌, ◌^◌, ◌++◌, ◌∷◌, [], false, map, slice_set, IfOk};
+ghost use Rattle.std.specs.Prelude.{◌≡◌, ◌≤◌, ◌++◌, ◌∷◌, [], false, map, slice_set, IfOk};
+ghost use Rattle.hx_types.specs.declared.limits.TheConstants.{GREATEST_NUMBER};
 ghost use Rattle.hx_model.specs.CoordinatorSteps.{config_ready, config_with, config_without, members_without, next_config, ready_if};
 
 use crate::servers::without;
@@ -10,7 +11,7 @@ use std::alloc::Global;
 /// The next configuration where a server is out: it leaves the servers and each region's list,
 /// which closes up, as chain replication's does.
 pub fn config_without(alloc: Global, config: &Config, server: ServerId) -> Result<Config, Memory>
-    requires { config.now.epoch.0 ≤ 2 ^ 62 }
+    requires { config.now.epoch.0 ≤ GREATEST_NUMBER }
     ensures { IfOk result (λ next. next ≡ config_without config.now server) }
 {
     let servers = without(alloc, config.servers.as_slice(), server)?;
@@ -25,7 +26,7 @@ pub fn config_with(
     server: ServerId,
     region: RegionId,
 ) -> Result<Config, Memory>
-    requires { config.now.epoch.0 ≤ 2 ^ 62 }
+    requires { config.now.epoch.0 ≤ GREATEST_NUMBER }
     ensures { IfOk result (λ next. next ≡ config_with config.now server region) }
 {
     let members = with_joiner(alloc, config.members(region), server)?;
@@ -39,7 +40,7 @@ pub fn config_ready(
     server: ServerId,
     region: RegionId,
 ) -> Result<Config, Memory>
-    requires { config.now.epoch.0 ≤ 2 ^ 62 }
+    requires { config.now.epoch.0 ≤ GREATEST_NUMBER }
     ensures { IfOk result (λ next. next ≡ config_ready config.now server region) }
 {
     let members = with_ready(alloc, config.members(region), server)?;
@@ -48,7 +49,7 @@ pub fn config_ready(
 
 /// The configuration of the next epoch with these servers and lists. It takes no memory.
 fn next_config(config: &Config, servers: ServerList, regions: RegionLists) -> Config
-    requires { config.now.epoch.0 ≤ 2 ^ 62 }
+    requires { config.now.epoch.0 ≤ GREATEST_NUMBER }
     ensures { result ≡ next_config config.now servers regions }
 {
     Config {
@@ -65,7 +66,7 @@ fn with_members(
     region: RegionId,
     members: Members,
 ) -> Result<Config, Memory>
-    requires { config.now.epoch.0 ≤ 2 ^ 62 }
+    requires { config.now.epoch.0 ≤ GREATEST_NUMBER }
     ensures { IfOk result (λ next. next ≡ next_config config.now config.now.servers (slice_set config.now.regions region.0 members)) }
 {
     let servers = config.servers.copy(alloc)?;

@@ -1,7 +1,8 @@
-ghost use Rattle.std.specs.Prelude.{◌≡◌, ◌≤◌, ◌^◌, ◌∷◌, [], IfOk};
+ghost use Rattle.std.specs.Prelude.{◌≡◌, ◌≤◌, ◌∷◌, [], IfOk};
 ghost use Rattle.hx_types.specs.declared.messages.Message.TheVariants as a_message;
 ghost use Rattle.hx_model.specs.Types.{Coordinator, Server};
 ghost use Rattle.hx_types.specs.Words.{post};
+ghost use Rattle.hx_types.specs.declared.limits.TheConstants.{GREATEST_NUMBER};
 ghost use Rattle.hx_model.specs.CoordinatorSteps.{coordinator_message, gone_step, poll_step, ready_step};
 ghost use Rattle.hx_coord.specs.Changes.{IsOutputOf, standing, told};
 
@@ -25,7 +26,7 @@ pub fn hear(
     from: Actor,
     message: &Message,
 ) -> Result<StepOutput, Memory>
-    requires { config.now.epoch.0 ≤ 2 ^ 62 }
+    requires { config.now.epoch.0 ≤ GREATEST_NUMBER }
     ensures { IfOk result (IsOutputOf config.now (coordinator_message (standing config.now agenda) from message.now)) }
 {
     match (message, from) {
@@ -69,7 +70,7 @@ fn gone(
     agenda: Agenda,
     server: ServerId,
 ) -> Result<StepOutput, Memory>
-    requires { config.now.epoch.0 ≤ 2 ^ 62 }
+    requires { config.now.epoch.0 ≤ GREATEST_NUMBER }
     ensures { IfOk result (IsOutputOf config.now (gone_step (standing config.now agenda) (Server server))) }
 {
     if !is_in(config.servers.as_slice(), server) {
@@ -93,7 +94,7 @@ fn ready(
     region: RegionId,
     server: ServerId,
 ) -> Result<StepOutput, Memory>
-    requires { config.now.epoch.0 ≤ 2 ^ 62 }
+    requires { config.now.epoch.0 ≤ GREATEST_NUMBER }
     ensures { IfOk result (IsOutputOf config.now (ready_step (standing config.now agenda) region (Server server))) }
 {
     if config.is_lost(region) || !config.lists_joining(region, server) {

@@ -1,5 +1,5 @@
 -- A session as contracts see it, and which inputs it can take.
-use Rattle.std.specs.Prelude.{ℕ, ◌<◌, ◌≤◌, ◌^◌, Bool, not, ◌&&◌, nat_lt, length, List, [], ◌∷◌, ◌++◌, ⊤}
+use Rattle.std.specs.Prelude.{ℕ, ◌<◌, ◌≤◌, Bool, not, ◌&&◌, nat_lt, length, List, [], ◌∷◌, ◌++◌, ⊤}
 use Rattle.std.specs.List.{flat_map}
 use Rattle.hx_model.specs.Types.{Actor, Coordinator, Deliver, Entry, Halt, Input, Message, Op, Session, SessionId, Space, Tick}
 use Rattle.hx_types.specs.Posts.{IsSoundPost}
@@ -7,6 +7,7 @@ use Rattle.hx_types.specs.Words.{post}
 use Rattle.hx_model.specs.Runs.{entry_of}
 use Rattle.hx_model.specs.SessionSteps.{SessionState, session_step}
 use Rattle.hx_types.specs.Posted.{actors_of_config, actors_of_input, actors_of_op}
+use Rattle.hx_types.specs.declared.limits.TheConstants.{GREATEST_NUMBER}
 
 -- a session of a space, and its state as the definitions fold it
 pub record SessionValue : Type 0 where
@@ -22,7 +23,7 @@ session_entry space s input =
 pub record IsSoundDelivery (space : Space) (u : SessionId) (from : Actor) (m : Message) : Type 0 where
   pub sessions : ℕ
   pub entry : ℕ
-  pub few : entry < 2 ^ 62
+  pub few : entry < GREATEST_NUMBER
   pub sound : IsSoundPost space sessions entry (post from (Session u) m)
 
 -- the session can take the input: its turn, or a sound post; a halt goes to a server
