@@ -3,6 +3,7 @@ use Rattle.std.specs.Prelude.{◌≡◌, ℕ, ◌≤◌, Bool, true, false, List
 use Rattle.std.specs.List.{All}
 use Rattle.hx_model.specs.Types.{Session, Step}
 use Rattle.hx_types.specs.Words.{when_some}
+use Rattle.hx_types.specs.declared.limits.TheConstants.{MOST_SESSIONS}
 use Rattle.hx_model.specs.Runs.{is_actor, session_of}
 use Rattle.hx_model.specs.Schedule.{Next, fault_of, is_idle, step_input}
 use Rattle.hx_world.specs.Worlds.{IsStepOf, Refuses, WorldState}
@@ -45,7 +46,7 @@ HasSessions n w = length w.script.sessions ≡ n
 
 -- every world has all the sessions, which are few
 pub record IsSeated (bundle : Bundle) (worlds : List WorldState) : Type 0 where
-  pub few : length bundle.turns ≤ 16
+  pub few : length bundle.turns ≤ MOST_SESSIONS
   pub sessions : All (HasSessions (length bundle.turns)) worlds
 
 -- the session of this place is one of the world's, and idle there

@@ -1,6 +1,7 @@
 ghost use Rattle.std.specs.Prelude.{◌≡◌, ◌<◌, ◌+◌, ◌^◌, IfErr, IfSome, IsSomeAnd, OnErr, OnOk, Some, length, map, slice_get, true};
 ghost use Rattle.std.specs.List.{All};
 ghost use Rattle.hx_types.specs.declared.ids.Actor.TheVariants as an_actor;
+ghost use Rattle.hx_types.specs.declared.limits.TheConstants.{MOST_SESSIONS};
 ghost use Rattle.hx_model.specs.Runs.{is_actor};
 ghost use Rattle.hx_spaces.specs.Courses.{first_begin, is_busy_in, newest, next_space, runs_with};
 ghost use Rattle.hx_spaces.specs.Draining.{FailsIn};
@@ -78,7 +79,7 @@ pub fn begin_at(
     space: usize,
     place: usize,
 ) -> Result<(), DrainError>
-    requires few { place < 16 }
+    requires few { place < MOST_SESSIONS }
     requires can { CanBegin worlds.old.items place space }
     ensures begins { OnOk result (map newest worlds.new.items ≡ runs_with (begin_turn place space) (map newest worlds.old.items)) }
     ensures fails { IfErr result (FailsIn (map newest worlds.old.items) (Some (begin_turn place space))) }
