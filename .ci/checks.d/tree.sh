@@ -12,6 +12,9 @@ cmp -s examples/library.report crates/hx_tool/stdout || complain 'crates/hx_tool
 git grep -nE '(^|[ (=])\?($|[ ),;])' -- '*.antt' | grep -v -- '--' && complain 'a hole in a proof'
 git grep -nE '#\[ignore|todo!|unimplemented!' -- '*.rt' && complain 'unfinished code'
 
+# Definitions and proofs stay readable side by side.
+python3 tools/wrap.py --check || complain 'a line of more than 160 columns: tools/wrap.py breaks it'
+
 # Of another crate's proofs only that is cited which its proofs/Lemmas.antt passes on.
 git grep -nE 'use Rattle\.hx_[a-z_0-9]+\.proofs\.' -- '*.antt' |
   sed -nE 's|^crates/([a-z_0-9]+)/([^:]*:[0-9]+):.*use Rattle\.(hx_[a-z_0-9]+)\.proofs\.([A-Za-z_+]+).*|\1 \3 \4 \2|p' |

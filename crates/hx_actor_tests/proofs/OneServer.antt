@@ -63,7 +63,8 @@ put_fits epoch l = record {
 }
 
 -- a server that started so can take what one at the start can
-pub at_start : (space : Space) (s : ServerState) (input : Input) → space ≡ small → s ≡ server_at_start small first → CanTake small (server_at_start small first) input → CanTake space s input
+pub at_start : (space : Space) (s : ServerState) (input : Input) → space ≡ small → s ≡ server_at_start small first
+    → CanTake small (server_at_start small first) input → CanTake space s input
 at_start space s input e f can =
     subst (λ (x : Space). CanTake x s input) (sym e) (subst (λ (x : ServerState). CanTake small x input) (sym f) can)
 
@@ -97,10 +98,16 @@ pub can_halt : Takes Halt
 can_halt = record { running = refl; input_to = tt; small = small_at_start small first }
 
 -- what the coordinator sends
-sent : (m : Message) → goes_between Coordinator (Server first) m ≡ true → IsSoundMessage (record { space = small; sessions = 1; most = 2 }) m → Takes (from_coordinator m)
+sent : (m : Message) → goes_between Coordinator (Server first) m ≡ true
+    → IsSoundMessage (record { space = small; sessions = 1; most = 2 }) m → Takes (from_coordinator m)
 sent m b message = record {
   running = refl;
-  input_to = record { sessions = 1; entry = 1; few = omega arith; sound = record { from = tt; to = (omega arith, omega arith); between = b; message = message } };
+  input_to = record {
+    sessions = 1;
+    entry = 1;
+    few = omega arith;
+    sound = record { from = tt; to = (omega arith, omega arith); between = b; message = message };
+  };
   small = small_at_start small first;
 }
 

@@ -11,7 +11,8 @@ use Rattle.hx_audit.specs.Clauses.{HasItem, IsItemOfCall}
 use Rattle.hx_audit.specs.Told.{end_told}
 
 -- a call on a key that ended has its item where this key and answer have it
-pub item_told_at : (b : Block) (l : CallLine) (key : List ℕ) (answer : Answer) → key_of l.op ≡ Some key → option_map (λ (e : CallEnd). e.answer) (end_told l) ≡ Some answer
+pub item_told_at : (b : Block) (l : CallLine) (key : List ℕ) (answer : Answer) → key_of l.op ≡ Some key
+    → option_map (λ (e : CallEnd). e.answer) (end_told l) ≡ Some answer
     → (is_refused answer ≡ false → IsItemOfCall b key l.caller answer) → HasItem b l
 item_told_at b l key answer k a has key' e k' e' apart =
     let p : Some answer ≡ Some e.answer = sym a ∙ ap (option_map (λ (e : CallEnd). e.answer)) e' in
@@ -20,10 +21,12 @@ item_told_at b l key answer k a has key' e k' e' apart =
     let one : key ≡ key' = cc in
     subst (λ (a : Answer). IsItemOfCall b key' l.caller a) same (subst (λ j. IsItemOfCall b j l.caller answer) one (has (ap is_refused same ∙ apart)))
 
-pub item_at_told : (b : Block) (l : CallLine) (key : List ℕ) (answer : Answer) → key_of l.op ≡ Some key → option_map (λ (e : CallEnd). e.answer) (end_told l) ≡ Some answer
+pub item_at_told : (b : Block) (l : CallLine) (key : List ℕ) (answer : Answer) → key_of l.op ≡ Some key
+    → option_map (λ (e : CallEnd). e.answer) (end_told l) ≡ Some answer
     → HasItem b l → is_refused answer ≡ false → IsItemOfCall b key l.caller answer
 item_at_told b l key answer k a has apart = by (end_told l) refl a
   where
     by : (o : Option CallEnd) → end_told l ≡ o → option_map (λ (e : CallEnd). e.answer) o ≡ Some answer → IsItemOfCall b key l.caller answer
     by None q z = absurd (cc)
-    by (Some e) q z = let same : e.answer ≡ answer = cc in subst (λ (a : Answer). IsItemOfCall b key l.caller a) same (has key e k q (ap is_refused same ∙ apart))
+    by (Some e) q z = let same : e.answer ≡ answer = cc in
+        subst (λ (a : Answer). IsItemOfCall b key l.caller a) same (has key e k q (ap is_refused same ∙ apart))

@@ -11,7 +11,8 @@ IsBelow a b = (a.session.0 < b.session.0) ⊎ ((a.session.0 ≡ b.session.0) × 
 told : (a b : Caller) → caller_below a b ≡ true → IsBelow a b
 told a b e = elim (or_cases (ltb a.session.0 b.session.0) (eqb a.session.0 b.session.0 && ltb a.number b.number) e) [
   | inl l ↦ inl (ltb-true a.session.0 b.session.0 l)
-  | inr r ↦ (let p = and_parts (eqb a.session.0 b.session.0) (ltb a.number b.number) r in inr (eqb-true a.session.0 b.session.0 p.0, ltb-true a.number b.number p.1))
+  | inr r ↦ (let p = and_parts (eqb a.session.0 b.session.0) (ltb a.number b.number) r in
+      inr (eqb-true a.session.0 b.session.0 p.0, ltb-true a.number b.number p.1))
 ]
 
 tells : (a b : Caller) → IsBelow a b → caller_below a b ≡ true
@@ -31,13 +32,16 @@ caller_trans a b c e f = tells a c (by (told a b e) (told b c f))
 
 -- the parts of one caller are those of the other
 same_parts : (a b : Caller) → same_caller a b ≡ true → (a.session.0 ≡ b.session.0) × (a.number ≡ b.number)
-same_parts a b e = let p = and_parts (eqb a.session.0 b.session.0) (eqb a.number b.number) e in (eqb-true a.session.0 b.session.0 p.0, eqb-true a.number b.number p.1)
+same_parts a b e = let p = and_parts (eqb a.session.0 b.session.0) (eqb a.number b.number) e in
+    (eqb-true a.session.0 b.session.0 p.0, eqb-true a.number b.number p.1)
 
 pub one_caller : (a b : Caller) → same_caller a b ≡ true → a ≡ b
 one_caller a b e = let p = same_parts a b e in λ i. record { session = record { 0 = p.0 i }; number = p.1 i }
 
 pub same_self : (a b : Caller) → a ≡ b → same_caller a b ≡ true
-same_self a b e = and_from (eqb a.session.0 b.session.0) (eqb a.number b.number) (eq-eqb a.session.0 b.session.0 (ap (λ (c : Caller). c.session.0) e)) (eq-eqb a.number b.number (ap (λ (c : Caller). c.number) e))
+same_self a b e = and_from (eqb a.session.0 b.session.0) (eqb a.number b.number)
+    (eq-eqb a.session.0 b.session.0 (ap (λ (c : Caller). c.session.0) e))
+    (eq-eqb a.number b.number (ap (λ (c : Caller). c.number) e))
 
 pub caller_differs : (a b : Caller) → caller_below a b ≡ true → same_caller a b ≡ false
 caller_differs a b e = false_from_ne_true (same_caller a b) (λ s. by (told a b e) (same_parts a b s))

@@ -92,13 +92,23 @@ is_legal : IsEffectOfCall (block calls (history ∷ [])) history 0
 is_legal = record { answer = refl; object = refl }
 
 -- a put leaves an object
-leaves_nothing : IsEffectOfCall (block calls []) (record { key = codes "a"; items = record { version = record { 0 = 1 }; caller = u 1 1; word = words.Done; object = None } ∷ [] }) 0 → ⊥
+leaves_nothing : IsEffectOfCall (block calls [])
+    (record {
+      key = codes "a";
+      items = record {
+        version = record { 0 = 1 };
+        caller = u 1 1;
+        word = words.Done;
+        object = None;
+      } ∷ [];
+    }) 0 → ⊥
 leaves_nothing e = let o = e.object in cc
 
 -- ---- missing
 
 stands : HasItem (block calls (history ∷ [])) (put 1 3)
-stands = item_told_at (block calls (history ∷ [])) (put 1 3) (codes "a") an_answer.Done refl refl (λ refused. record { item = item (u 1 1); stands = inl refl; of_caller = refl; answered = refl })
+stands = item_told_at (block calls (history ∷ [])) (put 1 3) (codes "a") an_answer.Done refl refl
+    (λ refused. record { item = item (u 1 1); stands = inl refl; of_caller = refl; answered = refl })
 
 is_missing : HasItem (block calls []) (put 1 3) → ⊥
 is_missing has = (has (codes "a") (record { entry = 3; version = record { 0 = 1 }; answer = an_answer.Done }) refl refl refl).stands

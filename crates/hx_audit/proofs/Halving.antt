@@ -1,5 +1,6 @@
 -- Halving: in a list that ascends by key, what has a key stands where the lower keys end.
-use Rattle.std.proofs.Common.{◌≡◌, ℕ, zero, suc, ◌<◌, Bool, true, false, List, [], ◌∷◌, map, cond, length, get_or, Option, None, Some, refl, sym, ap, ◌∙◌, arith}
+use Rattle.std.proofs.Common.{◌≡◌, ℕ, zero, suc, ◌<◌, Bool, true, false, List, [], ◌∷◌, map, cond, length, get_or}
+use Rattle.std.proofs.Common.{Option, None, Some, refl, sym, ap, ◌∙◌, arith}
 use Rattle.std.proofs.lemmas.Bool.{cond-false, cond-true, false_from_ne_true, false≢true}
 use Rattle.std.specs.List.{AllWithin, find, slice_get}
 use Rattle.std.specs.List.Sorted.{IsPartitionedBy}
@@ -17,7 +18,9 @@ found_at_place {A} test (x ∷ xs) = by (found_at_place test xs) (test x)
     further None e = e
     further (Some n) e = e
 
-    by : find test xs ≡ when_some (place_where test xs) None (slice_get xs) → (b : Bool) → cond b (Some x) (find test xs) ≡ when_some (cond b (Some 0) (option_map (λ n. suc n) (place_where test xs))) None (slice_get (x ∷ xs))
+    by : find test xs ≡ when_some (place_where test xs) None (slice_get xs) → (b : Bool)
+        → cond b (Some x) (find test xs) ≡ when_some (cond b (Some 0) (option_map (λ n. suc n) (place_where test xs)))
+        None (slice_get (x ∷ xs))
     by e true = refl
     by e false = further (place_where test xs) e
 
@@ -47,36 +50,45 @@ module _ {A K : Type 0} (key : A → K) (below same : K → K → Bool)
   pub parted : (last : Option K) (xs : List A) → AscendsFrom below last (map key xs) → (c : K) → IsPartitionedBy (λ x. below (key x) c) xs
   parted last [] up c i j d le l b = absurd (omega (arith, l))
   parted last (x ∷ xs) up c zero zero d le l b = b
-  parted last (x ∷ xs) up c zero (suc j) d le l b = trans (key x) (key (get_or xs j d)) c (above_all (key x) xs up.1 j (get_or xs j d) (get xs j d (omega (arith, l)))) b
+  parted last (x ∷ xs) up c zero (suc j) d le l b =
+      trans (key x) (key (get_or xs j d)) c (above_all (key x) xs up.1 j (get_or xs j d) (get xs j d (omega (arith, l)))) b
   parted last (x ∷ xs) up c (suc i) zero d le l b = absurd (omega (arith, le))
   parted last (x ∷ xs) up c (suc i) (suc j) d le l b = parted (Some (key x)) xs up.1 c i j d (omega (arith, le)) (omega (arith, l)) b
 
   -- an item at that place with the key is the first that has it
-  pub hit : (xs : List A) (c : K) (i : ℕ) → AllWithin (λ x. below (key x) c ≡ true) xs 0 i → (x : A) → slice_get xs i ≡ Some x → same (key x) c ≡ true → place_where (λ y. same (key y) c) xs ≡ Some i
+  pub hit : (xs : List A) (c : K) (i : ℕ) → AllWithin (λ x. below (key x) c ≡ true) xs 0 i → (x : A)
+      → slice_get xs i ≡ Some x → same (key x) c ≡ true → place_where (λ y. same (key y) c) xs ≡ Some i
   hit [] c i low x e s = absurd (cc)
   hit (y ∷ xs) c zero low x e s =
       let q : y ≡ x = cc in
       cond-true (same (key y) c) (Some 0) (option_map (λ n. suc n) (place_where (λ y. same (key y) c) xs)) (ap (λ (z : A). same (key z) c) q ∙ s)
   hit (y ∷ xs) c (suc i) low x e s =
-      cond-false (same (key y) c) (Some 0) (option_map (λ n. suc n) (place_where (λ y. same (key y) c) xs)) (differs (key y) c (low zero y (omega arith) (omega arith)))
+      cond-false (same (key y) c) (Some 0) (option_map (λ n. suc n) (place_where (λ y. same (key y) c) xs))
+      (differs (key y) c (low zero y (omega arith) (omega arith)))
       ∙ ap (option_map (λ n. suc n)) (hit xs c i (λ k d a b. low (suc k) d (omega arith) (omega (arith, b))) x e s)
 
   -- where the item at that place hasn't the key, none has
-  pub miss : (last : Option K) (xs : List A) → AscendsFrom below last (map key xs) → (c : K) (i : ℕ) → AllWithin (λ x. below (key x) c ≡ true) xs 0 i → AllWithin (λ x. below (key x) c ≡ false) xs i (length xs)
+  pub miss : (last : Option K) (xs : List A) → AscendsFrom below last (map key xs) → (c : K) (i : ℕ)
+      → AllWithin (λ x. below (key x) c ≡ true) xs 0 i → AllWithin (λ x. below (key x) c ≡ false) xs i (length xs)
       → ((x : A) → slice_get xs i ≡ Some x → same (key x) c ≡ false) → place_where (λ y. same (key y) c) xs ≡ None
   miss last [] up c i low high none = refl
   miss last (y ∷ xs) up c zero low high none =
       cond-false (same (key y) c) (Some 0) (option_map (λ n. suc n) (place_where (λ y. same (key y) c) xs)) (none y refl)
       ∙ ap (option_map (λ n. suc n))
       (no_place (λ z. same (key z) c) xs
-      (λ k x e. false_from_ne_true (same (key x) c) (λ s. false≢true (sym (high zero y (omega arith) (omega arith)) ∙ ap (below (key y)) (sym (equal (key x) c s)) ∙ above_all (key y) xs up.1 k x e))))
+      (λ k x e. false_from_ne_true (same (key x) c)
+      (λ s. false≢true (sym (high zero y (omega arith) (omega arith))
+      ∙ ap (below (key y)) (sym (equal (key x) c s)) ∙ above_all (key y) xs up.1 k x e))))
   miss last (y ∷ xs) up c (suc i) low high none =
-      cond-false (same (key y) c) (Some 0) (option_map (λ n. suc n) (place_where (λ y. same (key y) c) xs)) (differs (key y) c (low zero y (omega arith) (omega arith)))
+      cond-false (same (key y) c) (Some 0) (option_map (λ n. suc n) (place_where (λ y. same (key y) c) xs))
+      (differs (key y) c (low zero y (omega arith) (omega arith)))
       ∙ ap (option_map (λ n. suc n))
-      (miss (Some (key y)) xs up.1 c i (λ k d a b. low (suc k) d (omega arith) (omega (arith, b))) (λ k d a b. high (suc k) d (omega (arith, a)) (omega (arith, b))) none)
+      (miss (Some (key y)) xs up.1 c i (λ k d a b. low (suc k) d (omega arith) (omega (arith, b)))
+      (λ k d a b. high (suc k) d (omega (arith, a)) (omega (arith, b))) none)
 
   -- the place of the key is where the lower keys end, if what stands there has it
-  pub at_point : (last : Option K) (xs : List A) → AscendsFrom below last (map key xs) → (c : K) (i : ℕ) → AllWithin (λ x. below (key x) c ≡ true) xs 0 i → AllWithin (λ x. below (key x) c ≡ false) xs i (length xs)
+  pub at_point : (last : Option K) (xs : List A) → AscendsFrom below last (map key xs) → (c : K) (i : ℕ)
+      → AllWithin (λ x. below (key x) c ≡ true) xs 0 i → AllWithin (λ x. below (key x) c ≡ false) xs i (length xs)
       → (b : Bool) → when_some (slice_get xs i) false (λ x. same (key x) c) ≡ b → place_where (λ y. same (key y) c) xs ≡ cond b (Some i) None
   at_point last xs up c i low high false e = miss last xs up c i low high (λ x q. ap (λ o. when_some o false (λ x. same (key x) c)) (sym q) ∙ e)
   at_point last xs up c i low high true e = by (slice_get xs i) refl e
@@ -86,7 +98,8 @@ module _ {A K : Type 0} (key : A → K) (below same : K → K → Bool)
       by (Some x) q t = hit xs c i low x q t
 
   -- an item with the key is the first that has it, wherever it stands
-  only : (last : Option K) (xs : List A) → AscendsFrom below last (map key xs) → (c : K) (i : ℕ) (x : A) → slice_get xs i ≡ Some x → same (key x) c ≡ true → place_where (λ y. same (key y) c) xs ≡ Some i
+  only : (last : Option K) (xs : List A) → AscendsFrom below last (map key xs) → (c : K) (i : ℕ) (x : A)
+      → slice_get xs i ≡ Some x → same (key x) c ≡ true → place_where (λ y. same (key y) c) xs ≡ Some i
   only last [] up c i x e s = absurd (cc)
   only last (y ∷ xs) up c zero x e s =
       let q : y ≡ x = cc in
@@ -97,7 +110,8 @@ module _ {A K : Type 0} (key : A → K) (below same : K → K → Bool)
       ∙ ap (option_map (λ n. suc n)) (only (Some (key y)) xs up.1 c i x e s)
 
   -- whatever stands at a place and has the key stands at the place of the key
-  pub at_any : (last : Option K) (xs : List A) → AscendsFrom below last (map key xs) → (c : K) (i : ℕ) → when_some (slice_get xs i) false (λ x. same (key x) c) ≡ true → place_where (λ y. same (key y) c) xs ≡ Some i
+  pub at_any : (last : Option K) (xs : List A) → AscendsFrom below last (map key xs) → (c : K) (i : ℕ)
+      → when_some (slice_get xs i) false (λ x. same (key x) c) ≡ true → place_where (λ y. same (key y) c) xs ≡ Some i
   at_any last xs up c i e = by (slice_get xs i) refl e
     where
       by : (o : Option A) → slice_get xs i ≡ o → when_some o false (λ x. same (key x) c) ≡ true → place_where (λ y. same (key y) c) xs ≡ Some i

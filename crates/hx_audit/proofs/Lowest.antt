@@ -1,5 +1,6 @@
 -- The first line that a walk finds is the lowest at which the clause is broken.
-use Rattle.std.proofs.Common.{◌≡◌, ℕ, zero, suc, ◌+◌, ◌<◌, ◌≤◌, ◌⊎◌, inl, inr, List, [], ◌∷◌, ◌++◌, map, length, Option, None, Some, refl, sym, ap, subst, arith}
+use Rattle.std.proofs.Common.{◌≡◌, ℕ, zero, suc, ◌+◌, ◌<◌, ◌≤◌, ◌⊎◌, inl, inr, List, [], ◌∷◌, ◌++◌, map, length}
+use Rattle.std.proofs.Common.{Option, None, Some, refl, sym, ap, subst, arith}
 use Rattle.std.specs.List.{slice_get}
 use Rattle.std.specs.Option.{IfSome}
 use Rattle.std.proofs.lemmas.Bool.{cases_lt}
@@ -16,7 +17,9 @@ use Rattle.hx_audit.specs.declared.verdicts.Clause.{Clause}
 use Rattle.hx_audit.specs.declared.verdicts.Clause.TheVariants as clauses
 use Rattle.hx_audit.specs.Clauses.{KeepsInCall, KeepsInHistory}
 use Rattle.hx_audit.specs.Told.{end_told, item_told, rows_told, search_told}
-use Rattle.hx_audit.specs.Verdicts.{IsFirstBroken, IsKept, KeepsInPiece, OfCall, OfHistory, Piece, Placed, block_from, block_lines, blocks_from, call_lines, calls_from, histories_from, history_lines, lines_of_calls, lines_of_histories, pieces_of, rank_of, space_lines}
+use Rattle.hx_audit.specs.Verdicts.{IsFirstBroken, IsKept, KeepsInPiece, OfCall, OfHistory, Piece, Placed, block_from}
+use Rattle.hx_audit.specs.Verdicts.{block_lines, blocks_from, call_lines, calls_from, histories_from, history_lines}
+use Rattle.hx_audit.specs.Verdicts.{lines_of_calls, lines_of_histories, pieces_of, rank_of, space_lines}
 use Rattle.hx_audit.specs.Walking.{IsFirstOf}
 
 -- how many lines a piece has
@@ -36,21 +39,29 @@ length_map f (x ∷ xs) = ap (λ n. suc n) (length_map f xs)
 pub rows_are : (l : CallLine) (s : FinishedSearch) → search_told l ≡ Some s → s.rows ≡ rows_told l
 rows_are l s e = by_terms (terms_of l.op) e
   where
-    by_rows : (terms : List Term) (n : ℕ) (o : Option (List Row)) → with_rows l.caller terms l.begin n o ≡ Some s → s.rows ≡ when_some o [] (λ (rows : List Row). rows)
+    by_rows : (terms : List Term) (n : ℕ) (o : Option (List Row)) → with_rows l.caller terms l.begin n o ≡ Some s
+        → s.rows ≡ when_some o [] (λ (rows : List Row). rows)
     by_rows terms n None q = absurd (cc)
     by_rows terms n (Some rows) q = sym (ap (λ (o : Option FinishedSearch). when_some o [] (λ (t : FinishedSearch). t.rows)) q)
 
-    by_answer : (terms : List Term) (n : ℕ) (o : Option Answer) → when_some (when_some o None (λ (a : Answer). Some (record { entry = n; version = l.version; answer = a }))) None (λ (e : CallEnd). with_rows l.caller terms l.begin e.entry (rows_in e.answer)) ≡ Some s
+    by_answer : (terms : List Term) (n : ℕ) (o : Option Answer)
+        → when_some (when_some o None (λ (a : Answer). Some (record { entry = n; version = l.version; answer = a })))
+        None (λ (e : CallEnd). with_rows l.caller terms l.begin e.entry (rows_in e.answer)) ≡ Some s
         → s.rows ≡ when_some o [] (λ (a : Answer). when_some (rows_in a) [] (λ (rows : List Row). rows))
     by_answer terms n None q = absurd (cc)
     by_answer terms n (Some a) q = by_rows terms n (rows_in a) q
 
-    by_end : (terms : List Term) (o : Option ℕ) → when_some (when_some o None (λ n. when_some l.answer None (λ (a : Answer). Some (record { entry = n; version = l.version; answer = a })))) None (λ (e : CallEnd). with_rows l.caller terms l.begin e.entry (rows_in e.answer)) ≡ Some s
+    by_end : (terms : List Term) (o : Option ℕ) → when_some
+        (when_some o None (λ n. when_some l.answer None
+        (λ (a : Answer). Some (record { entry = n; version = l.version; answer = a })))) None
+        (λ (e : CallEnd). with_rows l.caller terms l.begin e.entry (rows_in e.answer)) ≡ Some s
         → s.rows ≡ rows_told l
     by_end terms None q = absurd (cc)
     by_end terms (Some n) q = by_answer terms n l.answer q
 
-    by_terms : (o : Option (List Term)) → when_some o None (λ (terms : List Term). when_some (end_told l) None (λ (e : CallEnd). with_rows l.caller terms l.begin e.entry (rows_in e.answer))) ≡ Some s → s.rows ≡ rows_told l
+    by_terms : (o : Option (List Term)) → when_some o None
+        (λ (terms : List Term). when_some (end_told l) None
+        (λ (e : CallEnd). with_rows l.caller terms l.begin e.entry (rows_in e.answer))) ≡ Some s → s.rows ≡ rows_told l
     by_terms None q = absurd (cc)
     by_terms (Some terms) q = by_end terms l.end q
 
@@ -95,16 +106,21 @@ calls_between : (b : Block) (lo line hi : ℕ) (calls : List CallLine) → lo �
 calls_between b lo line hi [] l e = omega (arith, l, e)
 calls_between b lo line hi (x ∷ rest) l e = (l, calls_between b (line + call_lines x) (line + call_lines x) hi rest (omega arith) (omega (arith, e)))
 
-histories_between : (b : Block) (lo line hi : ℕ) (histories : List HistoryLines) → lo ≤ line → line + lines_of_histories histories ≤ hi → Between lo hi (histories_from b line histories)
+histories_between : (b : Block) (lo line hi : ℕ) (histories : List HistoryLines) → lo ≤ line
+    → line + lines_of_histories histories ≤ hi → Between lo hi (histories_from b line histories)
 histories_between b lo line hi [] l e = omega (arith, l, e)
-histories_between b lo line hi (x ∷ rest) l e = (l, histories_between b (line + history_lines x) (line + history_lines x) hi rest (omega arith) (omega (arith, e)))
+histories_between b lo line hi (x ∷ rest) l e = (
+  l,
+  histories_between b (line + history_lines x) (line + history_lines x) hi rest (omega arith) (omega (arith, e)),
+)
 
 block_between : (b : Block) (line : ℕ) → Between line (line + block_lines b) (block_from b line)
 block_between b line =
     joined line (line + space_lines b.space + lines_of_calls b.calls) (line + block_lines b)
     (calls_from b (line + space_lines b.space) b.calls) (histories_from b (line + space_lines b.space + lines_of_calls b.calls) b.histories)
     (calls_between b line (line + space_lines b.space) (line + space_lines b.space + lines_of_calls b.calls) b.calls (omega arith) refl)
-    (histories_between b (line + space_lines b.space + lines_of_calls b.calls) (line + space_lines b.space + lines_of_calls b.calls) (line + block_lines b) b.histories (omega arith) (omega arith))
+    (histories_between b (line + space_lines b.space + lines_of_calls b.calls)
+    (line + space_lines b.space + lines_of_calls b.calls) (line + block_lines b) b.histories (omega arith) (omega arith))
 
 -- where the lines of blocks end
 abbrev end_of_blocks : ℕ → List Block → ℕ
@@ -113,7 +129,9 @@ end_of_blocks line (b ∷ rest) = end_of_blocks (line + block_lines b) rest
 
 blocks_between : (line : ℕ) (blocks : List Block) → Between line (end_of_blocks line blocks) (blocks_from line blocks)
 blocks_between line [] = omega arith
-blocks_between line (b ∷ rest) = joined line (line + block_lines b) (end_of_blocks (line + block_lines b) rest) (block_from b line) (blocks_from (line + block_lines b) rest) (block_between b line) (blocks_between (line + block_lines b) rest)
+blocks_between line (b ∷ rest) = joined line (line + block_lines b) (end_of_blocks (line + block_lines b) rest)
+    (block_from b line) (blocks_from (line + block_lines b) rest) (block_between b line)
+    (blocks_between (line + block_lines b) rest)
 
 -- no line of these pieces is lower than where they begin
 lower : (lo hi : ℕ) (ps : List Placed) → Between lo hi ps → (q : Placed) → IsIn q ps → lo ≤ q.line
@@ -130,15 +148,18 @@ module _ (clause : Clause) where
   all_kept (p ∷ ps) (inr f) q i place = absurd (let e = f.line in cc)
 
   -- what is found is broken
-  pub found : (ps : List Placed) (n : ℕ) → IsFirstOf clause ps (Some n) → (q : Placed) × IsIn q ps × ((place : ℕ) × (n ≡ q.line + place) × (KeepsInPiece clause q.block q.piece place → ⊥))
+  pub found : (ps : List Placed) (n : ℕ) → IsFirstOf clause ps (Some n) → (q : Placed) × IsIn q ps
+      × ((place : ℕ) × (n ≡ q.line + place) × (KeepsInPiece clause q.block q.piece place → ⊥))
   found [] n f = absurd (cc)
   found (p ∷ ps) n (inl f) = let r = found ps n f.1 in (r.0, inr r.1, r.2)
   found (p ∷ ps) n (inr f) = (p, inl refl, (f.place, (let e = f.line in cc), f.broken))
 
   -- and nothing is broken below it
-  pub lowest : (lo hi : ℕ) (ps : List Placed) → Between lo hi ps → (n : ℕ) → IsFirstOf clause ps (Some n) → (q : Placed) → IsIn q ps → (place : ℕ) → (KeepsInPiece clause q.block q.piece place → ⊥) → n ≤ q.line + place
+  pub lowest : (lo hi : ℕ) (ps : List Placed) → Between lo hi ps → (n : ℕ) → IsFirstOf clause ps (Some n)
+      → (q : Placed) → IsIn q ps → (place : ℕ) → (KeepsInPiece clause q.block q.piece place → ⊥) → n ≤ q.line + place
   lowest lo hi [] g n f q i place apart = absurd i
-  lowest lo hi (p ∷ ps) g n (inl f) q (inl e) place apart = absurd (apart (subst (λ (x : Placed). KeepsInPiece clause x.block x.piece place) (sym e) (f.0 place)))
+  lowest lo hi (p ∷ ps) g n (inl f) q (inl e) place apart =
+      absurd (apart (subst (λ (x : Placed). KeepsInPiece clause x.block x.piece place) (sym e) (f.0 place)))
   lowest lo hi (p ∷ ps) g n (inl f) q (inr i) place apart = lowest (p.line + lines_in p.piece) hi ps g.1 n f.1 q i place apart
   lowest lo hi (p ∷ ps) g n (inr f) q (inl e) place apart = by (cases_lt place f.place)
     where
@@ -162,11 +183,14 @@ pub report_kept : (r : ReportValue) (clause : Clause) → IsFirstOf clause (piec
 report_kept r clause f p i place = all_kept clause (pieces_of r) f p i place
 
 -- what it finds is the first that is broken
-pub report_broken : (r : ReportValue) (clause : Clause) (n : ℕ) → IsFirstOf clause (pieces_of r) (Some n) → ((other : Clause) → rank_of other < rank_of clause → IsKept r other) → IsFirstBroken r n clause
+pub report_broken : (r : ReportValue) (clause : Clause) (n : ℕ) → IsFirstOf clause (pieces_of r) (Some n)
+    → ((other : Clause) → rank_of other < rank_of clause → IsKept r other) → IsFirstBroken r n clause
 report_broken r clause n f earlier =
     let g = found clause (pieces_of r) n f in
     record {
       broken = record { piece = g.0; stands = g.1; place = g.2.0; here = g.2.1; broken = g.2.2 };
-      lowest = λ m less broken. (let l = lowest clause 2 (end_of_blocks 2 r.blocks) (pieces_of r) (blocks_between 2 r.blocks) n f broken.piece broken.stands broken.place broken.broken in let h = broken.here in omega (arith, less, l, h));
+      lowest = λ m less broken. (let l = lowest clause 2 (end_of_blocks 2 r.blocks) (pieces_of r)
+          (blocks_between 2 r.blocks) n f broken.piece broken.stands broken.place broken.broken in
+          let h = broken.here in omega (arith, less, l, h));
       earlier = earlier;
     }

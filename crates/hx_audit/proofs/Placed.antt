@@ -29,16 +29,21 @@ use Rattle.hx_audit.proofs.Unique.{found_in, own_items}
 
 -- ---- the call of a caller
 
-above_in : (c : Caller) (calls : List CallLine) → AscendsFrom caller_below (Some c) (map (λ (l : CallLine). l.caller) calls) → (l : CallLine) → IsIn l calls → caller_below c l.caller ≡ true
+above_in : (c : Caller) (calls : List CallLine) → AscendsFrom caller_below (Some c)
+    (map (λ (l : CallLine). l.caller) calls) → (l : CallLine) → IsIn l calls → caller_below c l.caller ≡ true
 above_in c [] up l i = absurd i
 above_in c (x ∷ calls) up l (inl e) = ap (λ (y : CallLine). caller_below c y.caller) e ∙ up.0
 above_in c (x ∷ calls) up l (inr i) = caller_trans c x.caller l.caller up.0 (above_in x.caller calls up.1 l i)
 
 -- a call is the one of its caller
-pub own_call : (last : Option Caller) (calls : List CallLine) → AscendsFrom caller_below last (map (λ (l : CallLine). l.caller) calls) → (l : CallLine) → IsIn l calls → call_at calls l.caller ≡ Some l
+pub own_call : (last : Option Caller) (calls : List CallLine)
+    → AscendsFrom caller_below last (map (λ (l : CallLine). l.caller) calls) → (l : CallLine) → IsIn l calls
+    → call_at calls l.caller ≡ Some l
 own_call last [] up l i = absurd i
-own_call last (x ∷ calls) up l (inl e) = cond-true (same_caller x.caller l.caller) (Some x) (call_at calls l.caller) (same_self x.caller l.caller (ap (λ (y : CallLine). y.caller) (sym e))) ∙ ap Some (sym e)
-own_call last (x ∷ calls) up l (inr i) = cond-false (same_caller x.caller l.caller) (Some x) (call_at calls l.caller) (caller_differs x.caller l.caller (above_in x.caller calls up.1 l i)) ∙ own_call (Some x.caller) calls up.1 l i
+own_call last (x ∷ calls) up l (inl e) = cond-true (same_caller x.caller l.caller) (Some x) (call_at calls l.caller)
+    (same_self x.caller l.caller (ap (λ (y : CallLine). y.caller) (sym e))) ∙ ap Some (sym e)
+own_call last (x ∷ calls) up l (inr i) = cond-false (same_caller x.caller l.caller) (Some x) (call_at calls l.caller)
+    (caller_differs x.caller l.caller (above_in x.caller calls up.1 l i)) ∙ own_call (Some x.caller) calls up.1 l i
 
 -- what stands where a caller's call does
 at_place : (calls : List CallLine) (c : Caller) (place : ℕ) → place_at calls c ≡ Some place → call_at calls c ≡ slice_get calls place
@@ -55,7 +60,8 @@ and_some : {A : Type 0} (P : A → Type 0) (o : Option A) (x : A) → o ≡ Some
 and_some P None x e h = absurd (cc)
 and_some P (Some y) x e h = let q : x ≡ y = cc in subst P q h
 
-module _ (b : Block) (up : IsOrdered b) (l : CallLine) (i : IsIn l b.calls) (key : List ℕ) (answer : Answer) (k : key_of l.op ≡ Some key) (a : option_map (λ (e : CallEnd). e.answer) (end_told l) ≡ Some answer) where
+module _ (b : Block) (up : IsOrdered b) (l : CallLine) (i : IsIn l b.calls) (key : List ℕ) (answer : Answer)
+    (k : key_of l.op ≡ Some key) (a : option_map (λ (e : CallEnd). e.answer) (end_told l) ≡ Some answer) where
   own : call_at b.calls l.caller ≡ Some l
   own = own_call None b.calls up.calls l i
 
@@ -91,7 +97,8 @@ module _ (b : Block) (up : IsOrdered b) (l : CallLine) (i : IsIn l b.calls) (key
     pub told_standing : IsItemOfCall b key l.caller answer → StandsIn b.calls b.histories place
     told_standing t = by (find (λ (h : HistoryLines). same_text h.key key) b.histories) refl t.stands
       where
-        by : (o : Option HistoryLines) → find (λ (h : HistoryLines). same_text h.key key) b.histories ≡ o → IsIn t.item (when_some o [] (λ (h : HistoryLines). h.items)) → StandsIn b.calls b.histories place
+        by : (o : Option HistoryLines) → find (λ (h : HistoryLines). same_text h.key key) b.histories ≡ o
+            → IsIn t.item (when_some o [] (λ (h : HistoryLines). h.items)) → StandsIn b.calls b.histories place
         by None q j = absurd j
         by (Some h) q j =
             let f = found_in (λ (g : HistoryLines). same_text g.key key) b.histories h q in
@@ -110,7 +117,8 @@ module _ (b : Block) (up : IsOrdered b) (l : CallLine) (i : IsIn l b.calls) (key
               };
             }
 
-    pub marked_is : (marked : ℕ → Bool) → (IsTrue (marked place) ↔ StandsIn b.calls b.histories place) → IsTrue (marked place) ↔ IsItemOfCall b key l.caller answer
+    pub marked_is : (marked : ℕ → Bool) → (IsTrue (marked place) ↔ StandsIn b.calls b.histories place)
+        → IsTrue (marked place) ↔ IsItemOfCall b key l.caller answer
     marked_is marked h = (λ t. standing_told (h.0 t), λ t. h.1 (told_standing t))
 
 -- ---- loops that mark
@@ -137,19 +145,25 @@ module _ {A : Type 0} (P : ℕ → A → Type 0) (old : ℕ → Bool) (all : Lis
       ]
 
   -- nothing is left
-  pub marks_all : (now : ℕ → Bool) (rest : List A) → length rest ≡ 0 → ((place : ℕ) → IsMarked now P rest place ↔ IsMarked old P all place) → MarksMore old now (λ place. HasIn (P place) all)
+  pub marks_all : (now : ℕ → Bool) (rest : List A) → length rest ≡ 0
+      → ((place : ℕ) → IsMarked now P rest place ↔ IsMarked old P all place) → MarksMore old now (λ place. HasIn (P place) all)
   marks_all now rest e had place = ((λ t. (had place).0 (inl t)), λ h. elim ((had place).1 h) [ inl t ↦ t | inr r ↦ absurd (has_none (P place) rest e r) ])
 
 -- where nothing was marked before, what is marked is what P holds of
-pub marks_only : {A : Type 0} (P : ℕ → A → Type 0) (now : ℕ → Bool) (all rest : List A) → length rest ≡ 0 → ((place : ℕ) → IsMarked now P rest place ↔ IsMarked (λ p. false) P all place) → (place : ℕ) → IsTrue (now place) ↔ HasIn (P place) all
+pub marks_only : {A : Type 0} (P : ℕ → A → Type 0) (now : ℕ → Bool) (all rest : List A) → length rest ≡ 0
+    → ((place : ℕ) → IsMarked now P rest place ↔ IsMarked (λ p. false) P all place) → (place : ℕ)
+    → IsTrue (now place) ↔ HasIn (P place) all
 marks_only P now all rest e had place =
     let m = marks_all P (λ p. false) all now rest e had place in
     ((λ t. elim (m.0 t) [ inl f ↦ absurd (false≢true f) | inr h ↦ h ]), λ h. m.1 (inr h))
 
 -- a call that ended and wasn't refused has its item exactly where it is marked
-pub has_item_is : (b : Block) (up : IsOrdered b) (l : CallLine) (i : IsIn l b.calls) (key : List ℕ) (answer : Answer) (k : key_of l.op ≡ Some key) (a : option_map (λ (e : CallEnd). e.answer) (end_told l) ≡ Some answer)
-    → is_refused answer ≡ false → (marked : ℕ → Bool) → AreStanding b marked → (calls : List CallLine) → calls ≡ b.calls → (r : Bool) → r ≡ when_some (place_at calls l.caller) false marked → IsTrue r ↔ HasItem b l
-has_item_is b up l i key answer k a apart marked all calls same r e = by (place_at b.calls l.caller) refl (e ∙ ap (λ cs. when_some (place_at cs l.caller) false marked) same)
+pub has_item_is : (b : Block) (up : IsOrdered b) (l : CallLine) (i : IsIn l b.calls) (key : List ℕ) (answer : Answer)
+    (k : key_of l.op ≡ Some key) (a : option_map (λ (e : CallEnd). e.answer) (end_told l) ≡ Some answer)
+    → is_refused answer ≡ false → (marked : ℕ → Bool) → AreStanding b marked → (calls : List CallLine)
+    → calls ≡ b.calls → (r : Bool) → r ≡ when_some (place_at calls l.caller) false marked → IsTrue r ↔ HasItem b l
+has_item_is b up l i key answer k a apart marked all calls same r e =
+    by (place_at b.calls l.caller) refl (e ∙ ap (λ cs. when_some (place_at cs l.caller) false marked) same)
   where
     by : (o : Option ℕ) → place_at b.calls l.caller ≡ o → r ≡ when_some (place_at b.calls l.caller) false marked → IsTrue r ↔ HasItem b l
     by None p q = absurd (place_is b up l i key answer k a p)

@@ -54,7 +54,9 @@ highest clauses.Whole = omega arith
 highest clauses.True = omega arith
 
 -- one more clause is kept
-pub more_ranks : (r : ReportValue) (c next : Clause) → rank_of next ≡ rank_of c + 1 → ((other : Clause) → rank_of other < rank_of c → IsKept r other) → IsKept r c → (other : Clause) → rank_of other < rank_of next → IsKept r other
+pub more_ranks : (r : ReportValue) (c next : Clause) → rank_of next ≡ rank_of c + 1
+    → ((other : Clause) → rank_of other < rank_of c → IsKept r other) → IsKept r c → (other : Clause)
+    → rank_of other < rank_of next → IsKept r other
 more_ranks r c next e earlier kept other less = by (cases_eq (rank_of other) (rank_of c))
   where
     by : (rank_of other ≡ rank_of c) ⊎ (rank_of other ≡ rank_of c → ⊥) → IsKept r other
@@ -62,7 +64,8 @@ more_ranks r c next e earlier kept other less = by (cases_eq (rank_of other) (ra
     by (inr apart) = earlier other (omega (arith, e, less, apart))
 
 -- all clauses are kept
-pub all_ranks : (r : ReportValue) (c : Clause) → rank_of c ≡ 5 → ((other : Clause) → rank_of other < rank_of c → IsKept r other) → IsKept r c → (other : Clause) → IsKept r other
+pub all_ranks : (r : ReportValue) (c : Clause) → rank_of c ≡ 5
+    → ((other : Clause) → rank_of other < rank_of c → IsKept r other) → IsKept r c → (other : Clause) → IsKept r other
 all_ranks r c e earlier kept other = by (cases_eq (rank_of other) (rank_of c))
   where
     by : (rank_of other ≡ rank_of c) ⊎ (rank_of other ≡ rank_of c → ⊥) → IsKept r other

@@ -1,5 +1,6 @@
 -- Which items are known, told by the places of their callers' calls.
-use Rattle.std.proofs.Common.{◌≡◌, ℕ, suc, ◌+◌, ◌<◌, Bool, true, false, not, ◌&&◌, ◌||◌, List, [], ◌∷◌, cond, eqb, ltb, length, get_or, take, Option, None, Some, refl, sym, ap, ◌∙◌, subst, arith}
+use Rattle.std.proofs.Common.{◌≡◌, ℕ, suc, ◌+◌, ◌<◌, Bool, true, false, not, ◌&&◌, ◌||◌, List, [], ◌∷◌, cond, eqb, ltb}
+use Rattle.std.proofs.Common.{length, get_or, take, Option, None, Some, refl, sym, ap, ◌∙◌, subst, arith}
 use Rattle.std.specs.List.{list_any, slice_get}
 use Rattle.std.specs.Option.{option_map}
 use Rattle.std.proofs.lemmas.Bool.{eq-eqb, eqb-true, false_from_ne_true, false≢true, ltb-true}
@@ -21,7 +22,9 @@ pub place_found : {A : Type 0} (test : A → Bool) (xs : List A) (p : ℕ) → p
 place_found test [] p e = absurd (cc)
 place_found {A} test (x ∷ xs) p e = by (place_found test xs) (place_where test xs) refl (test x) refl e
   where
-    by : ((n : ℕ) → place_where test xs ≡ Some n → (y : A) × (slice_get xs n ≡ Some y) × (test y ≡ true)) → (o : Option ℕ) → place_where test xs ≡ o → (b : Bool) → test x ≡ b → cond b (Some 0) (option_map (λ n. suc n) o) ≡ Some p → (y : A) × (slice_get (x ∷ xs) p ≡ Some y) × (test y ≡ true)
+    by : ((n : ℕ) → place_where test xs ≡ Some n → (y : A) × (slice_get xs n ≡ Some y) × (test y ≡ true))
+        → (o : Option ℕ) → place_where test xs ≡ o → (b : Bool) → test x ≡ b
+        → cond b (Some 0) (option_map (λ n. suc n) o) ≡ Some p → (y : A) × (slice_get (x ∷ xs) p ≡ Some y) × (test y ≡ true)
     by ih o q true t e = let z : 0 ≡ p = cc in subst (λ n. (y : A) × (slice_get (x ∷ xs) n ≡ Some y) × (test y ≡ true)) z (x, refl, t)
     by ih None q false t e = absurd (cc)
     by ih (Some n) q false t e = let z : suc n ≡ p = cc in subst (λ n. (y : A) × (slice_get (x ∷ xs) n ≡ Some y) × (test y ≡ true)) z (ih n q)
@@ -48,22 +51,29 @@ same_place calls x y p e = by (same_caller y x) refl (place_at calls y) refl
     by false s (Some n) q = false_from_ne_true (eqb n p) (λ t. false≢true (sym s ∙ same_self y x (apart n q (eqb-true n p t))))
 
 -- the callers of these items are this one's, where their calls are
-pub same_places : (calls : List CallLine) (x : Caller) (p : ℕ) → place_at calls x ≡ Some p → (above : List ItemLine) → list_any (λ (y : ItemLine). is_place p (place_at calls y.caller)) above ≡ list_any (λ (y : ItemLine). same_caller y.caller x) above
+pub same_places : (calls : List CallLine) (x : Caller) (p : ℕ) → place_at calls x ≡ Some p → (above : List ItemLine)
+    → list_any (λ (y : ItemLine). is_place p (place_at calls y.caller)) above
+    ≡ list_any (λ (y : ItemLine). same_caller y.caller x) above
 same_places calls x p e above = λ i. list_any (λ (y : ItemLine). same_place calls x y.caller p e i) above
 
 -- an item of no call isn't known
-pub unknown : (calls : List CallLine) (key : List ℕ) (above : List ItemLine) (x : ItemLine) → place_at calls x.caller ≡ None → is_known calls key above x ≡ false
+pub unknown : (calls : List CallLine) (key : List ℕ) (above : List ItemLine) (x : ItemLine)
+    → place_at calls x.caller ≡ None → is_known calls key above x ≡ false
 unknown calls key above x e =
-    let none : call_at calls x.caller ≡ None = found_at_place (λ (l : CallLine). same_caller l.caller x.caller) calls ∙ ap (λ o. when_some o None (slice_get calls)) e in
-    ap (λ o. when_some o false (λ (l : CallLine). is_on key l.op && not (is_refused_call l)) && not (list_any (λ (y : ItemLine). same_caller y.caller x.caller) above)) none
+    let none : call_at calls x.caller ≡ None = found_at_place (λ (l : CallLine). same_caller l.caller x.caller) calls
+    ∙ ap (λ o. when_some o None (slice_get calls)) e in
+    ap (λ o. when_some o false (λ (l : CallLine). is_on key l.op && not (is_refused_call l))
+    && not (list_any (λ (y : ItemLine). same_caller y.caller x.caller) above)) none
 
 -- whether an item is known, by its call's place
-pub known_by_place : (calls : List CallLine) (key : List ℕ) (above : List ItemLine) (x : ItemLine) (p : ℕ) (called seen : Bool) → place_at calls x.caller ≡ Some p
+pub known_by_place : (calls : List CallLine) (key : List ℕ) (above : List ItemLine) (x : ItemLine) (p : ℕ)
+    (called seen : Bool) → place_at calls x.caller ≡ Some p
     → when_some (slice_get calls p) false (λ (l : CallLine). is_on key l.op && not (is_refused_call l)) ≡ called
     → list_any (λ (y : ItemLine). is_place p (place_at calls y.caller)) above ≡ seen
     → is_known calls key above x ≡ (called && not seen)
 known_by_place calls key above x p called seen e is any =
-    let found : call_at calls x.caller ≡ slice_get calls p = found_at_place (λ (l : CallLine). same_caller l.caller x.caller) calls ∙ ap (λ o. when_some o None (slice_get calls)) e in
+    let found : call_at calls x.caller ≡ slice_get calls p =
+    found_at_place (λ (l : CallLine). same_caller l.caller x.caller) calls ∙ ap (λ o. when_some o None (slice_get calls)) e in
     let first : when_some (call_at calls x.caller) false (λ (l : CallLine). is_on key l.op && not (is_refused_call l)) ≡ called =
     ap (λ o. when_some o false (λ (l : CallLine). is_on key l.op && not (is_refused_call l))) found ∙ is in
     λ i. first i && not ((sym (same_places calls x.caller p e above) ∙ any) i)
@@ -76,7 +86,8 @@ put_in false true true h = refl
 put_in false true false h = refl
 
 -- the places of one more item's callers
-pub more_seen : (calls : List CallLine) (items : List ItemLine) (i : ℕ) (x : ItemLine) → i < length items → x ≡ get_or items i x → (p : ℕ) → place_at calls x.caller ≡ Some p → (q : ℕ) (old new : Bool)
+pub more_seen : (calls : List CallLine) (items : List ItemLine) (i : ℕ) (x : ItemLine) → i < length items
+    → x ≡ get_or items i x → (p : ℕ) → place_at calls x.caller ≡ Some p → (q : ℕ) (old new : Bool)
     → old ≡ list_any (λ (y : ItemLine). is_place q (place_at calls y.caller)) (take i items)
     → new ≡ cond (is_eq (nat_cmp p q)) true old
     → new ≡ list_any (λ (y : ItemLine). is_place q (place_at calls y.caller)) (take (i + 1) items)

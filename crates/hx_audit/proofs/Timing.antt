@@ -1,5 +1,6 @@
 -- Times of calls: what the account says of them, and the last begin above an item.
-use Rattle.std.proofs.Common.{◌≡◌, ℕ, ◌+◌, ◌<◌, ◌≤◌, Bool, true, false, not, ◌||◌, List, ltb, length, get_or, take, Option, None, Some, refl, sym, ap, ◌∙◌, inl, inr, arith}
+use Rattle.std.proofs.Common.{◌≡◌, ℕ, ◌+◌, ◌<◌, ◌≤◌, Bool, true, false, not, ◌||◌, List, ltb, length, get_or, take}
+use Rattle.std.proofs.Common.{Option, None, Some, refl, sym, ap, ◌∙◌, inl, inr, arith}
 use Rattle.std.specs.List.{list_any}
 use Rattle.std.specs.Option.{option_map}
 use Rattle.std.proofs.lemmas.Bool.{cases_lt, cond-true, cond-false, false_from_ne_true, false≢true, le-ltb, lt-ltb, ltb-true}
@@ -23,7 +24,8 @@ began (Some m) n = refl
 pub began_is : (b : Block) (c : Caller) (n : ℕ) → began_before (account_of b) c n ≡ is_late (begin_at b c) (Some n)
 began_is b c n = began (begin_at b c) n
 
-ended : (o : Option CallLine) (n : ℕ) → when_some (when_some o None end_told) false (λ (e : CallEnd). ltb e.entry n) ≡ is_late (when_some o None time_of_end) (Some n)
+ended : (o : Option CallLine) (n : ℕ) → when_some (when_some o None end_told) false (λ (e : CallEnd). ltb e.entry n)
+    ≡ is_late (when_some o None time_of_end) (Some n)
 ended None n = refl
 ended (Some l) n = by (end_told l)
   where
@@ -36,7 +38,8 @@ pub ended_is : (b : Block) (c : Caller) (n : ℕ) → ended_before (account_of b
 ended_is b c n = ended (call_at b.calls c) n
 
 -- the same of the call itself, where it is at hand
-pub ended_by : (b : Block) (c : Caller) (n : ℕ) (o : Option CallLine) → o ≡ call_at b.calls c → is_late (when_some o None time_of_end) (Some n) ≡ ended_before (account_of b) c n
+pub ended_by : (b : Block) (c : Caller) (n : ℕ) (o : Option CallLine) → o ≡ call_at b.calls c
+    → is_late (when_some o None time_of_end) (Some n) ≡ ended_before (account_of b) c n
 ended_by b c n o e = ap (λ (o : Option CallLine). is_late (when_some o None time_of_end) (Some n)) e ∙ sym (ended_is b c n)
 
 -- what ended before the later of two times ended before one of them
@@ -55,7 +58,8 @@ late_later (Some e) (Some m) (Some n) = elim (cases_lt m n) [
 
     lower : n ≤ m → (b : Bool) → ltb e m ≡ b → ltb e m ≡ (ltb e m || ltb e n)
     lower l true q = q ∙ sym (ap (λ b. b || ltb e n) q)
-    lower l false q = q ∙ sym (ap (λ b. b || ltb e n) q ∙ false_from_ne_true (ltb e n) (λ t. false≢true (sym q ∙ lt-ltb e m (let p = ltb-true e n t in omega (arith, p, l)))))
+    lower l false q = q ∙ sym (ap (λ b. b || ltb e n) q
+        ∙ false_from_ne_true (ltb e n) (λ t. false≢true (sym q ∙ lt-ltb e m (let p = ltb-true e n t in omega (arith, p, l)))))
 
 -- one call ended before another began, by their times
 ended_began : (b : Block) (x y : Caller) → ended_before_begin (account_of b) x y ≡ is_late (end_at b x) (begin_at b y)
@@ -75,7 +79,8 @@ in_time_is b above x latest h =
     ap not ((λ i. list_any (λ (y : ItemLine). ended_began b x.caller y.caller i) above) ∙ sym (h (end_at b x.caller)))
 
 -- one more begin
-pub later_step : (b : Block) (items : List ItemLine) (i : ℕ) (x : ItemLine) → i < length items → x ≡ get_or items i x → (latest begin new : Option ℕ) (end : Option ℕ)
+pub later_step : (b : Block) (items : List ItemLine) (i : ℕ) (x : ItemLine) → i < length items → x ≡ get_or items i x
+    → (latest begin new : Option ℕ) (end : Option ℕ)
     → begin ≡ begin_at b x.caller → new ≡ later latest begin
     → is_late end latest ≡ list_any (λ (y : ItemLine). is_late end (begin_at b y.caller)) (take i items)
     → is_late end new ≡ list_any (λ (y : ItemLine). is_late end (begin_at b y.caller)) (take (i + 1) items)

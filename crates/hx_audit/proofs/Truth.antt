@@ -19,7 +19,8 @@ abbrev TrueIn : Block → FinishedSearch → List Row → ℕ → Type 0
 TrueIn b s rows place = IfSome (slice_get rows place) (IsRowOf (account_of b) s (row_above rows place))
 
 -- what is said of a search's rows is said of its call
-pub rows_told_true : (b : Block) (l : CallLine) (s : FinishedSearch) (rows : List Row) (r : Option ℕ) → search_told l ≡ Some s → rows ≡ s.rows → IsFirstNot (TrueIn b s rows) r → IsFirstNot (IsTrueAt b l) r
+pub rows_told_true : (b : Block) (l : CallLine) (s : FinishedSearch) (rows : List Row) (r : Option ℕ)
+    → search_told l ≡ Some s → rows ≡ s.rows → IsFirstNot (TrueIn b s rows) r → IsFirstNot (IsTrueAt b l) r
 rows_told_true b l s rows r e q f = by r (subst (λ (ys : List Row). IsFirstNot (TrueIn b s ys) r) q f)
   where
     told : (place : ℕ) → TrueIn b s s.rows place → IsTrueAt b l place

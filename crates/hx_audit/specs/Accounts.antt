@@ -1,4 +1,5 @@
--- Linear histories and searches that are whole and true, said of any account of calls and histories, as the model says them of a run; histories stand newest first.
+-- Linear histories and searches that are whole and true, said of any account of calls and
+-- histories, as the model says them of a run; histories stand newest first.
 use Rattle.std.specs.Prelude.{◌≡◌, ◌≢◌, ℕ, Bool, true, false, not, ◌&&◌, List, [], ◌∷◌, map, if◌then◌else◌, nat_lt, IsSome, ⊤, Option, None, Some}
 use Rattle.std.specs.List.{list_any}
 use Rattle.hx_model.specs.Types.{Answer, Caller, Item, Op, Row, Space, Version}
@@ -53,12 +54,18 @@ pub record IsAnsweredBy (account : Account) (key : List ℕ) (c : Caller) (answe
   pub ended : account.end_of c ≡ Some (record { entry = entry; version = version; answer = answer })
   pub not_refused : is_refused answer ≡ false
 
--- the history is legal, has each answered call once with its answer, holds nothing but begun calls, each at most once, and keeps the order of calls that ended before others began: linearizability of one object. An account may tell that a call ended before it began, so the order is one of different calls
+-- the history is legal, has each answered call once with its answer, holds nothing but begun calls,
+-- each at most once, and keeps the order of calls that ended before others began: linearizability
+-- of one object. An account may tell that a call ended before it began, so the order is one of
+-- different calls
 pub record IsLinearBy (account : Account) (space : Space) (key : List ℕ) : Type 0 where
   pub legal : IsLegal space (account.history_of key)
-  pub answered_once : (c : Caller) (answer : Answer) → IsAnsweredBy account key c answer → (x : Item) × IsIn x (account.history_of key) × (x.caller ≡ c) × (x.answer ≡ answer)
+  pub answered_once : (c : Caller) (answer : Answer) → IsAnsweredBy account key c answer → (x : Item)
+      × IsIn x (account.history_of key) × (x.caller ≡ c) × (x.answer ≡ answer)
   pub honest : IsHonestBy account key
-  pub in_order : (x y : Item) (n : ℕ) → IsIn x (account.history_of key) → IsIn y (account.history_of key) → x.caller ≢ y.caller → account.begin_of y.caller ≡ Some n → ended_before account x.caller n ≡ true → StandsBefore x y (account.history_of key)
+  pub in_order : (x y : Item) (n : ℕ) → IsIn x (account.history_of key) → IsIn y (account.history_of key)
+      → x.caller ≢ y.caller → account.begin_of y.caller ≡ Some n → ended_before account x.caller n ≡ true
+      → StandsBefore x y (account.history_of key)
 
 -- the last changing item whose call began before a time
 abbrev pub last_change : Account → ℕ → List Item → List Item → Option ItemWithNewer

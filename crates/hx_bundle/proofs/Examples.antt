@@ -91,10 +91,16 @@ two_spaces = record {
     All-from_recursion (AreAlike books) both.spaces (record { servers = refl; tolerate = refl }, (record { servers = refl; tolerate = refl }, tt)),
     (All-from_recursion (AreAlike people) both.spaces (record { servers = refl; tolerate = refl }, (record { servers = refl; tolerate = refl }, tt)), tt),
   );
-  names_differ = (All-from_recursion (λ (m : List ℕ). m ≡ codes "books" → ⊥) (codes "people" ∷ []) ((λ e. absurd cc), tt), (All-from_recursion (λ (m : List ℕ). m ≡ codes "people" → ⊥) [] tt, tt));
+  names_differ = (
+    All-from_recursion (λ (m : List ℕ). m ≡ codes "books" → ⊥) (codes "people" ∷ [])
+        ((λ e. absurd cc), tt),
+    (All-from_recursion (λ (m : List ℕ). m ≡ codes "people" → ⊥) [] tt, tt),
+  );
   dealt = dealt_out;
-  turns = All-from_recursion (λ (spaces : List ℕ). All (λ (k : ℕ). k < 2) spaces) both.turns
-      (All-from_recursion (λ (k : ℕ). k < 2) (0 ∷ 1 ∷ 0 ∷ []) (omega arith, (omega arith, (omega arith, tt))), (All-from_recursion (λ (k : ℕ). k < 2) (1 ∷ []) (omega arith, tt), tt));
+  turns = All-from_recursion (λ (spaces : List ℕ). All (λ (k : ℕ). k < 2) spaces) both.turns (
+    All-from_recursion (λ (k : ℕ). k < 2) (0 ∷ 1 ∷ 0 ∷ []) (omega arith, (omega arith, (omega arith, tt))),
+    (All-from_recursion (λ (k : ℕ). k < 2) (1 ∷ []) (omega arith, tt), tt),
+  );
   few_calls = omega arith;
   few_steps = omega arith;
   steps = All-from_recursion (IsStepIn both.spaces) both.steps ((omega arith, omega arith), ((omega arith, omega arith), tt));

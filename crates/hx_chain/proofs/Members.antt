@@ -5,7 +5,8 @@ use Rattle.std.specs.Option.{option_map}
 use Rattle.hx_model.specs.Types.{Member, ServerId}
 use Rattle.hx_model.specs.Neighbours.{last_member}
 
-last_of : (found : Option ServerId) (m : Member) (rest : List Member) → option_map (λ (x : Member). x.server) (slice_get (m ∷ rest) (length rest)) ≡ last_member found (m ∷ rest)
+last_of : (found : Option ServerId) (m : Member) (rest : List Member)
+    → option_map (λ (x : Member). x.server) (slice_get (m ∷ rest) (length rest)) ≡ last_member found (m ∷ rest)
 last_of found m [] = refl
 last_of found m (n ∷ rest) = last_of (Some m.server) n rest
 

@@ -11,7 +11,9 @@ use Rattle.hx_chain.specs.Crossing.{crossed, place_for, places_in}
 
 -- those in one subspace, by the regions of the objects
 places_crossed : (space : Space) (key : List ℕ) (touches : List Touch) (s : ℕ) (old new : Option (List Value))
-    → map (place_for (option_map (place_of space s key) new) touches) (crossed (option_map (place_of space s key) old) (option_map (place_of space s key) new)) ≡ places_in space key old new touches s
+    → map (place_for (option_map (place_of space s key) new) touches)
+    (crossed (option_map (place_of space s key) old) (option_map (place_of space s key) new))
+    ≡ places_in space key old new touches s
 places_crossed space key touches s None None = refl
 places_crossed space key touches s None (Some new) = refl
 places_crossed space key touches s (Some old) None = refl
@@ -23,7 +25,8 @@ module _ (space : Space) (key : List ℕ) (old new : Option (List Value)) (touch
   places_before s = flat_map (places_in space key old new touches) (map (λ n. n + 1) (below (s - 1)))
 
   -- one subspace more
-  pub places_next : (others : List Place) (s : ℕ) (before after : Option RegionId) → 1 ≤ s → before ≡ option_map (place_of space s key) old → after ≡ option_map (place_of space s key) new
+  pub places_next : (others : List Place) (s : ℕ) (before after : Option RegionId) → 1 ≤ s
+      → before ≡ option_map (place_of space s key) old → after ≡ option_map (place_of space s key) new
       → others ++ places_before s ++ map (place_for after touches) (crossed before after) ≡ others ++ places_before (s + 1)
   places_next others s before after l p q =
       let here = places_in space key old new touches in

@@ -1,10 +1,14 @@
 -- All parts together have the history and nothing else.
-use Rattle.std.proofs.Common.{◌≡◌, ◌≢◌, ℕ, zero, suc, ◌+◌, ◌<◌, ◌≤◌, inl, inr, ⊎_elim, Bool, true, false, cond, eqb, List, [], ◌∷◌, ◌++◌, map, length, Some, slice_get, refl, ap, sym, subst, ◌∙◌, arith, add-zero, zero-add, get_or}
+use Rattle.std.proofs.Common.{◌≡◌, ◌≢◌, ℕ, zero, suc, ◌+◌, ◌<◌, ◌≤◌, inl, inr, ⊎_elim, Bool, true, false, cond, eqb}
+use Rattle.std.proofs.Common.{List, [], ◌∷◌, ◌++◌, map, length, Some, slice_get, refl, ap, sym, subst, ◌∙◌, arith}
+use Rattle.std.proofs.Common.{add-zero, zero-add, get_or}
 use Rattle.std.specs.Prelude.{flat_map, IsPermutation, slice_index}
 use Rattle.std.specs.List.{AllByRecursion, Contains, IsDistinct}
 use Rattle.std.specs.List.Sorted.{IsStrictlyIncreasing}
 use Rattle.std.proofs.lemmas.Bool.Decides.{eqb_tells, nat_tests}
-use Rattle.std.proofs.lemmas.List.Sorted.{IsPermutation-refl, IsPermutation-trans, IsPermutation-sym, IsPermutation-middle, IsPermutation-append_right, IsPermutation-cons, IsPermutation-map, length_permutation, Contains-permutation}
+use Rattle.std.proofs.lemmas.List.Sorted.{IsPermutation-refl, IsPermutation-trans, IsPermutation-sym}
+use Rattle.std.proofs.lemmas.List.Sorted.{IsPermutation-middle, IsPermutation-append_right, IsPermutation-cons}
+use Rattle.std.proofs.lemmas.List.Sorted.{IsPermutation-map, length_permutation, Contains-permutation}
 use Rattle.std.proofs.lemmas.Map.Keys.{IsDistinct-IsPermutation}
 use Rattle.std.proofs.Math.Logic.{∥∥₁_map}
 use Rattle.hx_types.specs.declared.traces.Entry.{Entry}
@@ -24,7 +28,8 @@ abbrev pub history_from : ℕ → List Event → List Stamped
 history_from n [] = []
 history_from n (t ∷ ts) = stamped n t.entry ∷ history_from (suc n) ts
 
-plus-other : (b : ℕ) (s : Stamped) (R : ℕ → List Stamped) (ps : List NumberedPart) → times b ps ≡ 0 → flat_map (λ p. cond (eqb p.number b) (s ∷ R p.number) (R p.number)) ps ≡ flat_map (λ p. R p.number) ps
+plus-other : (b : ℕ) (s : Stamped) (R : ℕ → List Stamped) (ps : List NumberedPart) → times b ps ≡ 0
+    → flat_map (λ p. cond (eqb p.number b) (s ∷ R p.number) (R p.number)) ps ≡ flat_map (λ p. R p.number) ps
 plus-other b s R [] e = refl
 plus-other b s R (p ∷ ps) e =
     ⊎_elim
@@ -34,14 +39,17 @@ plus-other b s R (p ∷ ps) e =
     ∙ ap (λ w. R p.number ++ w) (plus-other b s R ps (omega arith)))
     (eqb_tells p.number b)
 
-plus-own : (b : ℕ) (s : Stamped) (R : ℕ → List Stamped) (ps : List NumberedPart) → times b ps ≡ 1 → IsPermutation (s ∷ flat_map (λ p. R p.number) ps) (flat_map (λ p. cond (eqb p.number b) (s ∷ R p.number) (R p.number)) ps)
+plus-own : (b : ℕ) (s : Stamped) (R : ℕ → List Stamped) (ps : List NumberedPart) → times b ps ≡ 1
+    → IsPermutation (s ∷ flat_map (λ p. R p.number) ps) (flat_map (λ p. cond (eqb p.number b) (s ∷ R p.number) (R p.number)) ps)
 plus-own b s R [] e = absurd (omega arith)
 plus-own b s R (p ∷ ps) e =
-    let P : Bool → Type 0 = λ c. IsPermutation (s ∷ (R p.number ++ flat_map (λ p. R p.number) ps)) (cond c (s ∷ R p.number) (R p.number) ++ flat_map (λ p. cond (eqb p.number b) (s ∷ R p.number) (R p.number)) ps) in
+    let P : Bool → Type 0 = λ c. IsPermutation (s ∷ (R p.number ++ flat_map (λ p. R p.number) ps))
+    (cond c (s ∷ R p.number) (R p.number) ++ flat_map (λ p. cond (eqb p.number b) (s ∷ R p.number) (R p.number)) ps) in
     ⊎_elim
     (λ (h : (eqb p.number b ≡ true) × (p.number ≡ b)).
     let o = one-same b p.number (sym h.1) in
-    subst P (sym h.0) (subst (λ w. IsPermutation (s ∷ (R p.number ++ flat_map (λ p. R p.number) ps)) (s ∷ (R p.number ++ w))) (sym (plus-other b s R ps (omega arith))) (IsPermutation-refl _)))
+    subst P (sym h.0) (subst (λ w. IsPermutation (s ∷ (R p.number ++ flat_map (λ p. R p.number) ps))
+    (s ∷ (R p.number ++ w))) (sym (plus-other b s R ps (omega arith))) (IsPermutation-refl _)))
     (λ (h : (eqb p.number b ≡ false) × (p.number ≢ b)).
     let z : one (eqb b p.number) ≡ 0 = grind (arith, nat_tests) in
     subst P (sym h.0)
@@ -55,14 +63,19 @@ no-parts-from n [] = refl
 no-parts-from n (p ∷ ps) = no-parts-from n ps
 
 -- the parts have the history and nothing else
-all_parts : (n : ℕ) (history : List Event) (ps : List NumberedPart) → AllByRecursion (λ t. times t.by ps ≡ 1) history → IsPermutation (history_from n history) (flat_map (λ p. part_from p.number n history) ps)
+all_parts : (n : ℕ) (history : List Event) (ps : List NumberedPart) → AllByRecursion (λ t. times t.by ps ≡ 1) history
+    → IsPermutation (history_from n history) (flat_map (λ p. part_from p.number n history) ps)
 all_parts n [] ps h = subst (IsPermutation []) (sym (no-parts-from n ps)) (IsPermutation-refl [])
 all_parts n (t ∷ ts) ps h =
-    IsPermutation-trans _ _ _ (IsPermutation-cons (stamped n t.entry) _ _ (all_parts (suc n) ts ps h.1)) (plus-own t.by (stamped n t.entry) (λ k. part_from k (suc n) ts) ps h.0)
+    IsPermutation-trans _ _ _ (IsPermutation-cons (stamped n t.entry) _ _ (all_parts (suc n) ts ps h.1))
+    (plus-own t.by (stamped n t.entry) (λ k. part_from k (suc n) ts) ps h.0)
 
-same_parts : (history : List Event) (ps : List NumberedPart) → AllByRecursion (λ p. p.entries ≡ part_in p.number history) ps → flat_map (λ part. part) (map (λ (p : NumberedPart). p.entries) ps) ≡ flat_map (λ p. part_in p.number history) ps
+same_parts : (history : List Event) (ps : List NumberedPart)
+    → AllByRecursion (λ p. p.entries ≡ part_in p.number history) ps
+    → flat_map (λ part. part) (map (λ (p : NumberedPart). p.entries) ps) ≡ flat_map (λ p. part_in p.number history) ps
 same_parts history [] h = refl
-same_parts history (p ∷ ps) h = ap (λ w. w ++ flat_map (λ part. part) (map (λ (p : NumberedPart). p.entries) ps)) h.0 ∙ ap (λ w. part_in p.number history ++ w) (same_parts history ps h.1)
+same_parts history (p ∷ ps) h = ap (λ w. w ++ flat_map (λ part. part) (map (λ (p : NumberedPart). p.entries) ps)) h.0
+    ∙ ap (λ w. part_in p.number history ++ w) (same_parts history ps h.1)
 
 contains_in : {A : Type 0} (xs : List A) (x : A) (k : ℕ) → k < length xs → get_or xs k x ≡ x → IsIn x xs
 contains_in [] x k h e = absurd (omega arith)
@@ -78,7 +91,8 @@ in_permutation xs ys x p h = let c = Contains-permutation xs ys x p (in_contains
 
 history_in : (n m : ℕ) (history : List Event) (t : Event) → slice_get history m ≡ Some t → IsIn (stamped (n + m) t.entry) (history_from n history)
 history_in n m [] t e = absurd cc
-history_in n zero (u ∷ history) t e = let same : u ≡ t = cc in inl (sym (ap (λ k. stamped k u.entry) (sym (add-zero n)) ∙ ap (λ (w : Event). stamped (n + 0) w.entry) same))
+history_in n zero (u ∷ history) t e = let same : u ≡ t = cc in
+    inl (sym (ap (λ k. stamped k u.entry) (sym (add-zero n)) ∙ ap (λ (w : Event). stamped (n + 0) w.entry) same))
 history_in n (suc m) (u ∷ history) t e =
     let is : suc n + m ≡ n + suc m = omega arith in
     inr (subst (λ k. IsIn (stamped k t.entry) (history_from (suc n) history)) is (history_in (suc n) m history t e))
@@ -151,18 +165,26 @@ stamps-from : (n : ℕ) (history : List Event) → stamps_of (history_from n his
 stamps-from n [] = refl
 stamps-from n (t ∷ ts) = ap (λ xs. n ∷ xs) (stamps-from (suc n) ts)
 
-ascending : (history : List Event) (ps : List NumberedPart) → AllByRecursion (λ p. p.entries ≡ part_in p.number history) ps → AllByRecursion (λ part. IsStrictlyIncreasing (stamps_of part)) (map (λ (p : NumberedPart). p.entries) ps)
+ascending : (history : List Event) (ps : List NumberedPart)
+    → AllByRecursion (λ p. p.entries ≡ part_in p.number history) ps
+    → AllByRecursion (λ part. IsStrictlyIncreasing (stamps_of part)) (map (λ (p : NumberedPart). p.entries) ps)
 ascending history [] h = tt
-ascending history (p ∷ ps) h = (subst (λ part. IsStrictlyIncreasing (stamps_of part)) (sym h.0) (rising 0 _ (part-above p.number 0 history)), ascending history ps h.1)
+ascending history (p ∷ ps) h = (
+  subst (λ part. IsStrictlyIncreasing (stamps_of part)) (sym h.0)
+      (rising 0 _ (part-above p.number 0 history)),
+  ascending history ps h.1,
+)
 
-under : (history : List Event) (xs : List Stamped) → IsPermutation (history_from 0 history) xs → (n : ℕ) (id : PostId) (p : Post) → IsPostedIn history n id p → IsPostedBefore xs n id p
+under : (history : List Event) (xs : List Stamped) → IsPermutation (history_from 0 history) xs
+    → (n : ℕ) (id : PostId) (p : Post) → IsPostedIn history n id p → IsPostedBefore xs n id p
 under history xs perm n id p h =
     ∥∥₁_map h
     (λ (y : (m : ℕ) × (t : Event) × (m < n) × (slice_get history m ≡ Some t) × Posted (stamped m t.entry) id p).
     let at : IsIn (stamped (0 + y.0) y.1.entry) (history_from 0 history) = history_in 0 y.0 history y.1 y.3 in
     (stamped y.0 y.1.entry, in_permutation _ xs _ perm (subst (λ k. IsIn (stamped k y.1.entry) (history_from 0 history)) (zero-add y.0) at), y.2, y.4))
 
-caused_parts : (history : List Event) (xs : List Stamped) → IsCausalHistory history → IsPermutation (history_from 0 history) xs → AllByRecursion (λ x. DeliveryMeets (IsPostedBefore xs x.stamp.0) x.entry) xs
+caused_parts : (history : List Event) (xs : List Stamped) → IsCausalHistory history
+    → IsPermutation (history_from 0 history) xs → AllByRecursion (λ x. DeliveryMeets (IsPostedBefore xs x.stamp.0) x.entry) xs
 caused_parts history xs caused perm =
     each_all _ xs
     (λ x i.
@@ -173,7 +195,8 @@ caused_parts history xs caused perm =
 -- parts that are whole, and among them each number once
 module _ (history : List Event) (actors : ℕ) (ps : List NumberedPart) where
   abbrev pub AreWhole : Type 0
-  AreWhole = AllByRecursion (λ p. p.entries ≡ part_in p.number history) ps × AllByRecursion (λ e. e.by < actors) history × ((k : ℕ) → k < actors → times k ps ≡ 1)
+  AreWhole = AllByRecursion (λ p. p.entries ≡ part_in p.number history) ps
+      × AllByRecursion (λ e. e.by < actors) history × ((k : ℕ) → k < actors → times k ps ≡ 1)
 
   pub whole-history : AreWhole → IsPermutation (history_from 0 history) (all_of (map (λ p. p.entries) ps))
   whole-history h =

@@ -55,7 +55,8 @@ module _ (p p2 n n2 : ℕ) (new : PartHead) (at-posts : new.posts ≡ p) (at-not
   notes_next [] = at-notes
   notes_next (h ∷ hs) = refl
 
-  head_stays : (d d2 : ℕ) (h : PartHead) (hs : List PartHead) → p ≤ p2 → n ≤ n2 → d ≤ d2 → IsHeadIn p n d h (slice_get hs 0) → IsHeadIn p2 n2 d2 h (slice_get (hs ++ new ∷ []) 0)
+  head_stays : (d d2 : ℕ) (h : PartHead) (hs : List PartHead) → p ≤ p2 → n ≤ n2 → d ≤ d2
+      → IsHeadIn p n d h (slice_get hs 0) → IsHeadIn p2 n2 d2 h (slice_get (hs ++ new ∷ []) 0)
   head_stays d d2 h hs lp ln ld w =
       let ps = posts_next hs in
       let ns = notes_next hs in
@@ -69,12 +70,19 @@ module _ (p p2 n n2 : ℕ) (new : PartHead) (at-posts : new.posts ≡ p) (at-not
 
   heads_stay : (d d2 : ℕ) (hs : List PartHead) → p ≤ p2 → n ≤ n2 → d ≤ d2 → IsInputIn d2 new.input → AreHeadsIn p n d hs → AreHeadsIn p2 n2 d2 (hs ++ new ∷ [])
   heads_stay d d2 [] lp ln ld i w = (
-    record { input = i; posts_order = omega (arith, at-posts, lp); posts_within = omega arith; notes_order = omega (arith, at-notes, ln); notes_within = omega arith },
+    record {
+      input = i;
+      posts_order = omega (arith, at-posts, lp);
+      posts_within = omega arith;
+      notes_order = omega (arith, at-notes, ln);
+      notes_within = omega arith;
+    },
     tt,
   )
   heads_stay d d2 (h ∷ hs) lp ln ld i w = (head_stays d d2 h hs lp ln ld w.0, heads_stay d d2 hs lp ln ld i w.1)
 
-module _ (posts ps : List Post) (notes ns : List Note) (ds es : List Input) (new : PartHead) (at-posts : new.posts ≡ length posts) (at-notes : new.notes ≡ length notes) where
+module _ (posts ps : List Post) (notes ns : List Note) (ds es : List Input) (new : PartHead)
+    (at-posts : new.posts ≡ length posts) (at-notes : new.notes ≡ length notes) where
   entry_stays : (h : PartHead) (hs : List PartHead) → IsHeadIn (length posts) (length notes) (length ds) h (slice_get hs 0)
       → entry_by (posts ++ ps) (notes ++ ns) (ds ++ es) h (slice_get (hs ++ new ∷ []) 0) ≡ entry_by posts notes ds h (slice_get hs 0)
   entry_stays h hs w =
@@ -89,7 +97,8 @@ module _ (posts ps : List Post) (notes ns : List Note) (ds es : List Input) (new
       ) refl
 
   entries_stay : (hs : List PartHead) → AreHeadsIn (length posts) (length notes) (length ds) hs
-      → entries_by (posts ++ ps) (notes ++ ns) (ds ++ es) (hs ++ new ∷ []) ≡ entries_by posts notes ds hs ++ entry_by (posts ++ ps) (notes ++ ns) (ds ++ es) new None ∷ []
+      → entries_by (posts ++ ps) (notes ++ ns) (ds ++ es) (hs ++ new ∷ []) ≡ entries_by posts notes ds hs
+      ++ entry_by (posts ++ ps) (notes ++ ns) (ds ++ es) new None ∷ []
   entries_stay [] w = refl
   entries_stay (h ∷ hs) w = let here = entry_stays h hs w.0 in let rest = entries_stay hs w.1 in (λ i. here i ∷ rest i)
 
@@ -98,11 +107,13 @@ module _ (posts ps : List Post) (notes ns : List Note) (ds es : List Input) (new
   last_entry input is = rw (at-posts, at-notes, range_end posts ps, range_end notes ns, is) refl
 
 -- one head more, whose posts and notes stand at the end
-pub record IsFiled (posts : List Post) (notes : List Note) (ds : List Input) (hs : List PartHead) (p2 : List Post) (n2 : List Note) (d2 : List Input) (h2 : List PartHead) (x : Stamped) : Type 0 where
+pub record IsFiled (posts : List Post) (notes : List Note) (ds : List Input) (hs : List PartHead) (p2 : List Post)
+    (n2 : List Note) (d2 : List Input) (h2 : List PartHead) (x : Stamped) : Type 0 where
   pub whole : AreHeadsIn (length p2) (length n2) (length d2) h2
   pub entries : entries_by p2 n2 d2 h2 ≡ entries_by posts notes ds hs ++ x ∷ []
 
-pub filed : (posts ps : List Post) (notes ns : List Note) (ds : List Input) (hs : List PartHead) (p2 : List Post) (n2 : List Note) (d2 : List Input) (h2 : List PartHead) (new : PartHead) (input : Input)
+pub filed : (posts ps : List Post) (notes ns : List Note) (ds : List Input) (hs : List PartHead) (p2 : List Post)
+    (n2 : List Note) (d2 : List Input) (h2 : List PartHead) (new : PartHead) (input : Input)
     → AreHeadsIn (length posts) (length notes) (length ds) hs → p2 ≡ posts ++ ps → n2 ≡ notes ++ ns → d2 ≡ ds ++ deliveries_in input → h2 ≡ hs ++ new ∷ []
     → new.posts ≡ length posts → new.notes ≡ length notes → IsInputIn (length d2) new.input → input_by d2 new.input ≡ input
     → IsFiled posts notes ds hs p2 n2 d2 h2 (stamped new.stamp.0 (record { actor = new.actor; input = input; outputs = ps; notes = ns }))
@@ -114,7 +125,8 @@ filed posts ps notes ns ds hs p2 n2 d2 h2 new input w ep en ed eh ap-posts ap-no
     let is2 : input_by (ds ++ es) new.input ≡ input = subst (λ d. input_by d new.input ≡ input) ed is in
     record {
       whole = subst (AreHeadsIn (length p2) (length n2) (length d2)) (sym eh)
-          (heads_stay (length posts) (length p2) (length notes) (length n2) new ap-posts ap-notes (length ds) (length d2) hs (omega (arith, lp)) (omega (arith, ln)) (omega (arith, ld)) within w);
+          (heads_stay (length posts) (length p2) (length notes) (length n2) new ap-posts ap-notes (length ds)
+          (length d2) hs (omega (arith, lp)) (omega (arith, ln)) (omega (arith, ld)) within w);
       entries = (λ i. entries_by (ep i) (en i) (ed i) (eh i)) ∙ entries_stay posts ps notes ns ds es new ap-posts ap-notes hs w
           ∙ ap (λ x. entries_by posts notes ds hs ++ x ∷ []) (last_entry posts ps notes ns ds es new ap-posts ap-notes input is2);
     }

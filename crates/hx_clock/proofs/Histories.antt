@@ -1,5 +1,7 @@
 -- The history, and the parts of its numbers.
-use Rattle.std.proofs.Common.{◌≡◌, ◌≢◌, ℕ, zero, suc, ◌+◌, ◌*◌, ◌<◌, ◌≤◌, ⊎_elim, Bool, true, false, cond, eqb, List, [], ◌∷◌, ◌++◌, length, Some, slice_get, refl, ap, sym, ◌∙◌, arith, add-zero, zero-add, eqb-true}
+use Rattle.std.proofs.Common.{◌≡◌, ◌≢◌, ℕ, zero, suc, ◌+◌, ◌*◌, ◌<◌, ◌≤◌, ⊎_elim, Bool, true, false, cond, eqb, List}
+use Rattle.std.proofs.Common.{[], ◌∷◌, ◌++◌, length, Some, slice_get, refl, ap, sym, ◌∙◌, arith, add-zero, zero-add}
+use Rattle.std.proofs.Common.{eqb-true}
 use Rattle.std.proofs.lemmas.Bool.{ltb-true}
 use Rattle.std.proofs.lemmas.Bool.Decides.{eqb_tells}
 use Rattle.std.specs.Prelude.{nat_lt}
@@ -65,7 +67,8 @@ sums-parts n i (t ∷ ts) h =
     ∙ sums-add n (λ k. one (eqb k t.by)) (λ k. length (part_from k (suc i) ts))
     ∙ omega (arith, sums-one n t.by h.0, sums-parts n (suc i) ts h.1)
 
-pub history-most : (n c : ℕ) (history : List Event) → AllByRecursion (λ t. t.by < n) history → ((k : ℕ) → length (part_in k history) ≤ c) → length history ≤ n * c
+pub history-most : (n c : ℕ) (history : List Event) → AllByRecursion (λ t. t.by < n) history
+    → ((k : ℕ) → length (part_in k history) ≤ c) → length history ≤ n * c
 history-most n c history h m = omega (arith, sums-parts n 0 history h, sums-most n c (λ k. length (part_in k history)) m)
 
 snoc-case : (b : Bool) (s : Stamped) (R S c : List Stamped) → R ≡ S ++ c → cond b (s ∷ R) R ≡ cond b (s ∷ S) S ++ c
@@ -84,10 +87,13 @@ pub part-snoc : (k : ℕ) (history : List Event) (t : Event) → part_in k (hist
 part-snoc k history t = part_from-snoc k 0 history t ∙ ap (λ m. part_in k history ++ added k m t) (zero-add (length history))
 
 pub added-own : (n : ℕ) (t : Event) → added t.by n t ≡ stamped n t.entry ∷ []
-added-own n t = ⊎_elim (λ (h : (eqb t.by t.by ≡ true) × (t.by ≡ t.by)). ap (λ b. cond b (stamped n t.entry ∷ []) []) h.0) (λ (h : (eqb t.by t.by ≡ false) × (t.by ≢ t.by)). absurd (h.1 refl)) (eqb_tells t.by t.by)
+added-own n t = ⊎_elim (λ (h : (eqb t.by t.by ≡ true) × (t.by ≡ t.by)). ap
+    (λ b. cond b (stamped n t.entry ∷ []) []) h.0)
+    (λ (h : (eqb t.by t.by ≡ false) × (t.by ≢ t.by)). absurd (h.1 refl)) (eqb_tells t.by t.by)
 
 pub added-other : (k n : ℕ) (t : Event) → k ≢ t.by → added k n t ≡ []
-added-other k n t d = ⊎_elim (λ (h : (eqb k t.by ≡ true) × (k ≡ t.by)). absurd (d h.1)) (λ (h : (eqb k t.by ≡ false) × (k ≢ t.by)). ap (λ b. cond b (stamped n t.entry ∷ []) []) h.0) (eqb_tells k t.by)
+added-other k n t d = ⊎_elim (λ (h : (eqb k t.by ≡ true) × (k ≡ t.by)). absurd (d h.1))
+    (λ (h : (eqb k t.by ≡ false) × (k ≢ t.by)). ap (λ b. cond b (stamped n t.entry ∷ []) []) h.0) (eqb_tells k t.by)
 
 -- where an entry of a part stands in the history
 abbrev pub Stands : ℕ → ℕ → List Event → Stamped → Type 0
@@ -96,10 +102,17 @@ Stands k n history x = (m : ℕ) × (t : Event) × (slice_get history m ≡ Some
 later : (k n : ℕ) (u : Event) (history : List Event) (x : Stamped) → Stands k (suc n) history x → Stands k n (u ∷ history) x
 later k n u history x h = let e : suc n + h.0 ≡ n + suc h.0 = omega arith in (suc h.0, h.1, h.2, h.3 ∙ ap (λ m. stamped m h.1.entry) e, h.4)
 
-stands-case : (b : Bool) (k n : ℕ) (u : Event) (history : List Event) (x : Stamped) → eqb k u.by ≡ b → (IsIn x (part_from k (suc n) history) → Stands k (suc n) history x)
+stands-case : (b : Bool) (k n : ℕ) (u : Event) (history : List Event) (x : Stamped) → eqb k u.by ≡ b
+    → (IsIn x (part_from k (suc n) history) → Stands k (suc n) history x)
     → IsIn x (cond b (stamped n u.entry ∷ part_from k (suc n) history) (part_from k (suc n) history)) → Stands k n (u ∷ history) x
 stands-case true k n u history x e rest h =
-    ⊎_elim (λ (y : x ≡ stamped n u.entry). (0, u, refl, y ∙ ap (λ m. stamped m u.entry) (sym (add-zero n)), eqb-true k u.by e)) (λ r. later k n u history x (rest r)) h
+    ⊎_elim (λ (y : x ≡ stamped n u.entry). (
+      0,
+      u,
+      refl,
+      y ∙ ap (λ m. stamped m u.entry) (sym (add-zero n)),
+      eqb-true k u.by e,
+    )) (λ r. later k n u history x (rest r)) h
 stands-case false k n u history x e rest h = later k n u history x (rest h)
 
 pub stands : (k n : ℕ) (history : List Event) (x : Stamped) → IsIn x (part_from k n history) → Stands k n history x
@@ -136,7 +149,8 @@ one-le true = omega arith
 one-le false = omega arith
 
 -- what is known of the post that is delivered follows from what implies it
-inputs-more : (actor : Actor) (input : Input) (P Q : PostId → Post → Type 0) → ((id : PostId) (p : Post) → P id p → Q id p) → InputMeets P actor input → InputMeets Q actor input
+inputs-more : (actor : Actor) (input : Input) (P Q : PostId → Post → Type 0)
+    → ((id : PostId) (p : Post) → P id p → Q id p) → InputMeets P actor input → InputMeets Q actor input
 inputs-more actor Tick P Q f h = tt
 inputs-more actor Halt P Q f h = tt
 inputs-more actor (Deliver id from message) P Q f h = f id (post from actor message) h

@@ -1,5 +1,6 @@
 -- What is known stays known.
-use Rattle.std.proofs.Common.{ℕ, refl, append-nil, ◌≡◌, ◌∙◌, ◌⊎◌, inl, inr, ⊎_elim, List, [], ◌∷◌, ◌++◌, length, ◌<◌, ◌≤◌, nat_lt, lt-ltb, cond, true, false, eqb, sym, ap, subst, arith}
+use Rattle.std.proofs.Common.{ℕ, refl, append-nil, ◌≡◌, ◌∙◌, ◌⊎◌, inl, inr, ⊎_elim, List, [], ◌∷◌, ◌++◌, length, ◌<◌}
+use Rattle.std.proofs.Common.{◌≤◌, nat_lt, lt-ltb, cond, true, false, eqb, sym, ap, subst, arith}
 use Rattle.std.proofs.Math.Logic.{∥∥₁_map}
 use Rattle.std.proofs.lemmas.Bool.{le-ltb}
 use Rattle.std.proofs.lemmas.Bool.Decides.{leb_tells}
@@ -35,7 +36,8 @@ carried_known v x id p h made = ∣ (x, inl h, made) ∣₁
 pub handed_knows : (v m : View) (n : ℕ) → m ≡ handed_to n v → v.carried ≡ [] → (id : PostId) (p : Post) → Knows v id p → Knows m id p
 handed_knows v m n e none id p h =
     subst (λ (u : View). Knows u id p) (sym e)
-    (knows_more v (handed_to n v) (λ x k. inr (⊎_elim (λ (a : IsAmong v.carried x). absurd (subst (IsIn a.0) none a.1)) (λ (b : IsAmong v.known x). b) k)) id p h)
+    (knows_more v (handed_to n v) (λ x k. inr (⊎_elim
+    (λ (a : IsAmong v.carried x). absurd (subst (IsIn a.0) none a.1)) (λ (b : IsAmong v.known x). b) k)) id p h)
 
 pub joined_left : (v w m : View) → m ≡ joined v w → (id : PostId) (p : Post) → Knows v id p → Knows m id p
 joined_left v w m e id p h =
@@ -68,7 +70,8 @@ longer-both xs ys zs =
     ⊎_elim
     (λ (k : (nat_lt (length ys) (length zs) ≡ true) × (length ys < length zs)).
     let b = k.1 in
-    ap (longer xs) (longer-second ys zs b) ∙ longer-second xs zs (omega arith) ∙ sym (longer-second ys zs b) ∙ ap (λ w. longer w zs) (sym (longer-second xs ys a)))
+    ap (longer xs) (longer-second ys zs b) ∙ longer-second xs zs (omega arith) ∙ sym (longer-second ys zs b)
+    ∙ ap (λ w. longer w zs) (sym (longer-second xs ys a)))
     (λ (k : (nat_lt (length ys) (length zs) ≡ false) × (length zs ≤ length ys)).
     let b = k.1 in
     ap (longer xs) (longer-first ys zs b) ∙ longer-second xs ys a ∙ sym (longer-first ys zs b) ∙ ap (λ w. longer w zs) (sym (longer-second xs ys a)))
@@ -93,4 +96,5 @@ longer-none (x ∷ xs) = longer-second [] (x ∷ xs) (omega arith)
 pub known-append : (k : ℕ) (ps qs : List NumberedPart) → known_part k (ps ++ qs) ≡ longer (known_part k ps) (known_part k qs)
 known-append k [] qs = sym (longer-none (known_part k qs))
 known-append k (p ∷ ps) qs =
-    ap (longer (cond (eqb k p.number) p.entries [])) (known-append k ps qs) ∙ longer-both (cond (eqb k p.number) p.entries []) (known_part k ps) (known_part k qs)
+    ap (longer (cond (eqb k p.number) p.entries [])) (known-append k ps qs)
+    ∙ longer-both (cond (eqb k p.number) p.entries []) (known_part k ps) (known_part k qs)

@@ -1,5 +1,7 @@
 -- What the rule says of all that is carried and known.
-use Rattle.std.proofs.Common.{◌≡◌, ◌≢◌, ℕ, suc, ◌+◌, ◌<◌, ◌≤◌, ⊎_elim, Bool, true, false, cond, eqb, nat_lt, lt-ltb, List, [], ◌∷◌, ◌++◌, map, length, flat_map, refl, ap, sym, subst, ◌∙◌, arith, length-append, append-nil}
+use Rattle.std.proofs.Common.{◌≡◌, ◌≢◌, ℕ, suc, ◌+◌, ◌<◌, ◌≤◌, ⊎_elim, Bool, true, false, cond, eqb, nat_lt, lt-ltb}
+use Rattle.std.proofs.Common.{List, [], ◌∷◌, ◌++◌, map, length, flat_map, refl, ap, sym, subst, ◌∙◌, arith}
+use Rattle.std.proofs.Common.{length-append, append-nil}
 use mathlib.Core.Option.{some}
 use mathlib.Core.List.{IsPrefix}
 use lib.ListN.{get_elem?}
@@ -29,7 +31,8 @@ each_carried P (v ∷ vs) h = each_append P v.carried (flat_map (λ (v : View). 
 
 times-all : (k : ℕ) (views : List View) → times k (flat_map (λ (v : View). v.carried) views) ≡ total (λ (v : View). times k v.carried) views
 times-all k [] = refl
-times-all k (v ∷ vs) = total-append (λ p. one (eqb k p.number)) v.carried (flat_map (λ (v : View). v.carried) vs) ∙ ap (λ n. times k v.carried + n) (times-all k vs)
+times-all k (v ∷ vs) = total-append (λ p. one (eqb k p.number)) v.carried (flat_map (λ (v : View). v.carried) vs)
+    ∙ ap (λ n. times k v.carried + n) (times-all k vs)
 
 prefix-longer : (xs ys zs : List Stamped) → IsPrefix xs zs → IsPrefix ys zs → IsPrefix (longer xs ys) zs
 prefix-longer xs ys zs p q =
@@ -88,7 +91,8 @@ known-carried history actors k ps known whole h =
     let e = whole.2 k t.1 in
     subst (IsPrefix (known_part k known)) (sym (known-whole (λ j. part_in j history) k ps whole.0 (omega arith))) begins)
     (λ (t : (nat_lt k actors ≡ false) × (actors ≤ k)).
-    let none : known_part k known ≡ [] = no-prefix (known_part k known) (subst (IsPrefix (known_part k known)) (part-none k actors 0 history whole.1 t.1) begins) in
+    let none : known_part k known ≡ [] = no-prefix (known_part k known)
+    (subst (IsPrefix (known_part k known)) (part-none k actors 0 history whole.1 t.1) begins) in
     (known_part k ps, ap (λ w. w ++ known_part k ps) none))
     (lt_tells k actors)
 

@@ -1,5 +1,7 @@
 -- Each kind of step keeps the rule.
-use Rattle.std.proofs.Common.{◌≡◌, ◌≢◌, ℕ, ◌+◌, ◌*◌, ◌%◌, ◌^◌, ◌<◌, ◌≤◌, ◌⊎◌, inl, inr, ⊎_elim, true, false, cond, eqb, List, [], ◌∷◌, ◌++◌, length, set, Option, Some, None, slice_get, slice_set, refl, ap, sym, subst, ◌∙◌, arith, append-nil, length-append}
+use Rattle.std.proofs.Common.{◌≡◌, ◌≢◌, ℕ, ◌+◌, ◌*◌, ◌%◌, ◌^◌, ◌<◌, ◌≤◌, ◌⊎◌, inl, inr, ⊎_elim, true, false, cond, eqb}
+use Rattle.std.proofs.Common.{List, [], ◌∷◌, ◌++◌, length, set, Option, Some, None, slice_get, slice_set, refl, ap}
+use Rattle.std.proofs.Common.{sym, subst, ◌∙◌, arith, append-nil, length-append}
 use mathlib.Core.Option.{some, some-ne-none}
 use mathlib.Core.List.{IsPrefix}
 use lib.ListN.{get_elem?}
@@ -20,20 +22,25 @@ use Rattle.hx_clock.specs.declared.parts.Stamped.{Stamped}
 use Rattle.hx_clock.specs.declared.view.NumberedPart.{NumberedPart}
 use Rattle.hx_clock.specs.declared.view.View.{View}
 use Rattle.hx_clock.specs.Parts.{stamped, DeliveryMeets, HasStampsBelow, Posted}
-use Rattle.hx_clock.specs.Views.{acted, either_count, front_of, handed, handing, joined, nothing, numbered, one, parts_of, rest_of, times, told, total, view_of, IsAfter, IsAmong, IsWhole, Knows, Owns}
+use Rattle.hx_clock.specs.Views.{acted, either_count, front_of, handed, handing, joined, nothing, numbered, one}
+use Rattle.hx_clock.specs.Views.{parts_of, rest_of, times, told, total, view_of, IsAfter, IsAmong, IsWhole, Knows}
+use Rattle.hx_clock.specs.Views.{Owns}
 use Rattle.hx_clock.specs.Rule.{counts, event, part_in, Acts, Enrols, Event, Fits, IsCausalHistory, IsKept, IsPostedIn, Loads}
-use Rattle.hx_clock.proofs.Lists.{all_set, all_snoc, each_append, each_in, each_map, get-below, get-front, get-snoc, prefix_in, prefix_more, prefix_self, total-append, total-at, total-set, total-two}
+use Rattle.hx_clock.proofs.Lists.{all_set, all_snoc, each_append, each_in, each_map, get-below, get-front, get-snoc}
+use Rattle.hx_clock.proofs.Lists.{prefix_in, prefix_more, prefix_self, total-append, total-at, total-set, total-two}
 use Rattle.hx_clock.proofs.Histories.{added, added-other, added-own, history-most, meets_more, one-le, one-lt, part-none, part-snoc, stands, times-in, Stands}
 use Rattle.hx_clock.proofs.Carried.{whole-causal, whole-stamps, AreWhole}
 
 -- what a view has stands in the history
-has : (history : List Event) (count : ℕ) (v : View) (x : Stamped) → Fits history count v → IsAmong v.carried x ⊎ IsAmong v.known x → (k : ℕ) × IsIn x (part_in k history)
+has : (history : List Event) (count : ℕ) (v : View) (x : Stamped) → Fits history count v → IsAmong v.carried x
+    ⊎ IsAmong v.known x → (k : ℕ) × IsIn x (part_in k history)
 has history count v x f h =
     ⊎_elim
     (λ (c : IsAmong v.carried x). (c.0.number, subst (IsIn x) (each_in _ v.carried c.0 f.carried c.1) c.2))
     (λ (c : IsAmong v.known x). (c.0.number, prefix_in x c.0.entries (part_in c.0.number history) (each_in _ v.known c.0 f.known c.1) c.2)) h
 
-was_posted : (history : List Event) (count : ℕ) (v : View) (id : PostId) (p : Post) → Fits history count v → Knows v id p → IsPostedIn history (length history) id p
+was_posted : (history : List Event) (count : ℕ) (v : View) (id : PostId) (p : Post) → Fits history count v
+    → Knows v id p → IsPostedIn history (length history) id p
 was_posted history count v id p f h =
     ∥∥₁_map h
     (λ (y : (x : Stamped) × (IsAmong v.carried x ⊎ IsAmong v.known x) × Posted x id p).
@@ -44,9 +51,11 @@ was_posted history count v id p f h =
 
 before_more : (history : List Event) (t : Event) (n : ℕ) (id : PostId) (p : Post) → IsPostedIn history n id p → IsPostedIn (history ++ t ∷ []) n id p
 before_more history t n id p h =
-    ∥∥₁_map h (λ (y : (m : ℕ) × (u : Event) × (m < n) × (slice_get history m ≡ Some u) × Posted (stamped m u.entry) id p). (y.0, y.1, y.2, get-front history (t ∷ []) y.0 y.1 y.3, y.4))
+    ∥∥₁_map h (λ (y : (m : ℕ) × (u : Event) × (m < n) × (slice_get history m ≡ Some u)
+    × Posted (stamped m u.entry) id p). (y.0, y.1, y.2, get-front history (t ∷ []) y.0 y.1 y.3, y.4))
 
-causal-snoc : (history : List Event) (t : Event) → IsCausalHistory history → DeliveryMeets (IsPostedIn history (length history)) t.entry → IsCausalHistory (history ++ t ∷ [])
+causal-snoc : (history : List Event) (t : Event) → IsCausalHistory history
+    → DeliveryMeets (IsPostedIn history (length history)) t.entry → IsCausalHistory (history ++ t ∷ [])
 causal-snoc history t old new n u e =
     ⊎_elim
     (λ (h : slice_get history n ≡ Some u). meets_more u.entry _ _ (λ id p. before_more history t n id p) (old n u h))
@@ -55,35 +64,47 @@ causal-snoc history t old new n u e =
     subst P (λ i. (sym h.0 i, h.1 i)) (meets_more t.entry _ _ (λ id p. before_more history t (length history) id p) new))
     (get-snoc history t n u e)
 
-known_more : (history : List Event) (t : Event) (p : NumberedPart) → IsPrefix p.entries (part_in p.number history) → IsPrefix p.entries (part_in p.number (history ++ t ∷ []))
+known_more : (history : List Event) (t : Event) (p : NumberedPart) → IsPrefix p.entries (part_in p.number history)
+    → IsPrefix p.entries (part_in p.number (history ++ t ∷ []))
 known_more history t p h = subst (IsPrefix p.entries) (sym (part-snoc p.number history t)) (prefix_more p.entries (part_in p.number history) _ h)
 
 -- a view that doesn't carry the number of the act
-fits_other : (history : List Event) (count : ℕ) (t : Event) (u : View) → ((p : NumberedPart) → IsIn p u.carried → p.number ≢ t.by) → Fits history count u → Fits (history ++ t ∷ []) count u
+fits_other : (history : List Event) (count : ℕ) (t : Event) (u : View)
+    → ((p : NumberedPart) → IsIn p u.carried → p.number ≢ t.by) → Fits history count u → Fits (history ++ t ∷ []) count u
 fits_other history count t u apart f = record {
-  carried = each_map _ _ u.carried (λ p i e. e ∙ sym (part-snoc p.number history t ∙ ap (λ w. part_in p.number history ++ w) (added-other p.number (length history) t (apart p i)) ∙ append-nil (part_in p.number history))) f.carried;
+  carried = each_map _ _ u.carried (λ p i e. e ∙ sym
+      (part-snoc p.number history t ∙ ap (λ w. part_in p.number history ++ w)
+      (added-other p.number (length history) t (apart p i)) ∙ append-nil (part_in p.number history))) f.carried;
   known = each_map _ _ u.known (λ p i h. known_more history t p h) f.known;
   count = f.count;
 }
 
 -- what is written is the old part with the new entry
-own_part : (history : List Event) (t : Event) (part : List Stamped) → part ≡ part_in t.by history → part ++ stamped (length history) t.entry ∷ [] ≡ part_in t.by (history ++ t ∷ [])
-own_part history t part e = ap (λ w. w ++ stamped (length history) t.entry ∷ []) e ∙ ap (λ w. part_in t.by history ++ w) (sym (added-own (length history) t)) ∙ sym (part-snoc t.by history t)
+own_part : (history : List Event) (t : Event) (part : List Stamped) → part ≡ part_in t.by history
+    → part ++ stamped (length history) t.entry ∷ [] ≡ part_in t.by (history ++ t ∷ [])
+own_part history t part e = ap (λ w. w ++ stamped (length history) t.entry ∷ []) e
+    ∙ ap (λ w. part_in t.by history ++ w) (sym (added-own (length history) t)) ∙ sym (part-snoc t.by history t)
 
 added-length : (k n : ℕ) (t : Event) → ((k ≡ t.by) × (length (added k n t) ≡ 1)) ⊎ (length (added k n t) ≡ 0)
 added-length k n t =
     ⊎_elim (λ (h : (eqb k t.by ≡ true) × (k ≡ t.by)). inl (h.1, ap (λ b. length (cond b (stamped n t.entry ∷ []) [])) h.0))
     (λ (h : (eqb k t.by ≡ false) × (k ≢ t.by)). inr (ap (λ b. length (cond b (stamped n t.entry ∷ []) [])) h.0)) (eqb_tells k t.by)
 
-few-after : (history : List Event) (t : Event) (m : ℕ) → length (part_in t.by history) < m → ((k : ℕ) → length (part_in k history) ≤ m) → (k : ℕ) → length (part_in k (history ++ t ∷ [])) ≤ m
+few-after : (history : List Event) (t : Event) (m : ℕ) → length (part_in t.by history) < m
+    → ((k : ℕ) → length (part_in k history) ≤ m) → (k : ℕ) → length (part_in k (history ++ t ∷ [])) ≤ m
 few-after history t m own all k =
-    let e : length (part_in k (history ++ t ∷ [])) ≡ length (part_in k history) + length (added k (length history) t) = ap length (part-snoc k history t) ∙ length-append (part_in k history) (added k (length history) t) in
+    let e : length (part_in k (history ++ t ∷ []))
+    ≡ length (part_in k history) + length (added k (length history) t) =
+    ap length (part-snoc k history t) ∙ length-append (part_in k history) (added k (length history) t) in
     ⊎_elim
-    (λ (h : (k ≡ t.by) × (length (added k (length history) t) ≡ 1)). let l : length (part_in k history) < m = subst (λ j. length (part_in j history) < m) (sym h.0) own in omega arith)
+    (λ (h : (k ≡ t.by) × (length (added k (length history) t) ≡ 1)). let l : length (part_in k history) < m =
+    subst (λ j. length (part_in j history) < m) (sym h.0) own in omega arith)
     (λ (h : length (added k (length history) t) ≡ 0). omega (arith, all k))
     (added-length k (length history) t)
 
-word_next : (n c : ℕ) (history : List Event) → n ≡ length history → c ≤ MOST_ENROLLED → AllByRecursion (λ t. t.by < c) history → ((k : ℕ) → length (part_in k history) ≤ MOST_ENTRIES) → (n + 1) % 2 ^ 64 ≡ length history + 1
+word_next : (n c : ℕ) (history : List Event) → n ≡ length history → c ≤ MOST_ENROLLED
+    → AllByRecursion (λ t. t.by < c) history → ((k : ℕ) → length (part_in k history) ≤ MOST_ENTRIES)
+    → (n + 1) % 2 ^ 64 ≡ length history + 1
 word_next n c history e most within worn =
     let a = history-most c MOST_ENTRIES history within worn in
     let b : c * MOST_ENTRIES ≤ MOST_ENROLLED * MOST_ENTRIES = mul-le-mul_right MOST_ENTRIES most in
@@ -91,7 +112,9 @@ word_next n c history e most within worn =
     mod-eq_of_lt small ∙ omega arith
 
 -- another view doesn't carry the number
-apart : (views : List View) (c : ℕ) (id j : ℕ) (v u : View) (k : ℕ) → total (λ v. times k v.carried) views ≡ one (nat_lt k c) → get_elem? views id ≡ some v → get_elem? views j ≡ some u → j ≢ id → 1 ≤ times k v.carried
+apart : (views : List View) (c : ℕ) (id j : ℕ) (v u : View) (k : ℕ)
+    → total (λ v. times k v.carried) views ≡ one (nat_lt k c) → get_elem? views id ≡ some v
+    → get_elem? views j ≡ some u → j ≢ id → 1 ≤ times k v.carried
     → (p : NumberedPart) → IsIn p u.carried → p.number ≢ k
 apart views c id j v u k once at there other mine p i e =
     let a = total-two (λ v. times k v.carried) views id j v u at there other in
@@ -100,9 +123,14 @@ apart views c id j v u k once at there other mine p i e =
 
 -- a seat's only part, and one more entry
 act_kept : (s : State ⊤ View) (kept : IsKept s) (id k : ℕ) (part : List Stamped) (known : List NumberedPart) (count : Option ℕ) (e : Entry) (next : ℕ)
-    → get_elem? s.views id ≡ some (view_of (numbered k part ∷ []) known count) → length part < MOST_ENTRIES → DeliveryMeets (Knows (view_of (numbered k part ∷ []) known count)) e
+    → get_elem? s.views id ≡ some (view_of (numbered k part ∷ []) known count) → length part < MOST_ENTRIES
+    → DeliveryMeets (Knows (view_of (numbered k part ∷ []) known count)) e
     → next ≡ length kept.history + 1
-    → IsKept record { words = slice_set s.words 0 next; homes = s.homes; views = slice_set s.views id (view_of (numbered k (part ++ stamped (length kept.history) e ∷ []) ∷ []) known count) }
+    → IsKept record {
+      words = slice_set s.words 0 next;
+      homes = s.homes;
+      views = slice_set s.views id (view_of (numbered k (part ++ stamped (length kept.history) e ∷ []) ∷ []) known count);
+    }
 act_kept s kept id k part known count e next at few cause is =
     let v : View = view_of (numbered k part ∷ []) known count in
     let history : List Event = kept.history in
@@ -150,8 +178,10 @@ acts slots id k part known count c e few cause s kept len at small =
     let v : View = view_of (numbered k part ∷ []) known count in
     let f : Fits kept.history kept.actors v = kept.fits id v at in
     let is : slice_index s.words 0 ≡ length kept.history = ap (λ ws. slice_index ws 0) kept.words in
-    let P : ℕ → Type 0 = λ n. (w : View) × (a : Act ⊤) × Valid s.homes c a × IsKept (stepped s 0 ((n + 1) % 2 ^ 64) id c w a) × Acts e (v, c) n (w, carried_after c a) in
-    let next = act_kept s kept id k part known count e ((length kept.history + 1) % 2 ^ 64) at few cause (word_next (length kept.history) kept.actors kept.history refl kept.few_actors kept.by_actors kept.few_entries) in
+    let P : ℕ → Type 0 = λ n. (w : View) × (a : Act ⊤) × Valid s.homes c a
+    × IsKept (stepped s 0 ((n + 1) % 2 ^ 64) id c w a) × Acts e (v, c) n (w, carried_after c a) in
+    let next = act_kept s kept id k part known count e ((length kept.history + 1) % 2 ^ 64) at few cause
+    (word_next (length kept.history) kept.actors kept.history refl kept.few_actors kept.by_actors kept.few_entries) in
     let most = history-most next.actors MOST_ENTRIES next.history next.by_actors next.few_entries in
     let long : length next.history ≡ length kept.history + 1 = length-append kept.history (event k e ∷ []) in
     let times_most : next.actors * MOST_ENTRIES ≤ MOST_ENROLLED * MOST_ENTRIES = mul-le-mul_right MOST_ENTRIES next.few_actors in
@@ -172,7 +202,8 @@ pub counts-some : (c : Option ℕ) (n : ℕ) → c ≡ Some n → counts c ≡ 1
 counts-some c n e = ap counts e
 
 -- no other view has a count
-uncounted : (views : List View) (id j : ℕ) (v u : View) (m : ℕ) → total (λ v. counts v.count) views ≡ 1 → get_elem? views id ≡ some v → get_elem? views j ≡ some u → j ≢ id → counts v.count ≡ 1 → ¬ (u.count ≡ Some m)
+uncounted : (views : List View) (id j : ℕ) (v u : View) (m : ℕ) → total (λ v. counts v.count) views ≡ 1
+    → get_elem? views id ≡ some v → get_elem? views j ≡ some u → j ≢ id → counts v.count ≡ 1 → ¬ (u.count ≡ Some m)
 uncounted views id j v u m once at there other mine e =
     let a = total-two (λ v. counts v.count) views id j v u at there other in
     let b = counts-some u.count m e in
@@ -209,11 +240,16 @@ enrol_kept s kept id n carried known next at few is =
       counted_once = let a = total-set (λ v. counts v.count) s.views id v w at in let b = kept.counted_once in omega arith;
       fits = all_set (Fits kept.history (n + 1)) s.views id w
           (record {
-            carried = (sym (part-none n n 0 kept.history (subst (λ m. AllByRecursion (λ t. t.by < m) kept.history) (sym same) kept.by_actors) (omega arith)), f.carried);
+            carried = (
+              sym (part-none n n 0 kept.history
+                  (subst (λ m. AllByRecursion (λ t. t.by < m) kept.history) (sym same) kept.by_actors) (omega arith)),
+              f.carried,
+            );
             known = f.known;
             count = λ m e. sym (some-number (n + 1) m e);
           })
-          (λ j u other there. fits_count kept.history kept.actors (n + 1) u (λ m e. absurd (uncounted s.views id j v u m kept.counted_once at there other refl e)) (kept.fits j u there));
+          (λ j u other there. fits_count kept.history kept.actors (n + 1) u
+          (λ m e. absurd (uncounted s.views id j v u m kept.counted_once at there other refl e)) (kept.fits j u there));
     }
 
 pub enrols : (slots id n : ℕ) (carried known : List NumberedPart) (c : List (ℕ × ⊤))
@@ -223,7 +259,8 @@ enrols slots id n carried known c few s kept len at small =
     let v : View = view_of carried known (Some n) in
     let f : Fits kept.history kept.actors v = kept.fits id v at in
     let is : slice_index s.words 1 ≡ n = ap (λ ws. slice_index ws 1) kept.words ∙ sym (f.count n refl) in
-    let P : ℕ → Type 0 = λ m. (w : View) × (a : Act ⊤) × Valid s.homes c a × IsKept (stepped s 1 ((m + 1) % 2 ^ 64) id c w a) × Enrols (v, c) m (w, carried_after c a) in
+    let P : ℕ → Type 0 = λ m. (w : View) × (a : Act ⊤) × Valid s.homes c a
+    × IsKept (stepped s 1 ((m + 1) % 2 ^ 64) id c w a) × Enrols (v, c) m (w, carried_after c a) in
     let next : (n + 1) % 2 ^ 64 ≡ n + 1 = mod-eq_of_lt (omega arith) in
     subst P (sym is) (
       view_of (numbered n [] ∷ carried) known (Some (n + 1)),
@@ -256,7 +293,8 @@ fork_kept s kept id v a b at share_out count_out fit =
           let p = total-set (λ v. counts v.count) s.views id v a at in
           let q = total-append (λ v. counts v.count) (set s.views id a) (b ∷ []) in
           let r = kept.counted_once in omega arith;
-      fits = all_snoc (Fits kept.history kept.actors) (slice_set s.views id a) b f.1 (all_set (Fits kept.history kept.actors) s.views id a f.0 (λ j u other there. kept.fits j u there));
+      fits = all_snoc (Fits kept.history kept.actors) (slice_set s.views id a) b f.1
+          (all_set (Fits kept.history kept.actors) s.views id a f.0 (λ j u other there. kept.fits j u there));
     }
 
 first-rest : (k : ℕ) (ps : List NumberedPart) → times k (rest_of ps) + times k (front_of ps) ≡ times k ps
@@ -282,7 +320,9 @@ hands id v s kept at =
       record { carried = first-each _ v.carried f.carried; known = f.known; count = no-number kept.history kept.actors },
     ))
 
-whole-prefixes : (history : List Event) (ps : List NumberedPart) → AllByRecursion (λ p. p.entries ≡ part_in p.number history) ps → AllByRecursion (λ p. IsPrefix p.entries (part_in p.number history)) ps
+whole-prefixes : (history : List Event) (ps : List NumberedPart)
+    → AllByRecursion (λ p. p.entries ≡ part_in p.number history) ps
+    → AllByRecursion (λ p. IsPrefix p.entries (part_in p.number history)) ps
 whole-prefixes history ps h = each_map _ _ ps (λ p i e. subst (IsPrefix p.entries) e (prefix_self p.entries)) h
 
 pub tells : (id : ℕ) (v : View) → Splits IsKept id v v (told v)
@@ -312,7 +352,8 @@ pub joins : (id : ℕ) (v : View) (other : ℕ) (w : View) → Joins IsKept id v
 joins id v other w s kept at two at' =
     let both : View = joined v w in
     let mid : List View = set s.views id both in
-    let was : get_elem? s.views other ≡ some w = ⊎_elim (λ (x : (other ≡ id) × (both ≡ w)). absurd (two x.0)) (λ (x : (other ≢ id) × (get_elem? s.views other ≡ some w)). x.1) (at_set s.views id other both w at') in
+    let was : get_elem? s.views other ≡ some w = ⊎_elim (λ (x : (other ≡ id) × (both ≡ w)). absurd (two x.0))
+    (λ (x : (other ≢ id) × (get_elem? s.views other ≡ some w)). x.1) (at_set s.views id other both w at') in
     let f : Fits kept.history kept.actors v = kept.fits id v at in
     let g : Fits kept.history kept.actors w = kept.fits other w was in
     let few = total-two (λ v. counts v.count) s.views id other v w at was two in
@@ -359,7 +400,9 @@ opens = record {
   causal = λ n t e. absurd (empty-history n t e);
   carried_once = λ k. grind (arith, nat_tests);
   counted_once = refl;
-  fits = λ j u e. all_snoc (Fits [] 0) [] (view_of [] [] (Some 0)) (record { carried = tt; known = tt; count = λ n e. sym (some-number 0 n e) }) (λ j u e. absurd (some-ne-none u (sym e))) j u e;
+  fits = λ j u e. all_snoc (Fits [] 0) [] (view_of [] [] (Some 0))
+      (record { carried = tt; known = tt; count = λ n e. sym (some-number 0 n e) })
+      (λ j u e. absurd (some-ne-none u (sym e))) j u e;
 }
 
 -- the same of a view that owns one part, or that has a count

@@ -1,5 +1,6 @@
 -- The boxes of all actors, and the box of a place with its ports.
-use Rattle.std.proofs.Common.{◌≡◌, ℕ, zero, suc, ◌+◌, ◌<◌, ◌⊎◌, inl, inr, ⊎_elim, List, [], ◌∷◌, ◌++◌, map, length, take, slice_get, slice_index_or, Some, refl, ap, sym, subst, ◌∙◌, arith, length-append}
+use Rattle.std.proofs.Common.{◌≡◌, ℕ, zero, suc, ◌+◌, ◌<◌, ◌⊎◌, inl, inr, ⊎_elim, List, [], ◌∷◌, ◌++◌, map, length}
+use Rattle.std.proofs.Common.{take, slice_get, slice_index_or, Some, refl, ap, sym, subst, ◌∙◌, arith, length-append}
 use Rattle.std.proofs.lemmas.List.{map-append}
 use Rattle.std.proofs.lemmas.Option.{get_or_from_slice_get}
 use Rattle.atomic_table.specs.Seated.{TableId}
@@ -88,7 +89,9 @@ boxes-are script clock n boxes e h =
           ∙ ap (names_for script clock) (at-place script a x);
     }
 
-pub ports-more : (w : ℕ) (boxes boxes' : List Boxed) (box : Boxed) (ports ports' : List BoxPorts) (p : BoxPorts) → ArePortsOf w boxes ports → AreNewPorts w box p → boxes' ≡ boxes ++ box ∷ [] → ports' ≡ ports ++ p ∷ [] → ArePortsOf w boxes' ports'
+pub ports-more : (w : ℕ) (boxes boxes' : List Boxed) (box : Boxed) (ports ports' : List BoxPorts) (p : BoxPorts)
+    → ArePortsOf w boxes ports → AreNewPorts w box p → boxes' ≡ boxes ++ box ∷ [] → ports' ≡ ports ++ p ∷ []
+    → ArePortsOf w boxes' ports'
 ports-more w boxes boxes' box ports ports' p h n e f =
     subst (λ l. ArePortsOf w l ports') (sym e) (subst (λ l. ArePortsOf w (boxes ++ box ∷ []) l) (sym f) (both-snoc (AreNewPorts w) boxes ports box p h n))
 
@@ -99,7 +102,8 @@ pub record IsBoxAt (w : ℕ) (boxes : List Boxed) (n : ℕ) (p : BoxPorts) : Typ
   pub ports : AreNewPorts w box p
   pub is : (b : Boxed) → b ≡ slice_index_or boxes n b → b ≡ box
 
-pub box-at : (w : ℕ) (boxes : List Boxed) (qs : List BoxPorts) (p : BoxPorts) (rest all : List BoxPorts) → qs ++ p ∷ rest ≡ all → ArePortsOf w boxes all → IsBoxAt w boxes (length qs) p
+pub box-at : (w : ℕ) (boxes : List Boxed) (qs : List BoxPorts) (p : BoxPorts) (rest all : List BoxPorts)
+    → qs ++ p ∷ rest ≡ all → ArePortsOf w boxes all → IsBoxAt w boxes (length qs) p
 box-at w boxes qs p rest all e h = go boxes qs (subst (ArePortsOf w boxes) (sym e) h)
   where
     go : (bs : List Boxed) (ps : List BoxPorts) → ArePortsOf w bs (ps ++ p ∷ rest) → IsBoxAt w bs (length ps) p
@@ -108,7 +112,8 @@ box-at w boxes qs p rest all e h = go boxes qs (subst (ArePortsOf w boxes) (sym 
     go (b ∷ bs) [] h = record { box = b; taken = refl; ports = h.0; is = λ x e. e }
     go (b ∷ bs) (q ∷ ps) h = let r = go bs ps h.1 in record { box = r.box; taken = ap (λ l. b ∷ l) r.taken; ports = r.ports; is = r.is }
 
-pub box-place : (w : ℕ) (boxes : List Boxed) (qs : List BoxPorts) (p : BoxPorts) (rest all : List BoxPorts) (n : ℕ) → qs ++ p ∷ rest ≡ all → ArePortsOf w boxes all → n ≡ length qs → IsBoxAt w boxes n p
+pub box-place : (w : ℕ) (boxes : List Boxed) (qs : List BoxPorts) (p : BoxPorts) (rest all : List BoxPorts) (n : ℕ)
+    → qs ++ p ∷ rest ≡ all → ArePortsOf w boxes all → n ≡ length qs → IsBoxAt w boxes n p
 box-place w boxes qs p rest all n e h m = subst (λ k. IsBoxAt w boxes k p) (sym m) (box-at w boxes qs p rest all e h)
 
 pub in-port-at : (w : ℕ) (boxes : List Boxed) (n : ℕ) (p : BoxPorts) → IsBoxAt w boxes n p → HasInPort w boxes n p.first × (ins_of p.first ≡ [])

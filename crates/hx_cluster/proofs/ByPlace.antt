@@ -1,5 +1,6 @@
 -- The actors of a script and the places of their boxes.
-use Rattle.std.proofs.Common.{◌≡◌, ℕ, zero, suc, ◌+◌, ◌-◌, ◌<◌, ◌≤◌, Bool, true, false, [], ◌∷◌, ◌++◌, map, length, refl, ap, sym, ◌∙◌, arith, append-nil, append_assoc, length-append}
+use Rattle.std.proofs.Common.{◌≡◌, ℕ, zero, suc, ◌+◌, ◌-◌, ◌<◌, ◌≤◌, Bool, true, false, [], ◌∷◌, ◌++◌, map, length}
+use Rattle.std.proofs.Common.{refl, ap, sym, ◌∙◌, arith, append-nil, append_assoc, length-append}
 use Rattle.std.specs.Prelude.{nat_le, nat_lt, ◌&&◌}
 use Rattle.std.proofs.lemmas.Bool.{cond_both, false≢true}
 use Rattle.std.proofs.lemmas.Bool.Decides.{nat_tests}
@@ -78,7 +79,8 @@ all-first script =
     let u = length script.sessions in
     let f : ℕ → Actor = actor_at space in
     let servers : map (λ k. f (1 + k)) (below s) ≡ map (λ n. Server (record { 0 = n + 1 })) (below s) =
-    same-below (λ k. f (1 + k)) (λ n. Server (record { 0 = n + 1 })) s (λ k lt. server-at space (1 + k) (omega arith) (omega (arith, lt)) ∙ ap (λ n. Server (record { 0 = n })) (one-more k)) in
+    same-below (λ k. f (1 + k)) (λ n. Server (record { 0 = n + 1 })) s
+    (λ k lt. server-at space (1 + k) (omega arith) (omega (arith, lt)) ∙ ap (λ n. Server (record { 0 = n })) (one-more k)) in
     let sessions : map (λ k. f (1 + s + k)) (below u) ≡ map (λ n. Session (record { 0 = n + 1 })) (below u) =
     same-below (λ k. f (1 + s + k)) (λ n. Session (record { 0 = n + 1 })) u (λ k lt. session-at space (1 + s + k) (k + 1) (omega arith) (omega arith)) in
     map-below f (1 + s) u
@@ -92,7 +94,8 @@ all-first script =
 pub first-length : (space : Space) (k : ℕ) → length (first_actors space k) ≡ k
 first-length space zero = refl
 first-length space (suc k) =
-    ap length (map-append (actor_at space) (below k) (k ∷ [])) ∙ length-append (first_actors space k) (actor_at space k ∷ []) ∙ (let e = first-length space k in omega (arith, e))
+    ap length (map-append (actor_at space) (below k) (k ∷ []))
+    ∙ length-append (first_actors space k) (actor_at space k ∷ []) ∙ (let e = first-length space k in omega (arith, e))
 
 pub all-length : (script : Script) → length (actors_of script) ≡ 1 + script.space.servers + length script.sessions
 all-length script = ap length (sym (all-first script)) ∙ first-length script.space _
@@ -107,4 +110,5 @@ both-true false b e = absurd (false≢true e)
 pub exists-is : (script : Script) (a : Actor) → is_actor script a ≡ true → Exists script a
 exists-is script Coordinator e = tt
 exists-is script (Server s) e = let h = both-true (nat_lt 0 s.0) (nat_le s.0 script.space.servers) e in (is-below 0 s.0 h.0, is-le s.0 script.space.servers h.1)
-exists-is script (Session u) e = let h = both-true (nat_lt 0 u.0) (nat_le u.0 (length script.sessions)) e in (is-below 0 u.0 h.0, is-le u.0 (length script.sessions) h.1)
+exists-is script (Session u) e = let h = both-true (nat_lt 0 u.0) (nat_le u.0 (length script.sessions)) e in
+    (is-below 0 u.0 h.0, is-le u.0 (length script.sessions) h.1)

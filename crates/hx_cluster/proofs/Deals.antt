@@ -1,5 +1,7 @@
 -- Outboxes, desks and crews that grow while boxes are dealt out.
-use Rattle.std.proofs.Common.{◌≡◌, ◌≢◌, ℕ, zero, suc, ◌+◌, ◌<◌, ◌≤◌, ◌%◌, inl, ⊎_elim, Bool, true, false, cond, eqb, List, [], ◌∷◌, ◌++◌, map, length, replicate, slice_index_or, slice_set, None, refl, ap, sym, subst, ◌∙◌, arith, append-nil, length-append}
+use Rattle.std.proofs.Common.{◌≡◌, ◌≢◌, ℕ, zero, suc, ◌+◌, ◌<◌, ◌≤◌, ◌%◌, inl, ⊎_elim, Bool, true, false, cond, eqb}
+use Rattle.std.proofs.Common.{List, [], ◌∷◌, ◌++◌, map, length, replicate, slice_index_or, slice_set, None, refl, ap}
+use Rattle.std.proofs.Common.{sym, subst, ◌∙◌, arith, append-nil, length-append}
 use Rattle.std.specs.List.{AllByRecursion, filter}
 use Rattle.std.proofs.lemmas.Bool.{cond_both}
 use Rattle.std.proofs.lemmas.Bool.Decides.{eqb_tells}
@@ -68,8 +70,10 @@ outbox-more boxes box i o o' p h is e index ports sent = record {
 }
 
 -- one driver more has its port
-pub partly-more : (boxes : List Boxed) (box : Boxed) (n : ℕ) (outs : List Outbox) (o o' : Outbox) (p : Ported) → AtEach (IsPartly n boxes box) outs → n < length outs → o ≡ slice_index_or outs n o → IsOutPort n box p → outs_of p ≡ []
-    → o'.index ≡ o.index → o'.ports.items ≡ o.ports.items ++ p ∷ [] → o'.sent.items ≡ o.sent.items ++ 0 ∷ [] → AtEach (IsPartly (n + 1) boxes box) (slice_set outs n o')
+pub partly-more : (boxes : List Boxed) (box : Boxed) (n : ℕ) (outs : List Outbox) (o o' : Outbox) (p : Ported)
+    → AtEach (IsPartly n boxes box) outs → n < length outs → o ≡ slice_index_or outs n o → IsOutPort n box p → outs_of p ≡ []
+    → o'.index ≡ o.index → o'.ports.items ≡ o.ports.items ++ p ∷ [] → o'.sent.items ≡ o.sent.items ++ 0 ∷ []
+    → AtEach (IsPartly (n + 1) boxes box) (slice_set outs n o')
 partly-more boxes box n outs o o' p h lt at is e index ports sent =
     let before : IsPartly n boxes box n o = at_each_read (IsPartly n boxes box) outs n o h lt at in
     at_each_set (IsPartly n boxes box) (IsPartly (n + 1) boxes box) outs n o' h
@@ -77,7 +81,8 @@ partly-more boxes box n outs o o' p h lt at is e index ports sent =
     (λ j x ne q. record { more = λ lt. q.more (omega (arith, lt, ne)); before = λ le. q.before (omega (arith, le)) })
 
 -- the port of a place among those of a box
-pub out-at : (j : ℕ) (box : Boxed) (qs : List Ported) (p : Ported) (rest all : List Ported) → qs ++ p ∷ rest ≡ all → AreOutPortsFrom j box all → IsOutPort (j + length qs) box p × (outs_of p ≡ [])
+pub out-at : (j : ℕ) (box : Boxed) (qs : List Ported) (p : Ported) (rest all : List Ported) → qs ++ p ∷ rest ≡ all
+    → AreOutPortsFrom j box all → IsOutPort (j + length qs) box p × (outs_of p ≡ [])
 out-at j box qs p rest all e h = go j qs (subst (AreOutPortsFrom j box) (sym e) h)
   where
     go : (k : ℕ) (ps : List Ported) → AreOutPortsFrom k box (ps ++ p ∷ rest) → IsOutPort (k + length ps) box p × (outs_of p ≡ [])
@@ -115,11 +120,14 @@ next k = omega arith
 -- the driver of a place has one actor more, and the others have none
 pub dealt-here : (space : Space) (w k : ℕ) → first_dealt space w (k % w) (k + 1) ≡ first_dealt space w (k % w) k ++ actor_at space k ∷ []
 dealt-here space w k =
-    ap (first_dealt space w (k % w)) (next k) ∙ dealt-more space w (k % w) k ∙ ap (λ b. first_dealt space w (k % w) k ++ cond b (actor_at space k ∷ []) []) (eqb-same (k % w))
+    ap (first_dealt space w (k % w)) (next k) ∙ dealt-more space w (k % w) k
+    ∙ ap (λ b. first_dealt space w (k % w) k ++ cond b (actor_at space k ∷ []) []) (eqb-same (k % w))
 
 pub dealt-there : (space : Space) (w i k : ℕ) → i ≢ k % w → first_dealt space w i (k + 1) ≡ first_dealt space w i k
 dealt-there space w i k n =
-    ap (first_dealt space w i) (next k) ∙ dealt-more space w i k ∙ ap (λ b. first_dealt space w i k ++ cond b (actor_at space k ∷ []) []) (eqb-apart (k % w) i (λ e. n (sym e))) ∙ append-nil (first_dealt space w i k)
+    ap (first_dealt space w i) (next k) ∙ dealt-more space w i k
+    ∙ ap (λ b. first_dealt space w i k ++ cond b (actor_at space k ∷ []) [])
+    (eqb-apart (k % w) i (λ e. n (sym e))) ∙ append-nil (first_dealt space w i k)
 
 filter-short : {A : Type 0} (test : A → Bool) (xs : List A) → length (filter test xs) ≤ length xs
 filter-short test [] = omega arith
@@ -128,7 +136,8 @@ filter-short test (x ∷ xs) =
     cond_both (test x) (x ∷ filter test xs) (filter test xs) (λ l. length l ≤ suc (length xs)) (λ t. omega (arith, r)) (λ f. omega (arith, r))
 
 pub dealt-short : (space : Space) (w i k : ℕ) → length (first_dealt space w i k) ≤ k
-dealt-short space w i k = let a = filter-short (λ (a : Actor). eqb (place_of space a % w) i) (first_actors space k) in let b = first-length space k in omega (arith, a, b)
+dealt-short space w i k = let a = filter-short (λ (a : Actor). eqb (place_of space a % w) i) (first_actors space k) in
+    let b = first-length space k in omega (arith, a, b)
 
 -- all actors of a driver
 pub dealt-all : (script : Script) (w i n : ℕ) → n ≡ 1 + script.space.servers + length script.sessions → first_dealt script.space w i n ≡ actors_dealt script w i
@@ -138,7 +147,8 @@ module _ (script : Script) (clock : TableId) (boxes : List Boxed) (w : ℕ) wher
   pub no-desks : (i : ℕ) (ds : List Desk) → ds ≡ [] → AreNewDesks script clock boxes w 0 i ds
   no-desks i ds e = subst (AreNewDesks script clock boxes w 0 i) (sym e) (record { each = tt; actors = refl })
 
-  pub desks-more : (k : ℕ) (ds ds' : List Desk) (d : Desk) → AreNewDesks script clock boxes w k (k % w) ds → IsNewDesk script clock boxes w d → d.actor ≡ actor_at script.space k → ds' ≡ ds ++ d ∷ []
+  pub desks-more : (k : ℕ) (ds ds' : List Desk) (d : Desk) → AreNewDesks script clock boxes w k (k % w) ds
+      → IsNewDesk script clock boxes w d → d.actor ≡ actor_at script.space k → ds' ≡ ds ++ d ∷ []
       → AreNewDesks script clock boxes w (k + 1) (k % w) ds'
   desks-more k ds ds' d h n a e = record {
     each = subst (AllByRecursion (IsNewDesk script clock boxes w)) (sym e) (each_append (IsNewDesk script clock boxes w) ds (d ∷ []) h.each (n, tt));
@@ -150,7 +160,8 @@ module _ (script : Script) (clock : TableId) (boxes : List Boxed) (w : ℕ) wher
   desks-same k i ds n h = record { each = h.each; actors = h.actors ∙ sym (dealt-there script.space w i k n) }
 
   -- a desk at which nothing was done is one
-  pub desk-new : (d : Desk) → is_actor script d.actor ≡ true → IsNewSeat clock (place_of script.space d.actor) d.seat → IsMachine script d.actor [] d.machine → HasInPort w boxes (place_of script.space d.actor) d.inbox → ins_of d.inbox ≡ []
+  pub desk-new : (d : Desk) → is_actor script d.actor ≡ true → IsNewSeat clock (place_of script.space d.actor) d.seat
+      → IsMachine script d.actor [] d.machine → HasInPort w boxes (place_of script.space d.actor) d.inbox → ins_of d.inbox ≡ []
       → d.part.items ≡ [] → d.kept.items ≡ [] → d.heard.items ≡ replicate (w + 1) 0 → IsNewDesk script clock boxes w d
   desk-new d exists seat machine inbox ins part kept heard = record {
     whole = record {
@@ -162,7 +173,10 @@ module _ (script : Script) (clock : TableId) (boxes : List Boxed) (w : ℕ) wher
         own = subst (λ l. IsOwn script d.actor (entries_before l)) (sym part) tt;
         fed = subst (λ l. IsFed script (past_of l)) (sym part) tt;
         inbox = inbox;
-        heard = (ap length heard ∙ length-replicate (w + 1) 0, subst (IsHeardFrom 0 d.heard.items) (sym ins) (subst (λ ns. IsHeardFrom 0 ns []) (sym heard) (heard-none (w + 1) 0)));
+        heard = (
+          ap length heard ∙ length-replicate (w + 1) 0,
+          subst (IsHeardFrom 0 d.heard.items) (sym ins) (subst (λ ns. IsHeardFrom 0 ns []) (sym heard) (heard-none (w + 1) 0)),
+        );
         told = ap (λ l. told l ++ []) part ∙ sym (ap (map (λ (s : Sent). s.mailed)) ins);
         kept = subst (AreGood script clock) (sym kept) tt;
         few = let n = ap length part in omega (arith, n);
@@ -178,7 +192,8 @@ module _ (script : Script) (clock : TableId) (boxes : List Boxed) (w : ℕ) wher
       heard-none (suc m) j = (refl, heard-none m (suc j))
 
   -- a crew that has done nothing is one
-  kept-none : (h : Mailed → ℕ) (ds : List Desk) → AllByRecursion (IsNewDesk script clock boxes w) ds → (total (λ (d : Desk). kept_weight h d.kept.items) ds ≡ 0) × (made_weight h ds ≡ 0)
+  kept-none : (h : Mailed → ℕ) (ds : List Desk) → AllByRecursion (IsNewDesk script clock boxes w) ds
+      → (total (λ (d : Desk). kept_weight h d.kept.items) ds ≡ 0) × (made_weight h ds ≡ 0)
   kept-none h [] n = (refl, refl)
   kept-none h (d ∷ ds) n =
       let r = kept-none h ds n.1 in
@@ -192,18 +207,22 @@ module _ (script : Script) (clock : TableId) (boxes : List Boxed) (w : ℕ) wher
   news-of [] n = tt
   news-of (d ∷ ds) n = ((n.0.part, n.0.kept), news-of ds n.1)
 
-  booked-new : (i : ℕ) (c : Crew) → IsNewOutbox boxes i c.out → AllByRecursion (IsNewDesk script clock boxes w) c.desks.items → c.totals ≡ no_totals → IsBooked c
+  booked-new : (i : ℕ) (c : Crew) → IsNewOutbox boxes i c.out
+      → AllByRecursion (IsNewDesk script clock boxes w) c.desks.items → c.totals ≡ no_totals → IsBooked c
   booked-new i c o n t = record {
     posts = [];
     before = untouched;
     after = untouched;
     offered = subst (λ s. IsOffered (λ h. 0) (λ h. weight_in h c.out c.desks.items) no_totals s untouched untouched []) (sym t)
-        (offered-none (λ h. 0) (λ h. weight_in h c.out c.desks.items) no_totals untouched (λ h. let a = no-weight h c.out.ports.items o.new in let b = (kept-none h c.desks.items n).0 in omega (arith, a, b)));
+        (offered-none (λ h. 0) (λ h. weight_in h c.out c.desks.items) no_totals untouched
+        (λ h. let a = no-weight h c.out.ports.items o.new in let b = (kept-none h c.desks.items n).0 in omega (arith, a, b)));
     made = λ h. sym (kept-none h c.desks.items n).1;
     few = let a = (kept-none (λ m. 1) c.desks.items n).1 in omega (arith, a);
   }
 
-  pub crew-new : (i : ℕ) (c : Crew) → IsNewOutbox boxes i c.out → AllByRecursion (IsNewDesk script clock boxes w) c.desks.items → length c.desks.items ≤ MOST_ACTORS → c.totals ≡ no_totals → c.fault ≡ None
+  pub crew-new : (i : ℕ) (c : Crew) → IsNewOutbox boxes i c.out
+      → AllByRecursion (IsNewDesk script clock boxes w) c.desks.items → length c.desks.items ≤ MOST_ACTORS
+      → c.totals ≡ no_totals → c.fault ≡ None
       → IsCrew script clock boxes w c × IsNewCrew c
   crew-new i c o n few t f = (
     record {
@@ -225,19 +244,24 @@ module _ (script : Script) (clock : TableId) (boxes : List Boxed) (w : ℕ) wher
     pub new : AllByRecursion IsNewCrew crews
 
   -- one crew more
-  pub crews-more : IsScript script → (n : ℕ) (crews crews' : List Crew) (c : Crew) → AreCrewsSoFar crews → crews' ≡ crews ++ c ∷ [] → n ≡ length (actors_of script)
-      → IsNewOutbox boxes (length crews) c.out → AreNewDesks script clock boxes w n (length crews) c.desks.items → c.totals ≡ no_totals → c.fault ≡ None → AreCrewsSoFar crews'
+  pub crews-more : IsScript script → (n : ℕ) (crews crews' : List Crew) (c : Crew) → AreCrewsSoFar crews
+      → crews' ≡ crews ++ c ∷ [] → n ≡ length (actors_of script)
+      → IsNewOutbox boxes (length crews) c.out → AreNewDesks script clock boxes w n (length crews) c.desks.items
+      → c.totals ≡ no_totals → c.fault ≡ None → AreCrewsSoFar crews'
   crews-more valid n crews crews' c h e many out desks t f =
       let all : n ≡ 1 + script.space.servers + length script.sessions = many ∙ all-length script in
       let few : n ≤ MOST_ACTORS = let a = valid.space.servers.1 in let b = valid.sessions in omega (arith, all, a, b) in
       let short : length c.desks.items ≤ MOST_ACTORS =
-      let a = dealt-short script.space w (length crews) n in let b = ap length desks.actors in let d = map-length (λ (x : Desk). x.actor) c.desks.items in omega (arith, a, b, d, few) in
+      let a = dealt-short script.space w (length crews) n in let b = ap length desks.actors in
+      let d = map-length (λ (x : Desk). x.actor) c.desks.items in omega (arith, a, b, d, few) in
       let new = crew-new (length crews) c out desks.each short t f in
       subst AreCrewsSoFar (sym e) (record {
         crews_are = each_append (IsCrew script clock boxes w) crews (c ∷ []) h.crews_are (new.0, tt);
-        numbered = map-append (λ (x : Crew). x.out.index) crews (c ∷ []) ∙ ap (λ l. l ++ c.out.index ∷ []) h.numbered ∙ ap (λ i. below (length crews) ++ i ∷ []) out.index
+        numbered = map-append (λ (x : Crew). x.out.index) crews (c ∷ []) ∙ ap (λ l. l ++ c.out.index ∷ []) h.numbered
+            ∙ ap (λ i. below (length crews) ++ i ∷ []) out.index
             ∙ ap below (let z : suc (length crews) ≡ length (crews ++ c ∷ []) = let a = length-append crews (c ∷ []) in omega (arith, a) in z);
-        dealt = at_each_snoc (λ (i : ℕ) (x : Crew). map (λ (d : Desk). d.actor) x.desks.items ≡ actors_dealt script w i) crews c h.dealt (desks.actors ∙ dealt-all script w (length crews) n all);
+        dealt = at_each_snoc (λ (i : ℕ) (x : Crew). map (λ (d : Desk). d.actor) x.desks.items
+            ≡ actors_dealt script w i) crews c h.dealt (desks.actors ∙ dealt-all script w (length crews) n all);
         new = each_append IsNewCrew crews (c ∷ []) h.new (new.1, tt);
       })
 

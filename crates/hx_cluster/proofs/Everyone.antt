@@ -1,5 +1,6 @@
 -- Each actor of a script is dealt to one driver.
-use Rattle.std.proofs.Common.{◌≡◌, ◌≢◌, ℕ, zero, suc, ◌+◌, ◌<◌, ◌≤◌, ◌%◌, ◌⊎◌, inl, inr, ⊎_elim, Bool, true, false, eqb, List, [], ◌∷◌, ◌++◌, map, length, slice_get, Some, refl, ap, sym, subst, ◌∙◌, arith}
+use Rattle.std.proofs.Common.{◌≡◌, ◌≢◌, ℕ, zero, suc, ◌+◌, ◌<◌, ◌≤◌, ◌%◌, ◌⊎◌, inl, inr, ⊎_elim, Bool, true, false}
+use Rattle.std.proofs.Common.{eqb, List, [], ◌∷◌, ◌++◌, map, length, slice_get, Some, refl, ap, sym, subst, ◌∙◌, arith}
 use Rattle.std.specs.List.{IsDistinct, filter, flat_map}
 use Rattle.std.proofs.Math.Nat.{mod-lt}
 use Rattle.std.proofs.lemmas.Bool.{cond_both, false≢true}
@@ -32,7 +33,8 @@ module _ {A : Type 0} (e : A → A → Bool) where
   distinct-append : (xs ys : List A) → IsDistinct e xs → IsDistinct e ys → ((x y : A) → IsIn x xs → IsIn y ys → e x y ≡ false) → IsDistinct e (xs ++ ys)
   distinct-append [] ys p q f = q
   distinct-append (x ∷ xs) ys p q f =
-      IsDistinct-cons e x (xs ++ ys) (each_append (λ y. e x y ≡ false) xs ys (IsDistinct-head e x xs p) (each_all (λ y. e x y ≡ false) ys (λ y i. f x y (inl refl) i)))
+      IsDistinct-cons e x (xs ++ ys) (each_append (λ y. e x y ≡ false) xs ys (IsDistinct-head e x xs p)
+      (each_all (λ y. e x y ≡ false) ys (λ y i. f x y (inl refl) i)))
       (distinct-append xs ys (IsDistinct-tail e x xs p) q (λ z y i j. f z y (inr i) j))
 
   distinct-filter : (test : A → Bool) (xs : List A) → IsDistinct e xs → IsDistinct e (filter test xs)
@@ -40,7 +42,8 @@ module _ {A : Type 0} (e : A → A → Bool) where
   distinct-filter test (x ∷ xs) p =
       let r = distinct-filter test xs (IsDistinct-tail e x xs p) in
       cond_both (test x) (x ∷ filter test xs) (filter test xs) (IsDistinct e)
-      (λ t. IsDistinct-cons e x (filter test xs) (each_all (λ y. e x y ≡ false) (filter test xs) (λ y i. each_in (λ y. e x y ≡ false) xs y (IsDistinct-head e x xs p) (in-filter test xs y i).0)) r)
+      (λ t. IsDistinct-cons e x (filter test xs) (each_all (λ y. e x y ≡ false) (filter test xs)
+      (λ y i. each_in (λ y. e x y ≡ false) xs y (IsDistinct-head e x xs p) (in-filter test xs y i).0)) r)
       (λ f. r)
 
 not-same : (a b : Actor) → a ≢ b → same_actor a b ≡ false
@@ -54,14 +57,16 @@ first-distinct : (space : Space) (n : ℕ) → IsDistinct same_actor (first_acto
 first-distinct space zero = distinct-none same_actor
 first-distinct space (suc n) =
     subst (IsDistinct same_actor) (sym (map-append (actor_at space) (below n) (n ∷ [])))
-    (distinct-append same_actor (first_actors space n) (actor_at space n ∷ []) (first-distinct space n) (IsDistinct-cons same_actor (actor_at space n) [] tt (distinct-none same_actor)) cross)
+    (distinct-append same_actor (first_actors space n) (actor_at space n ∷ []) (first-distinct space n)
+    (IsDistinct-cons same_actor (actor_at space n) [] tt (distinct-none same_actor)) cross)
   where
     cross : (x y : Actor) → IsIn x (first_actors space n) → IsIn y (actor_at space n ∷ []) → same_actor x y ≡ false
     cross x y i (inr j) = absurd j
     cross x y i (inl f) =
         let k = in-map (actor_at space) (below n) x i in
         let lt = in-below n k.0 k.1 in
-        not-same x y (λ e. let p : k.0 ≡ n = sym (place-at space k.0) ∙ ap (place_of space) (sym k.2 ∙ e ∙ f) ∙ place-at space n in absurd (omega (arith, lt, p)))
+        not-same x y (λ e. let p : k.0 ≡ n = sym (place-at space k.0) ∙ ap (place_of space) (sym k.2 ∙ e ∙ f)
+        ∙ place-at space n in absurd (omega (arith, lt, p)))
 
 in-first : (space : Space) (n k : ℕ) → k < n → IsIn (actor_at space k) (first_actors space n)
 in-first space zero k lt = absurd (omega (arith, lt))
@@ -71,7 +76,8 @@ in-first space (suc n) k lt =
     (λ (h : k < n). in_left (first_actors space n) (actor_at space n ∷ []) (actor_at space k) (in-first space n k h)) (apart k n lt))
   where
     apart : (k n : ℕ) → k < suc n → (k ≡ n) ⊎ (k < n)
-    apart k n lt = ⊎_elim (λ (h : (eqb k n ≡ true) × (k ≡ n)). inl h.1) (λ (h : (eqb k n ≡ false) × (k ≢ n)). inr (let d = h.1 in omega (arith, lt, d))) (eqb_tells k n)
+    apart k n lt = ⊎_elim (λ (h : (eqb k n ≡ true) × (k ≡ n)). inl h.1)
+        (λ (h : (eqb k n ≡ false) × (k ≢ n)). inr (let d = h.1 in omega (arith, lt, d))) (eqb_tells k n)
 
 is-in-all : (script : Script) (a : Actor) → Exists script a → IsIn a (actors_of script)
 is-in-all script a h =
@@ -106,7 +112,8 @@ eqb-same k = ⊎_elim (λ (h : (eqb k k ≡ true) × (k ≡ k)). h.0) (λ (h : (
 
 actors-flat : (crews : List Crew) → map (λ (d : Desk). d.actor) (desks_of crews) ≡ flat_map (λ (c : Crew). map (λ (d : Desk). d.actor) c.desks.items) crews
 actors-flat [] = refl
-actors-flat (c ∷ crews) = map-append (λ (d : Desk). d.actor) c.desks.items (desks_of crews) ∙ ap (λ l. map (λ (d : Desk). d.actor) c.desks.items ++ l) (actors-flat crews)
+actors-flat (c ∷ crews) = map-append (λ (d : Desk). d.actor) c.desks.items (desks_of crews)
+    ∙ ap (λ l. map (λ (d : Desk). d.actor) c.desks.items ++ l) (actors-flat crews)
 
 -- the crews of the drivers from j on
 abbrev AreDealtFrom : Script → ℕ → ℕ → List Crew → Type 0
@@ -116,13 +123,15 @@ module _ (script : Script) (w : ℕ) where
   of-driver : (i : ℕ) (a : Actor) → IsIn a (actors_dealt script w i) → place_of script.space a % w ≡ i
   of-driver i a h = eqb-is (place_of script.space a % w) i (in-filter (λ (a : Actor). eqb (place_of script.space a % w) i) (actors_of script) a h).1
 
-  apart-from : (j : ℕ) (crews : List Crew) → AreDealtFrom script w j crews → IsDistinct same_actor (flat_map (λ (c : Crew). map (λ (d : Desk). d.actor) c.desks.items) crews)
+  apart-from : (j : ℕ) (crews : List Crew) → AreDealtFrom script w j crews
+      → IsDistinct same_actor (flat_map (λ (c : Crew). map (λ (d : Desk). d.actor) c.desks.items) crews)
   apart-from j [] h = distinct-none same_actor
   apart-from j (c ∷ crews) h =
       let here : map (λ (d : Desk). d.actor) c.desks.items ≡ actors_dealt script w (j + 0) = h 0 c refl in
       let there : AreDealtFrom script w (suc j) crews = λ i d e. h (suc i) d e ∙ ap (actors_dealt script w) (next j i) in
       distinct-append same_actor (map (λ (d : Desk). d.actor) c.desks.items) (flat_map (λ (c : Crew). map (λ (d : Desk). d.actor) c.desks.items) crews)
-      (subst (IsDistinct same_actor) (sym here) (distinct-filter same_actor (λ (a : Actor). eqb (place_of script.space a % w) (j + 0)) (actors_of script) (all-distinct script)))
+      (subst (IsDistinct same_actor) (sym here) (distinct-filter same_actor
+      (λ (a : Actor). eqb (place_of script.space a % w) (j + 0)) (actors_of script) (all-distinct script)))
       (apart-from (suc j) crews there)
       (λ x y ix iy.
       let f = in-flat_map (λ (c : Crew). map (λ (d : Desk). d.actor) c.desks.items) crews y iy in
@@ -134,7 +143,9 @@ module _ (script : Script) (w : ℕ) where
       next : (j i : ℕ) → j + suc i ≡ suc j + i
       next j i = omega arith
 
-  pub everyone : (crews : List Crew) → length crews ≡ w → 1 ≤ w → AtEach (λ (i : ℕ) (c : Crew). map (λ (d : Desk). d.actor) c.desks.items ≡ actors_dealt script w i) crews → HaveAllActors script crews
+  pub everyone : (crews : List Crew) → length crews ≡ w → 1 ≤ w
+      → AtEach (λ (i : ℕ) (c : Crew). map (λ (d : Desk). d.actor) c.desks.items ≡ actors_dealt script w i) crews
+      → HaveAllActors script crews
   everyone crews many some dealt = record {
     all = λ a is.
         let h = exists-is script a is in

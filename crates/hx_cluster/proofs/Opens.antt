@@ -13,13 +13,15 @@ use Rattle.hx_cluster.specs.Opened.{AreOutPortsFrom}
 abbrev pub split_view : BoxNames → ℕ → PortView
 split_view names n = port 0 (Some names) (lists_of 0 [] [] ∷ []) (Some n)
 
-pub out-snoc : (j : ℕ) (box : Boxed) (ps : List Ported) (p : Ported) → AreOutPortsFrom j box ps → IsOutPort (j + length ps) box p → outs_of p ≡ [] → AreOutPortsFrom j box (ps ++ p ∷ [])
+pub out-snoc : (j : ℕ) (box : Boxed) (ps : List Ported) (p : Ported) → AreOutPortsFrom j box ps
+    → IsOutPort (j + length ps) box p → outs_of p ≡ [] → AreOutPortsFrom j box (ps ++ p ∷ [])
 out-snoc j box [] p h o e = let z : j + 0 ≡ j = omega arith in (subst (λ k. IsOutPort k box p) z o, e, refl)
 out-snoc j box (q ∷ ps) p h o e =
     let z : j + length (q ∷ ps) ≡ suc j + length ps = omega arith in
     (h.0, h.1, out-snoc (suc j) box ps p h.2 (subst (λ k. IsOutPort k box p) z o) e)
 
-pub split-out : (j : ℕ) (box : Boxed) (p : Ported) (v : PortView) → v ≡ split_view box.names j → IsPortOf box p → p.view ≡ split_off v → IsOutPort j box p × (outs_of p ≡ [])
+pub split-out : (j : ℕ) (box : Boxed) (p : Ported) (v : PortView) → v ≡ split_view box.names j → IsPortOf box p
+    → p.view ≡ split_off v → IsOutPort j box p × (outs_of p ≡ [])
 split-out j box p v e of k =
     let w : p.view ≡ port (j + 1) (Some box.names) (lists_of (j + 1) [] [] ∷ []) None = k ∙ ap split_off e in
     let o : outs_of p ≡ [] = ap (λ (x : PortView). put_first x.lists) w in (

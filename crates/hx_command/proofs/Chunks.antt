@@ -32,8 +32,14 @@ module _ {A B : Type 0} (of : A → List B) (long : ℕ) where
   item_of [] k j y all within at = absurd (none-some y at)
   item_of (x ∷ xs) zero j y all within at =
       let e : 0 * long + j ≡ j = omega arith in
-      record { list = x; stands = refl; item = sym (get_first (of x) (flat_map of xs) j (omega (arith, within, all.0))) ∙ ap (slice_get (of x ++ flat_map of xs)) (sym e) ∙ at }
+      record {
+        list = x;
+        stands = refl;
+        item = sym (get_first (of x) (flat_map of xs) j
+            (omega (arith, within, all.0))) ∙ ap (slice_get (of x ++ flat_map of xs)) (sym e) ∙ at;
+      }
   item_of (x ∷ xs) (suc k) j y all within at =
       let e : suc k * long + j ≡ length (of x) + (k * long + j) = times_more k long j (length (of x)) all.0 in
-      let later = item_of xs k j y all.1 within (sym (get_later (of x) (flat_map of xs) (k * long + j)) ∙ ap (slice_get (of x ++ flat_map of xs)) (sym e) ∙ at) in
+      let later = item_of xs k j y all.1 within (sym (get_later (of x) (flat_map of xs) (k * long + j))
+      ∙ ap (slice_get (of x ++ flat_map of xs)) (sym e) ∙ at) in
       record { list = later.list; stands = later.stands; item = later.item }

@@ -9,7 +9,8 @@ use Rattle.hx_script.specs.declared.errors.ScriptError.TheVariants as a_script_e
 use Rattle.hx_replay.specs.Streams.{Stream}
 use Rattle.hx_replay.specs.Causes.{limit}
 use Rattle.hx_replay.proofs.Lemmas.{refused_scripted}
-use Rattle.hx_command.specs.Threads.{EndsReading, EndsWith, Handed, IsDecided, IsReadAs, IsTextFaulty, IsTextIn, IsTextJudged, Language, ReadsAs, StopsReading, any_version, nothing, version_1}
+use Rattle.hx_command.specs.Threads.{EndsReading, EndsWith, Handed, IsDecided, IsReadAs, IsTextFaulty, IsTextIn}
+use Rattle.hx_command.specs.Threads.{IsTextJudged, Language, ReadsAs, StopsReading, any_version, nothing, version_1}
 use Rattle.hx_replay.specs.declared.outcomes.Outcome.{Outcome}
 use Rattle.hx_replay.specs.declared.outcomes.Outcome.TheVariants.{Fine, Usage, Refused, TooLarge, ReadFault, WriteFault, Memory, Worn, Wrong}
 use Rattle.hx_replay.specs.declared.texts.Scripted.{Scripted}
@@ -17,7 +18,19 @@ use Rattle.hx_replay.specs.declared.texts.Scripted.TheVariants.{One}
 
 -- a script, where there is none to name
 pub no_script : Script
-no_script = record { space = record { name = []; key_name = []; key_parts = 0; attributes = []; subspaces = []; servers = 0; tolerate = 0 }; sessions = []; steps = [] }
+no_script = record {
+  space = record {
+    name = [];
+    key_name = [];
+    key_parts = 0;
+    attributes = [];
+    subspaces = [];
+    servers = 0;
+    tolerate = 0;
+  };
+  sessions = [];
+  steps = [];
+}
 
 pub no_scripted : Scripted
 no_scripted = One no_script
@@ -25,7 +38,8 @@ no_scripted = One no_script
 -- what is read isn't refused, and what is refused is so in one way
 pub record IsExact {A : Type 0} (language : Language A) : Type 0 where
   pub apart : (text : List ℕ) (x : A) (line : ℕ) (reason : Reason) → language.reads text x → language.refuses text line reason → ⊥
-  pub single : (text : List ℕ) (line at : ℕ) (reason why : Reason) → language.refuses text line reason → language.refuses text at why → Refused line reason ≡ Refused at why
+  pub single : (text : List ℕ) (line at : ℕ) (reason why : Reason) → language.refuses text line reason
+      → language.refuses text at why → Refused line reason ≡ Refused at why
 
 pub version_1_exact : IsExact version_1
 version_1_exact = record {
@@ -39,7 +53,8 @@ any_version_exact = record {
   single = λ text line at reason why one other. let both = sym one ∙ other in cc;
 }
 
-module _ {A : Type 0} (language : Language A) (good : Handed → List ℕ → Type 0) (worn : Handed → Actor → Type 0) (x : A) (source sink : Stream) (h : Handed) where
+module _ {A : Type 0} (language : Language A) (good : Handed → List ℕ → Type 0) (worn : Handed → Actor → Type 0)
+    (x : A) (source sink : Stream) (h : Handed) where
   unread_ends : (outcome : Outcome) → h ≡ nothing → StopsReading language source outcome → EndsReading language good worn x source sink h outcome
   unread_ends Fine none cause = absurd cause
   unread_ends Usage none cause = cause
@@ -52,7 +67,8 @@ module _ {A : Type 0} (language : Language A) (good : Handed → List ℕ → Ty
   unread_ends (Wrong line clause) none cause = absurd cause
 
   -- no script was read
-  pub unread_with : (outcome shown : Outcome) → h ≡ nothing → shown ≡ outcome → StopsReading language source outcome → EndsReading language good worn x source sink h shown
+  pub unread_with : (outcome shown : Outcome) → h ≡ nothing → shown ≡ outcome → StopsReading language source outcome
+      → EndsReading language good worn x source sink h shown
   unread_with outcome shown none is cause = subst (λ (o : Outcome). EndsReading language good worn x source sink h o) (sym is) (unread_ends outcome none cause)
 
   -- a script was read
@@ -108,21 +124,25 @@ module _ {A : Type 0} (language : Language A) (exact : IsExact language) where
     judged_ran text (Worn a) read ends = (read.0, (x, read.1))
     judged_ran text (Wrong line clause) read ends = absurd ends
 
-    if_ran : (before : Option (List ℕ)) (outcome : Outcome) → IfSome before (λ text. IsReadAs language text (Ok x)) → EndsWith good worn sink h outcome → IfSome before (λ text. IsTextJudged language text outcome)
+    if_ran : (before : Option (List ℕ)) (outcome : Outcome) → IfSome before (λ text. IsReadAs language text (Ok x))
+        → EndsWith good worn sink h outcome → IfSome before (λ text. IsTextJudged language text outcome)
     if_ran None outcome read ends = tt
     if_ran (Some text) outcome read ends = judged_ran text outcome read ends
 
     -- what decides a call whose script was read
-    pub decided_ran : (outcome : Outcome) → IfSome source.before (λ text. IsReadAs language text (Ok x)) → EndsWith good worn sink h outcome → IsDecided language source sink outcome
+    pub decided_ran : (outcome : Outcome) → IfSome source.before (λ text. IsReadAs language text (Ok x))
+        → EndsWith good worn sink h outcome → IsDecided language source sink outcome
     decided_ran outcome read ends =
         record {
           judged = if_ran source.before outcome read ends;
-          faulty = λ text wanted told faulty still. absurd (not_faulty text wanted (at_text source.before text (λ t. IsReadAs language t (Ok x)) told read) faulty);
+          faulty = λ text wanted told faulty still. absurd
+              (not_faulty text wanted (at_text source.before text (λ t. IsReadAs language t (Ok x)) told read) faulty);
           complete = λ text told short taken still well. ended_well good worn sink h outcome ends well;
         }
 
   module _ (source sink : Stream) (text : List ℕ) (still : Rose source.faults_before source.faults_after → ⊥) where
-    as_wanted : (line : ℕ) (reason : Reason) (wanted : Outcome) → length text ≤ limit → language.refuses text line reason → IsTextFaulty language text wanted → Refused line reason ≡ wanted
+    as_wanted : (line : ℕ) (reason : Reason) (wanted : Outcome) → length text ≤ limit
+        → language.refuses text line reason → IsTextFaulty language text wanted → Refused line reason ≡ wanted
     as_wanted line reason Fine short refused faulty = absurd faulty
     as_wanted line reason Usage short refused faulty = absurd faulty
     as_wanted line reason (Refused at why) short refused faulty = exact.single text line at reason why refused faulty.1
@@ -144,7 +164,8 @@ module _ {A : Type 0} (language : Language A) (exact : IsExact language) where
     as_large (Worn a) large faulty = absurd faulty
     as_large (Wrong at clause) large faulty = absurd faulty
 
-    unread_faulty : (outcome wanted : Outcome) → IsTextJudged language text outcome → StopsReading language source outcome → IsTextFaulty language text wanted → (outcome ≡ wanted) ⊎ (outcome ≡ Memory)
+    unread_faulty : (outcome wanted : Outcome) → IsTextJudged language text outcome
+        → StopsReading language source outcome → IsTextFaulty language text wanted → (outcome ≡ wanted) ⊎ (outcome ≡ Memory)
     unread_faulty Fine wanted judged cause faulty = absurd cause
     unread_faulty Usage wanted judged cause faulty = absurd cause
     unread_faulty (Refused line reason) wanted judged cause faulty = inl (as_wanted line reason wanted judged.0 judged.1 faulty)
@@ -155,7 +176,8 @@ module _ {A : Type 0} (language : Language A) (exact : IsExact language) where
     unread_faulty (Worn a) wanted judged cause faulty = absurd cause
     unread_faulty (Wrong line clause) wanted judged cause faulty = absurd cause
 
-    unread_complete : (outcome : Outcome) → IsTextJudged language text outcome → StopsReading language source outcome → length text ≤ limit → IsTextIn language text
+    unread_complete : (outcome : Outcome) → IsTextJudged language text outcome → StopsReading language source outcome
+        → length text ≤ limit → IsTextIn language text
         → (outcome ≡ Fine) ⊎ (outcome ≡ Memory) ⊎ ((a : Actor) × (outcome ≡ Worn a))
     unread_complete Fine judged cause short taken = absurd cause
     unread_complete Usage judged cause short taken = absurd cause
@@ -168,10 +190,14 @@ module _ {A : Type 0} (language : Language A) (exact : IsExact language) where
     unread_complete (Wrong line clause) judged cause short taken = absurd cause
 
   -- what decides a call that read no script
-  pub decided_unread : (source sink : Stream) (outcome shown : Outcome) → shown ≡ outcome → IfSome source.before (λ text. IsReadAs language text (Err outcome)) → StopsReading language source outcome → IsDecided language source sink shown
+  pub decided_unread : (source sink : Stream) (outcome shown : Outcome) → shown ≡ outcome
+      → IfSome source.before (λ text. IsReadAs language text (Err outcome)) → StopsReading language source outcome
+      → IsDecided language source sink shown
   decided_unread source sink outcome shown is judged cause =
       subst (λ (o : Outcome). IsDecided language source sink o) (sym is) (record {
         judged = judged;
-        faulty = λ text wanted told faulty still. unread_faulty source sink text still outcome wanted (at_text source.before text (λ t. IsReadAs language t (Err outcome)) told judged) cause faulty;
-        complete = λ text told short taken still well. unread_complete source sink text still outcome (at_text source.before text (λ t. IsReadAs language t (Err outcome)) told judged) cause short taken;
+        faulty = λ text wanted told faulty still. unread_faulty source sink text still outcome wanted
+            (at_text source.before text (λ t. IsReadAs language t (Err outcome)) told judged) cause faulty;
+        complete = λ text told short taken still well. unread_complete source sink text still outcome
+            (at_text source.before text (λ t. IsReadAs language t (Err outcome)) told judged) cause short taken;
       })

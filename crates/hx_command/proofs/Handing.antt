@@ -27,7 +27,8 @@ use Rattle.hx_replay.specs.declared.outcomes.Outcome.TheVariants.{Fine, Usage, R
 abbrev pub handed : List (List Entry) → List Seated → List Totals → List Ported → ℕ → Handed
 handed t s a p n = record { traces = t; seats = s; totals = a; ports = p; fates = n }
 
-pub same_handed : (t u : List (List Entry)) (s r : List Seated) (a b : List Totals) (p q : List Ported) (n m : ℕ) → t ≡ u → s ≡ r → a ≡ b → p ≡ q → n ≡ m → handed t s a p n ≡ handed u r b q m
+pub same_handed : (t u : List (List Entry)) (s r : List Seated) (a b : List Totals) (p q : List Ported) (n m : ℕ)
+    → t ≡ u → s ≡ r → a ≡ b → p ≡ q → n ≡ m → handed t s a p n ≡ handed u r b q m
 same_handed t u s r a b p q n m e d f g h = λ i. handed (e i) (d i) (f i) (g i) (h i)
 
 -- an empty list has nothing at any place
@@ -47,8 +48,10 @@ module _ (good : Handed → List ℕ → Type 0) (worn : Handed → Actor → Ty
   by_outcome h bytes (Wrong line clause) g written = absurd written
 
   -- the answer was written, or a prefix of it, or there was no memory
-  pub written_handed : (given h : Handed) (bytes : List ℕ) (outcome : Outcome) → good given bytes → IsHandedWritten sink given h bytes outcome → EndsWith good worn sink h outcome
-  written_handed given h bytes outcome g (inl (same, written)) = subst (λ (x : Handed). EndsWith good worn sink x outcome) (sym same) (by_outcome given bytes outcome g written)
+  pub written_handed : (given h : Handed) (bytes : List ℕ) (outcome : Outcome) → good given bytes
+      → IsHandedWritten sink given h bytes outcome → EndsWith good worn sink h outcome
+  written_handed given h bytes outcome g (inl (same, written)) =
+      subst (λ (x : Handed). EndsWith good worn sink x outcome) (sym same) (by_outcome given bytes outcome g written)
   written_handed given h bytes outcome g (inr (none, empty)) = subst (λ (o : Outcome). EndsWith good worn sink h o) (sym none) empty
 
   -- an actor is worn, or there was no memory
@@ -73,13 +76,16 @@ first_same traces own trace same first =
 
 -- ---- the state of a fate
 -- what is said of a fate from the state in which it was tuned
-pub risen_from : (script : Script) (w : ℕ) (trace : List Entry) (i : ℕ) (t : Totals) (before tuned after : FateState) → tuned ≡ before → HasRisen script w trace i t tuned after → HasRisen script w trace i t before after
+pub risen_from : (script : Script) (w : ℕ) (trace : List Entry) (i : ℕ) (t : Totals) (before tuned after : FateState)
+    → tuned ≡ before → HasRisen script w trace i t tuned after → HasRisen script w trace i t before after
 risen_from script w trace i t before tuned after same risen = subst (λ (f : FateState). HasRisen script w trace i t f after) same risen
 
-pub risen_trace : (script : Script) (w : ℕ) (own trace : List Entry) (i : ℕ) (t : Totals) (before after : FateState) → trace ≡ own → HasRisen script w own i t before after → HasRisen script w trace i t before after
+pub risen_trace : (script : Script) (w : ℕ) (own trace : List Entry) (i : ℕ) (t : Totals) (before after : FateState)
+    → trace ≡ own → HasRisen script w own i t before after → HasRisen script w trace i t before after
 risen_trace script w own trace i t before after same risen = subst (λ (l : List Entry). HasRisen script w l i t before after) (sym same) risen
 
-pub risen_same : (script drawn : Script) (w : ℕ) (trace : List Entry) (i : ℕ) (t : Totals) (f f' : FateState) → script ≡ drawn → HasRisen script w trace i t f f' → HasRisen drawn w trace i t f f'
+pub risen_same : (script drawn : Script) (w : ℕ) (trace : List Entry) (i : ℕ) (t : Totals) (f f' : FateState)
+    → script ≡ drawn → HasRisen script w trace i t f f' → HasRisen drawn w trace i t f f'
 risen_same script drawn w trace i t f f' same risen = subst (λ (s : Script). HasRisen s w trace i t f f') same risen
 
 -- ---- what the law on soaks asks for
@@ -95,16 +101,19 @@ no_halts : (trace : List Entry) → HasNoHalts trace → NoHalts (reverse trace)
 no_halts trace none x i = no_halt_in trace none x (of_reverse trace x i)
 
 -- a run of a drawn script that came to its end is a soak
-is_soak : (seed calls workers : ℕ) (script : Script) (r : SpaceRun) → script ≡ script_drawn seed calls → calls ≤ MOST_CALLS → IsThreaded script workers r None → IsSoak seed calls (reverse r.trace)
+is_soak : (seed calls workers : ℕ) (script : Script) (r : SpaceRun) → script ≡ script_drawn seed calls
+    → calls ≤ MOST_CALLS → IsThreaded script workers r None → IsSoak seed calls (reverse r.trace)
 is_soak seed calls workers script r is few threaded =
     let drawn : IsThreaded (script_drawn seed calls) workers r None = subst (λ (s : Script). IsThreaded s workers r None) is threaded in
     record { few = few; run = drawn.ran.run; no_halts = no_halts r.trace drawn.ran.no_halts; ended = drawn.ran.end.0 }
 
 -- and its summary is that of its calls in order
-pub is_summed : (soaked : Soak) (script : Script) (r : SpaceRun) (bytes : List ℕ) → SoaksSumUpInOrder → script ≡ script_drawn soaked.seed soaked.calls → soaked.calls ≤ MOST_CALLS
+pub is_summed : (soaked : Soak) (script : Script) (r : SpaceRun) (bytes : List ℕ) → SoaksSumUpInOrder
+    → script ≡ script_drawn soaked.seed soaked.calls → soaked.calls ≤ MOST_CALLS
     → IsThreaded script soaked.workers r None → IsSummary script (reverse r.trace) bytes → SumsUp soaked bytes r
 is_summed soaked script r bytes law is few threaded summary =
-    let of_trace : IsSummary (script_drawn soaked.seed soaked.calls) (reverse r.trace) bytes = subst (λ (s : Script). IsSummary s (reverse r.trace) bytes) is summary in
+    let of_trace : IsSummary (script_drawn soaked.seed soaked.calls) (reverse r.trace) bytes =
+    subst (λ (s : Script). IsSummary s (reverse r.trace) bytes) is summary in
     record {
       threaded = subst (λ (s : Script). IsThreaded s soaked.workers r None) is threaded;
       of_trace = of_trace;

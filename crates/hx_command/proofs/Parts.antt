@@ -12,7 +12,8 @@ use Rattle.hx_command.specs.Threads.{no_entries}
 pub map_more : {A B : Type 0} (f : A → B) (xs : List A) (x : A) (old new : List B) → old ≡ map f xs → new ≡ old ++ f x ∷ [] → new ≡ map f (xs ++ x ∷ [])
 map_more f xs x old new was is = is ∙ ap (λ (l : List _). l ++ f x ∷ []) was ∙ sym (map-append f xs (x ∷ []))
 
-pub flat_more : {A B : Type 0} (f : A → List B) (xs : List A) (x : A) (old new : List B) → old ≡ flat_map f xs → new ≡ old ++ f x → new ≡ flat_map f (xs ++ x ∷ [])
+pub flat_more : {A B : Type 0} (f : A → List B) (xs : List A) (x : A) (old new : List B) → old ≡ flat_map f xs
+    → new ≡ old ++ f x → new ≡ flat_map f (xs ++ x ∷ [])
 flat_more f xs x old new was is =
     is ∙ ap (λ (l : List _). l ++ f x) was ∙ ap (λ (l : List _). flat_map f xs ++ l) (sym (append-nil (f x))) ∙ sym (flat_map-append f xs (x ∷ []))
 
@@ -28,8 +29,10 @@ from_place xs ys n m same at =
     take_all (length xs - n) (drop n xs) past ∙ ap (λ (k : ℕ). drop k xs) at ∙ ap (λ (l : List _). drop m l) same
 
 -- for the spaces from a place on
-pub empty_behind : (scripts rest : List Script) (n : ℕ) (own old new : List (List Entry)) → old ≡ own → rest ≡ drop n scripts → new ≡ old ++ no_entries rest → new ≡ own ++ no_entries (drop n scripts)
-empty_behind scripts rest n own old new same later is = is ∙ ap (λ (l : List (List Entry)). l ++ no_entries rest) same ∙ ap (λ (l : List Script). own ++ no_entries l) later
+pub empty_behind : (scripts rest : List Script) (n : ℕ) (own old new : List (List Entry)) → old ≡ own
+    → rest ≡ drop n scripts → new ≡ old ++ no_entries rest → new ≡ own ++ no_entries (drop n scripts)
+empty_behind scripts rest n own old new same later is =
+    is ∙ ap (λ (l : List (List Entry)). l ++ no_entries rest) same ∙ ap (λ (l : List Script). own ++ no_entries l) later
 
 -- where all spaces were run there is none
 pub none_empty : (scripts : List Script) (n : ℕ) (traces : List (List Entry)) → n ≡ length scripts → traces ++ no_entries (drop n scripts) ≡ traces

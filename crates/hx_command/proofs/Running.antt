@@ -1,5 +1,7 @@
 -- Spaces that are run one after the other: how far that came, and which fates each of them had.
-use Rattle.std.proofs.Common.{◌≡◌, ◌∙◌, ◌+◌, ◌*◌, ◌<◌, ◌≤◌, ◌⊎◌, ⊎_elim, inl, inr, ℕ, zero, suc, true, false, List, [], ◌∷◌, ◌++◌, length, map, take, drop, get_or, Option, Some, None, refl, sym, ap, subst, arith}
+use Rattle.std.proofs.Common.{◌≡◌, ◌∙◌, ◌+◌, ◌*◌, ◌<◌, ◌≤◌, ◌⊎◌, ⊎_elim, inl, inr, ℕ, zero, suc, true, false, List, []}
+use Rattle.std.proofs.Common.{◌∷◌, ◌++◌, length, map, take, drop, get_or, Option, Some, None, refl, sym, ap, subst}
+use Rattle.std.proofs.Common.{arith}
 use Rattle.std.proofs.lemmas.List.{drop-drop}
 use Rattle.std.proofs.lemmas.Option.{none-some, same_Some, slice_get-get_or}
 use Rattle.std.specs.Prelude.{IfOk, Ok, Err, Result, is_some, slice_get}
@@ -18,13 +20,15 @@ if_ok_both (Err e) P Q R make p q = tt
 
 -- ---- fates that are taken away from the front
 -- the first is taken
-pub first_taken : {F : Type 0} (taken left : List F) (x : F) (all : List F) → 0 < length left → x ≡ get_or left 0 x → taken ++ left ≡ all → (taken ++ x ∷ []) ++ remove left 0 ≡ all
+pub first_taken : {F : Type 0} (taken left : List F) (x : F) (all : List F) → 0 < length left → x ≡ get_or left 0 x
+    → taken ++ left ≡ all → (taken ++ x ∷ []) ++ remove left 0 ≡ all
 first_taken [] [] x all some is split = absurd (omega (arith, some))
 first_taken [] (y ∷ left) x all some is split = ap (λ z. z ∷ left) is ∙ split
 first_taken (t ∷ taken) left x all some is split = ap (λ l. t ∷ l) (first_taken taken left x (taken ++ left) some is refl) ∙ split
 
 -- each of them stood there
-pub own_at : {F : Type 0} (own left all : List F) (n j : ℕ) (f : F) → own ++ left ≡ all → length own ≡ n → j < n → slice_get all j ≡ Some f → slice_get own j ≡ Some f
+pub own_at : {F : Type 0} (own left all : List F) (n j : ℕ) (f : F) → own ++ left ≡ all → length own ≡ n → j < n
+    → slice_get all j ≡ Some f → slice_get own j ≡ Some f
 own_at own left all n j f split count within at = sym (get_first own left j (omega (arith, count, within))) ∙ ap (λ l. slice_get l j) split ∙ at
 
 get_drop : {F : Type 0} (n : ℕ) (xs : List F) (j : ℕ) → slice_get (drop n xs) j ≡ slice_get xs (n + j)
@@ -63,15 +67,18 @@ module _ {A : Type 0} (see : A → SpaceRun) (w : ℕ) where
   ran_worn a (s ∷ scripts) (r ∷ runs) script run zero within is ran last = absurd ran
   ran_worn a (s ∷ scripts) [] script run (suc i) within is ran last = absurd ran
   ran_worn a (s ∷ scripts) (r ∷ []) script run (suc i) within is ran last = (ran.0, ran_worn a scripts [] script run i (omega (arith, within)) is ran.1 last)
-  ran_worn a (s ∷ scripts) (r ∷ next ∷ runs) script run (suc i) within is ran last = (ran.0, ran_worn a scripts (next ∷ runs) script run i (omega (arith, within)) is ran.1 last)
+  ran_worn a (s ∷ scripts) (r ∷ next ∷ runs) script run (suc i) within is ran last =
+      (ran.0, ran_worn a scripts (next ∷ runs) script run i (omega (arith, within)) is ran.1 last)
 
   -- it was run to its end where no actor was worn
-  pub still_ran : (script : Script) (run : A) (worn : Option Actor) → is_some worn ≡ false → IsThreaded script w (see run) worn → IsThreaded script w (see run) None
+  pub still_ran : (script : Script) (run : A) (worn : Option Actor) → is_some worn ≡ false
+      → IsThreaded script w (see run) worn → IsThreaded script w (see run) None
   still_ran script run None none ran = ran
   still_ran script run (Some a) none ran = absurd (cc)
 
   -- and else until that actor was
-  pub ran_stopped : (worn : Option Actor) (scripts : List Script) (runs : List A) (script : Script) (run : A) (i : ℕ) → i < length scripts → script ≡ get_or scripts i script
+  pub ran_stopped : (worn : Option Actor) (scripts : List Script) (runs : List A) (script : Script) (run : A) (i : ℕ)
+      → i < length scripts → script ≡ get_or scripts i script
       → RanAll w (take i scripts) (map see runs) → IsThreaded script w (see run) worn → is_some worn ≡ true → AreRan w scripts (map see (runs ++ run ∷ [])) worn
   ran_stopped None scripts runs script run i within is ran last some = absurd (cc)
   ran_stopped (Some a) scripts runs script run i within is ran last some = ran_worn a scripts runs script run i within is ran last
@@ -98,15 +105,18 @@ pushed_at (z ∷ xs) x y (suc k) at =
 module _ {A F : Type 0} (see : A → SpaceRun) (fates_in : A → List F) (w : ℕ) (rises : Script → List Entry → ℕ → Totals → F → F → Type 0) where
   -- of one run, which had the first of these fates
   abbrev pub OneRises : List F → Script → A → Type 0
-  OneRises fates script run = (j : ℕ) (f g : F) (t : Totals) → slice_get fates j ≡ Some f → slice_get (fates_in run) j ≡ Some g → slice_get (see run).totals j ≡ Some t → rises script (see run).trace j t f g
+  OneRises fates script run = (j : ℕ) (f g : F) (t : Totals) → slice_get fates j ≡ Some f
+      → slice_get (fates_in run) j ≡ Some g → slice_get (see run).totals j ≡ Some t → rises script (see run).trace j t f g
 
   -- of each run, which had those from its own place on
   abbrev pub AllRise : List F → List Script → List A → Type 0
   AllRise fates scripts runs =
       (k j : ℕ) (script : Script) (run : A) (f g : F) (t : Totals) → j < w → slice_get scripts k ≡ Some script → slice_get runs k ≡ Some run
-      → slice_get fates (k * w + j) ≡ Some f → slice_get (fates_in run) j ≡ Some g → slice_get (see run).totals j ≡ Some t → rises script (see run).trace j t f g
+      → slice_get fates (k * w + j) ≡ Some f → slice_get (fates_in run) j ≡ Some g
+      → slice_get (see run).totals j ≡ Some t → rises script (see run).trace j t f g
 
-  pub rise_more : (fates left : List F) (scripts : List Script) (runs : List A) (script : Script) (run : A) (i : ℕ) → i < length scripts → script ≡ get_or scripts i script → length runs ≡ i
+  pub rise_more : (fates left : List F) (scripts : List Script) (runs : List A) (script : Script) (run : A) (i : ℕ)
+      → i < length scripts → script ≡ get_or scripts i script → length runs ≡ i
       → left ≡ drop (i * w) fates → AllRise fates scripts runs → OneRises left script run → AllRise fates scripts (runs ++ run ∷ [])
   rise_more fates left scripts runs script run i inside is count was before here k j s x f g t within at among p q r = by (pushed_at runs run x k among)
     where
@@ -114,8 +124,11 @@ module _ {A F : Type 0} (see : A → SpaceRun) (fates_in : A → List F) (w : �
       by (inl old) = before k j s x f g t within at old p q r
       by (inr (last, same)) =
           let here_is : k ≡ i = last ∙ count in
-          let s_is : s ≡ script = same_Some s script (sym at ∙ ap (slice_get scripts) here_is ∙ slice_get-get_or scripts i script inside ∙ ap (λ (z : Script). Some z) (sym is)) in
-          let there : slice_get left j ≡ Some f = ap (λ (l : List F). slice_get l j) was ∙ get_drop (i * w) fates j ∙ ap (λ (n : ℕ). slice_get fates (n * w + j)) (sym here_is) ∙ p in
+          let s_is : s ≡ script = same_Some s script (sym at ∙ ap (slice_get scripts) here_is
+          ∙ slice_get-get_or scripts i script inside ∙ ap (λ (z : Script). Some z) (sym is)) in
+          let there : slice_get left j ≡ Some f = ap (λ (l : List F). slice_get l j) was ∙ get_drop (i * w) fates j
+          ∙ ap (λ (n : ℕ). slice_get fates (n * w + j)) (sym here_is) ∙ p in
           subst (λ (y : A). rises s (see y).trace j t f g) same
           (subst (λ (z : Script). rises z (see run).trace j t f g) (sym s_is)
-          (here j f g t there (subst (λ (y : A). slice_get (fates_in y) j ≡ Some g) (sym same) q) (subst (λ (y : A). slice_get (see y).totals j ≡ Some t) (sym same) r)))
+          (here j f g t there (subst (λ (y : A). slice_get (fates_in y) j ≡ Some g) (sym same) q)
+          (subst (λ (y : A). slice_get (see y).totals j ≡ Some t) (sym same) r)))

@@ -1,5 +1,6 @@
 -- What is handed back of several spaces, and what each of their runs has.
-use Rattle.std.proofs.Common.{◌≡◌, ◌∙◌, ◌+◌, ◌*◌, ◌<◌, ◌≤◌, ℕ, zero, suc, List, [], ◌∷◌, ◌++◌, length, map, drop, Option, Some, None, refl, sym, ap, subst, arith}
+use Rattle.std.proofs.Common.{◌≡◌, ◌∙◌, ◌+◌, ◌*◌, ◌<◌, ◌≤◌, ℕ, zero, suc, List, [], ◌∷◌, ◌++◌, length, map, drop}
+use Rattle.std.proofs.Common.{Option, Some, None, refl, sym, ap, subst, arith}
 use Rattle.std.specs.Prelude.{reverse, slice_get}
 use Rattle.std.specs.List.{AllByRecursion, flat_map}
 use Rattle.std.proofs.lemmas.List.{length-append}
@@ -30,13 +31,15 @@ all_long workers [] (r ∷ runs) ran = absurd ran
 all_long workers (s ∷ scripts) [] ran = absurd ran
 all_long workers (s ∷ scripts) (r ∷ runs) ran = (has_long workers s r None ran.0, all_long workers scripts runs ran.1)
 
-worn_long : (workers : ℕ) (a : Actor) (scripts : List Script) (runs : List SpaceRun) → RanUntilWorn workers a scripts runs → AllByRecursion (HasLong workers) runs
+worn_long : (workers : ℕ) (a : Actor) (scripts : List Script) (runs : List SpaceRun)
+    → RanUntilWorn workers a scripts runs → AllByRecursion (HasLong workers) runs
 worn_long workers a [] runs ran = absurd ran
 worn_long workers a (s ∷ scripts) [] ran = absurd ran
 worn_long workers a (s ∷ scripts) (r ∷ []) ran = (has_long workers s r (Some a) ran, tt)
 worn_long workers a (s ∷ scripts) (r ∷ next ∷ rest) ran = (has_long workers s r None ran.0, worn_long workers a scripts (next ∷ rest) ran.1)
 
-ran_long : (workers : ℕ) (scripts : List Script) (runs : List SpaceRun) (worn : Option Actor) → AreRan workers scripts runs worn → AllByRecursion (HasLong workers) runs
+ran_long : (workers : ℕ) (scripts : List Script) (runs : List SpaceRun) (worn : Option Actor)
+    → AreRan workers scripts runs worn → AllByRecursion (HasLong workers) runs
 ran_long workers scripts runs None ran = all_long workers scripts runs ran
 ran_long workers scripts runs (Some a) ran = worn_long workers a scripts runs ran
 
@@ -60,7 +63,8 @@ few_ran workers a (s ∷ scripts) (r ∷ next ∷ rest) ran = let e = few_ran wo
 -- ---- what is handed back, part by part
 module _ {A : Type 0} (see : A → SpaceRun) where
   -- what is handed back of such runs
-  pub record IsHandedOf {B : Type 0} (fates_in : A → List B) (scripts : List Script) (runs : List A) (t : List (List Entry)) (s : List Seated) (a : List Totals) (p : List Ported) (f : List B) : Type 0 where
+  pub record IsHandedOf {B : Type 0} (fates_in : A → List B) (scripts : List Script) (runs : List A)
+      (t : List (List Entry)) (s : List Seated) (a : List Totals) (p : List Ported) (f : List B) : Type 0 where
     pub traces : t ≡ map (λ (x : A). (see x).trace) runs ++ no_entries (drop (length runs) scripts)
     pub seats : s ≡ map (λ (x : A). (see x).seat) runs
     pub totals : a ≡ flat_map (λ (x : A). (see x).totals) runs
@@ -72,18 +76,22 @@ module _ {A : Type 0} (see : A → SpaceRun) where
   length_seen (x ∷ runs) = ap (λ (n : ℕ). suc n) (length_seen runs)
 
   -- the report of such runs
-  pub report_seen : (runs : List A) (told : List (List Entry) → List (List Totals) → Type 0) → told (map (λ (x : A). reverse (see x).trace) runs) (map (λ (x : A). (see x).totals) runs)
+  pub report_seen : (runs : List A) (told : List (List Entry) → List (List Totals) → Type 0)
+      → told (map (λ (x : A). reverse (see x).trace) runs) (map (λ (x : A). (see x).totals) runs)
       → told (map (λ (r : SpaceRun). reverse r.trace) (map see runs)) (map (λ (r : SpaceRun). r.totals) (map see runs))
   report_seen runs told h =
       subst (λ (t : List (List Entry)). told t (map (λ (r : SpaceRun). r.totals) (map see runs))) (sym (map-map (λ (r : SpaceRun). reverse r.trace) see runs))
       (subst (λ (d : List (List Totals)). told (map (λ (x : A). reverse (see x).trace) runs) d) (sym (map-map (λ (r : SpaceRun). r.totals) see runs)) h)
 
-  count_fates : {B : Type 0} (fates_in : A → List B) → ((x : A) → length (fates_in x) ≡ (see x).fates) → (runs : List A) → length (flat_map fates_in runs) ≡ fates_of (map see runs)
+  count_fates : {B : Type 0} (fates_in : A → List B) → ((x : A) → length (fates_in x) ≡ (see x).fates)
+      → (runs : List A) → length (flat_map fates_in runs) ≡ fates_of (map see runs)
   count_fates fates_in each [] = refl
   count_fates fates_in each (x ∷ runs) =
       length-append (fates_in x) (flat_map fates_in runs) ∙ (let e = each x in let later = count_fates fates_in each runs in omega (arith, e, later))
 
-  pub handed_back : {B : Type 0} (fates_in : A → List B) → ((x : A) → length (fates_in x) ≡ (see x).fates) → (scripts : List Script) (runs : List A) (t : List (List Entry)) (s : List Seated) (a : List Totals) (p : List Ported) (fates : List B)
+  pub handed_back : {B : Type 0} (fates_in : A → List B) → ((x : A) → length (fates_in x) ≡ (see x).fates)
+      → (scripts : List Script) (runs : List A) (t : List (List Entry)) (s : List Seated) (a : List Totals)
+      (p : List Ported) (fates : List B)
       → IsHandedOf fates_in scripts runs t s a p fates → handed t s a p (length fates) ≡ handed_from scripts (map see runs)
   handed_back fates_in each scripts runs t s a p fates h =
       same_handed t _ s _ a _ p _ (length fates) _
@@ -96,7 +104,8 @@ module _ {A : Type 0} (see : A → SpaceRun) where
       (ap (λ (l : List _). length l) h.fates ∙ count_fates fates_in each runs)
 
   -- ---- the fates and totals of a thread
-  long_fates : {B : Type 0} (fates_in : A → List B) → ((x : A) → length (fates_in x) ≡ (see x).fates) → (workers : ℕ) (runs : List A) → AllByRecursion (HasLong workers) (map see runs) → AreLong fates_in workers runs
+  long_fates : {B : Type 0} (fates_in : A → List B) → ((x : A) → length (fates_in x) ≡ (see x).fates)
+      → (workers : ℕ) (runs : List A) → AllByRecursion (HasLong workers) (map see runs) → AreLong fates_in workers runs
   long_fates fates_in each workers [] all = tt
   long_fates fates_in each workers (x ∷ runs) all = (each x ∙ all.0.fates, long_fates fates_in each workers runs all.1)
 
@@ -119,20 +128,27 @@ module _ {A : Type 0} (see : A → SpaceRun) where
     pub fate : slice_get (fates_in run) j ≡ Some g
     pub total : slice_get (see run).totals j ≡ Some t
 
-  pub thread_of : {B : Type 0} (fates_in : A → List B) → ((x : A) → length (fates_in x) ≡ (see x).fates) → (workers : ℕ) (scripts : List Script) (runs : List A) (worn : Option Actor)
-      (k j : ℕ) (trace : List Entry) (g : B) (t : Totals) (h : Handed) (fates : List B) → AreRan workers scripts (map see runs) worn → h ≡ handed_from scripts (map see runs) → fates ≡ flat_map fates_in runs
+  pub thread_of : {B : Type 0} (fates_in : A → List B) → ((x : A) → length (fates_in x) ≡ (see x).fates)
+      → (workers : ℕ) (scripts : List Script) (runs : List A) (worn : Option Actor)
+      (k j : ℕ) (trace : List Entry) (g : B) (t : Totals) (h : Handed) (fates : List B)
+      → AreRan workers scripts (map see runs) worn → h ≡ handed_from scripts (map see runs) → fates ≡ flat_map fates_in runs
       → j < workers → slice_get h.traces k ≡ Some trace → slice_get fates (k * workers + j) ≡ Some g → slice_get h.totals (k * workers + j) ≡ Some t
       → IsThreadOf fates_in runs k j trace g t
   thread_of fates_in each workers scripts runs worn k j trace g t h fates ran back kept within first fate total =
       let long : AllByRecursion (HasLong workers) (map see runs) = ran_long workers scripts (map see runs) worn ran in
-      let own : IsItemOf fates_in runs k j g = item_of fates_in workers runs k j g (long_fates fates_in each workers runs long) within (ap (λ (l : List _). slice_get l (k * workers + j)) (sym kept) ∙ fate) in
+      let own : IsItemOf fates_in runs k j g = item_of fates_in workers runs k j g
+      (long_fates fates_in each workers runs long) within
+      (ap (λ (l : List _). slice_get l (k * workers + j)) (sym kept) ∙ fate) in
       let sum : IsItemOf (λ (r : SpaceRun). r.totals) (map see runs) k j t =
-      item_of (λ (r : SpaceRun). r.totals) workers (map see runs) k j t (long_totals workers (map see runs) long) within (ap (λ (x : Handed). slice_get x.totals (k * workers + j)) (sym back) ∙ total) in
+      item_of (λ (r : SpaceRun). r.totals) workers (map see runs) k j t
+      (long_totals workers (map see runs) long) within
+      (ap (λ (x : Handed). slice_get x.totals (k * workers + j)) (sym back) ∙ total) in
       let same : sum.list ≡ see own.list = same_Some sum.list (see own.list) (sym sum.stands ∙ seen_at runs k own.list own.stands) in
       record {
         run = own.list;
         stands = own.stands;
-        trace_is = trace_at runs (no_entries (drop (length (map see runs)) scripts)) k own.list trace own.stands (ap (λ (x : Handed). slice_get x.traces k) (sym back) ∙ first);
+        trace_is = trace_at runs (no_entries (drop (length (map see runs)) scripts)) k own.list trace own.stands
+            (ap (λ (x : Handed). slice_get x.traces k) (sym back) ∙ first);
         fate = own.item;
         total = subst (λ (r : SpaceRun). slice_get r.totals j ≡ Some t) same sum.item;
       }

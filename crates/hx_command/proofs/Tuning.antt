@@ -1,5 +1,6 @@
 -- Items of a list that are changed one after the other.
-use Rattle.std.proofs.Common.{◌≡◌, ◌∙◌, ◌+◌, ◌<◌, ◌≤◌, ◌⊎◌, ⊎_elim, inl, inr, ℕ, zero, suc, List, [], ◌∷◌, length, get_or, set, slice_get, Some, refl, ap, sym, arith, rules}
+use Rattle.std.proofs.Common.{◌≡◌, ◌∙◌, ◌+◌, ◌<◌, ◌≤◌, ◌⊎◌, ⊎_elim, inl, inr, ℕ, zero, suc, List, [], ◌∷◌, length}
+use Rattle.std.proofs.Common.{get_or, set, slice_get, Some, refl, ap, sym, arith, rules}
 use Rattle.std.specs.Prelude.{◌≢◌}
 use Rattle.std.proofs.lemmas.Option.{slice_get_within, slice_get-get_or}
 
@@ -41,7 +42,8 @@ module _ {A B : Type 0} (of : A → B) (change : B → B) where
   set_stays (z ∷ zs) (suc at) y zero f h other p q = ap of (some_inj h f (sym q ∙ p))
   set_stays (z ∷ zs) (suc at) y (suc i) f h other p q = set_stays zs at y i f h (λ e. other (ap suc e)) p q
 
-  module _ (n : ℕ) (xs ys zs : List A) (same : length ys ≡ length xs) (below : ChangesBelow n xs ys) (from : StaysFrom n xs ys) (here : ChangesAt n ys zs) (beside : StaysBeside n ys zs) where
+  module _ (n : ℕ) (xs ys zs : List A) (same : length ys ≡ length xs) (below : ChangesBelow n xs ys)
+      (from : StaysFrom n xs ys) (here : ChangesAt n ys zs) (beside : StaysBeside n ys zs) where
     between : (i : ℕ) (f : A) → slice_get xs i ≡ Some f → slice_get ys i ≡ Some (get_or ys i f)
     between i f p = slice_get-get_or ys i f (omega (arith, same, slice_get_within xs i f p))
 
@@ -57,7 +59,9 @@ module _ {A B : Type 0} (of : A → B) (change : B → B) where
         by : (i < n) ⊎ (i ≡ n) → of h ≡ change (of f)
         by (inl less) = beside i (get_or ys i f) h (λ e. omega (arith, less, e)) (between i f p) q ∙ below i f (get_or ys i f) less p (between i f p)
         by (inr e) =
-            here (get_or ys i f) h (ap (slice_get ys) (sym e) ∙ between i f p) (ap (slice_get zs) (sym e) ∙ q) ∙ ap change (from i f (get_or ys i f) (omega (arith, e)) p (between i f p))
+            here (get_or ys i f) h (ap (slice_get ys) (sym e) ∙ between i f p) (ap (slice_get zs) (sym e) ∙ q)
+            ∙ ap change (from i f (get_or ys i f) (omega (arith, e)) p (between i f p))
 
     pub one_fewer_stays : StaysFrom (n + 1) xs zs
-    one_fewer_stays i f h le p q = beside i (get_or ys i f) h (λ e. omega (arith, le, e)) (between i f p) q ∙ from i f (get_or ys i f) (omega (arith, le)) p (between i f p)
+    one_fewer_stays i f h le p q = beside i (get_or ys i f) h (λ e. omega (arith, le, e)) (between i f p) q
+        ∙ from i f (get_or ys i f) (omega (arith, le)) p (between i f p)

@@ -47,18 +47,21 @@ shown sink text outcome (inl whole) fine = whole.1
 shown sink text outcome (inr part) fine = let fault = part.0 in absurd (cc)
 
 -- what was written to the word `audit`
-pub audit_answered : (words : List (String Global)) (source sink : Stream) (outcome : Outcome) → SaysAudit words → outcome ≡ Fine → EndsAudit source sink outcome → AnswersAudit words source sink
+pub audit_answered : (words : List (String Global)) (source sink : Stream) (outcome : Outcome) → SaysAudit words
+    → outcome ≡ Fine → EndsAudit source sink outcome → AnswersAudit words source sink
 audit_answered words source sink outcome says fine ends = record { says = says; ends = subst (λ (o : Outcome). EndsAudit source sink o) fine ends }
 
 -- how a run and a soak end that were answered
-pub ran_at : (run : Run) (scripted : Scripted) (source sink : Stream) (h : Handed) (outcome : Outcome) → outcome ≡ Fine → EndsRun run scripted source sink h outcome → EndsRun run scripted source sink h Fine
+pub ran_at : (run : Run) (scripted : Scripted) (source sink : Stream) (h : Handed) (outcome : Outcome)
+    → outcome ≡ Fine → EndsRun run scripted source sink h outcome → EndsRun run scripted source sink h Fine
 ran_at run scripted source sink h outcome fine ends = subst (λ (o : Outcome). EndsRun run scripted source sink h o) fine ends
 
 pub soaked_at : (soak : Soak) (sink : Stream) (h : Handed) (outcome : Outcome) → outcome ≡ Fine → EndsSoak soak sink h outcome → EndsSoak soak sink h Fine
 soaked_at soak sink h outcome fine ends = subst (λ (o : Outcome). EndsSoak soak sink h o) fine ends
 
 -- how a share ends whose report was written
-pub shared_at : (script : Script) (source sink : Stream) (h : Handed) (outcome : Outcome) → outcome ≡ Fine → EndsShare script source sink h outcome → EndsShare script source sink h Fine
+pub shared_at : (script : Script) (source sink : Stream) (h : Handed) (outcome : Outcome) → outcome ≡ Fine
+    → EndsShare script source sink h outcome → EndsShare script source sink h Fine
 shared_at script source sink h outcome fine ends = subst (λ (o : Outcome). EndsShare script source sink h o) fine ends
 
 -- ---- what is told of any words where there was no memory before the call

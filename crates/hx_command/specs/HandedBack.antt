@@ -18,7 +18,13 @@ handed_back finished =
 
 -- what a call hands back of spaces that threads ran
 abbrev pub handed_of : {B : Type 0} {At : B → Type 0} → Threaded B At → Handed
-handed_of made = record { traces = made.traces; seats = made.seats.items; totals = made.totals.items; ports = made.ports.items; fates = length made.fates.items }
+handed_of made = record {
+  traces = made.traces;
+  seats = made.seats.items;
+  totals = made.totals.items;
+  ports = made.ports.items;
+  fates = length made.fates.items;
+}
 
 -- what threads made of one space
 abbrev pub space_run : {B : Type 0} {At : B → Type 0} → Ran B At → SpaceRun

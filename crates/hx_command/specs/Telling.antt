@@ -53,7 +53,9 @@ pub record AnswersShare (words : List (String Global)) (source sink : Stream) (h
 
 -- the answer to the words was written
 abbrev pub Answers : List (String Global) → Stream → Stream → Handed → Type 0
-Answers words source sink h = AnswersAlone words source sink h ⊎ (AnswersAudit words source sink ⊎ (AnswersRun words source sink h ⊎ (AnswersSoak words sink h ⊎ AnswersShare words source sink h)))
+Answers words source sink h = AnswersAlone words source sink h
+    ⊎ (AnswersAudit words source sink ⊎ (AnswersRun words source sink h
+    ⊎ (AnswersSoak words sink h ⊎ AnswersShare words source sink h)))
 
 -- how a call ends, by its words; some value is handed back
 pub record Told (words : List (String Global)) (source sink : Stream) (outcome : Outcome) : Type 0 where

@@ -1,5 +1,6 @@
 -- What the program makes of a script on threads, and how a call with the words of `run`, of `soak` or of `share` ends.
-use Rattle.std.specs.Prelude.{◌≡◌, ◌⊎◌, ◌+◌, ◌*◌, ◌/◌, ◌<◌, ◌≤◌, ℕ, false, List, [], ◌∷◌, ◌++◌, reverse, drop, length, map, min, slice_get, Option, None, Some, Ok, Err, Result, IfSome, ⊤}
+use Rattle.std.specs.Prelude.{◌≡◌, ◌⊎◌, ◌+◌, ◌*◌, ◌/◌, ◌<◌, ◌≤◌, ℕ, false, List, [], ◌∷◌, ◌++◌, reverse, drop, length}
+use Rattle.std.specs.Prelude.{map, min, slice_get, Option, None, Some, Ok, Err, Result, IfSome, ⊤}
 use Rattle.std.specs.List.{AllZip, flat_map}
 use Rattle.std.specs.declared.string.String.{String}
 use Rattle.std.specs.declared.alloc.Global.{Global}
@@ -213,7 +214,8 @@ IsWritten sink bytes an_outcome.Memory = ⊥
 IsWritten sink bytes (an_outcome.Worn a) = ⊥
 IsWritten sink bytes (an_outcome.Wrong line clause) = ⊥
 
--- how a call ends whose script was read, where `good` says what an answer is and `worn` what a worn actor leaves: the answer was written, or a prefix of it and a fault rose, or an actor is worn
+-- how a call ends whose script was read, where `good` says what an answer is and `worn` what a worn
+-- actor leaves: the answer was written, or a prefix of it and a fault rose, or an actor is worn
 abbrev pub EndsWith : (Handed → List ℕ → Type 0) → (Handed → Actor → Type 0) → Stream → Handed → Outcome → Type 0
 EndsWith good worn sink h an_outcome.Fine = (bytes : List ℕ) × good h bytes × IsWritten sink bytes an_outcome.Fine
 EndsWith good worn sink h an_outcome.Usage = ⊥
@@ -314,7 +316,8 @@ EndsReading language good worn x source sink h (an_outcome.Wrong line clause) = 
 
 -- how a call with the words of `run` ends
 abbrev pub EndsRun : Run → Scripted → Stream → Stream → Handed → Outcome → Type 0
-EndsRun run scripted source sink h outcome = EndsReading any_version (IsRunReported run scripted) (IsRunWorn run.workers scripted) scripted source sink h outcome
+EndsRun run scripted source sink h outcome = EndsReading any_version (IsRunReported run scripted)
+    (IsRunWorn run.workers scripted) scripted source sink h outcome
 
 -- how a call with the words of `soak` ends
 abbrev pub EndsSoak : Soak → Stream → Handed → Outcome → Type 0

@@ -5,7 +5,8 @@ use Rattle.hx_model.specs.Types.{Actor, Config, Coordinator, Epoch, RegionId, Se
 use Rattle.hx_types.specs.declared.messages.Message.TheVariants as a_message
 use Rattle.hx_types.specs.Configs.{is_lost, lists_joining}
 use Rattle.hx_types.specs.Words.{post, server_in}
-use Rattle.hx_model.specs.CoordinatorSteps.{Answered, CoordinatorStep, Task, config_ready, config_without, gone_step, poll_step, ready_step, stops_answered, stops_left}
+use Rattle.hx_model.specs.CoordinatorSteps.{Answered, CoordinatorStep, Task, config_ready, config_without, gone_step}
+use Rattle.hx_model.specs.CoordinatorSteps.{poll_step, ready_step, stops_answered, stops_left}
 use Rattle.hx_coord.specs.declared.agendas.Agenda.{Agenda}
 use Rattle.hx_coord.specs.declared.outputs.StepOutput.{StepOutput}
 use Rattle.hx_coord.specs.Changes.{IsOutputOf, issued_as, standing, told}
@@ -72,7 +73,8 @@ module _ (config : Config) (a : Agenda) (s : ServerId) (made : StepOutput) where
 
     -- the region has no such joiner
     pub ready_unlisted : lists_joining config g s ≡ false → made ≡ told a [] → IsOutputOf config (ready_step (standing config a) g (Server s)) made
-    ready_unlisted out e = passed config (not (is_lost config g) && lists_joining config g s) _ _ made (not_second (not (is_lost config g)) _ out) (rested_made config a made e)
+    ready_unlisted out e = passed config (not (is_lost config g) && lists_joining config g s) _ _ made
+        (not_second (not (is_lost config g)) _ out) (rested_made config a made e)
 
 module _ (config : Config) (a : Agenda) (epoch : Epoch) (from : Actor) (made : StepOutput) where
   -- an actor of an older epoch asks

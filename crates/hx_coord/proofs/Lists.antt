@@ -1,5 +1,6 @@
 -- Lists that grow by one item.
-use Rattle.std.proofs.Common.{◌≡◌, ℕ, suc, zero, ◌+◌, ◌<◌, ◌==◌, Bool, true, false, ◌||◌, List, [], ◌∷◌, ◌++◌, length, take, get_or, None, refl, ap, sym, ◌∙◌, add-one, arith}
+use Rattle.std.proofs.Common.{◌≡◌, ℕ, suc, zero, ◌+◌, ◌<◌, ◌==◌, Bool, true, false, ◌||◌, List, [], ◌∷◌, ◌++◌, length}
+use Rattle.std.proofs.Common.{take, get_or, None, refl, ap, sym, ◌∙◌, add-one, arith}
 use Rattle.std.specs.List.{list_any, slice_get}
 use Rattle.std.specs.Prelude.{slice_set, IsSomeAnd}
 use Rattle.std.proofs.lemmas.Bool.{cond-true, cond-false}
@@ -55,7 +56,8 @@ newest_over : (n : Newest) (xs : List Newest) (i : ℕ) → list_any (is_of_sess
 newest_over n [] i none here = absurd here
 newest_over n (x ∷ xs) zero none here = sym (cond-true (same_session x.session n.session) _ _ (same_number x.session.0 n.session.0 here))
 newest_over n (x ∷ xs) (suc i) none here =
-    ap (λ (zs : List Newest). x ∷ zs) (newest_over n xs i (neither _ _ none).1 here) ∙ sym (cond-false (same_session x.session n.session) _ _ (neither _ _ none).0)
+    ap (λ (zs : List Newest). x ∷ zs) (newest_over n xs i (neither _ _ none).1 here)
+    ∙ sym (cond-false (same_session x.session n.session) _ _ (neither _ _ none).0)
 
 pub newest_put : (n : Newest) (xs : List Newest) (i : ℕ) → IsPlaceOf n.session xs i → slice_set xs i n ≡ with_newest n xs
 newest_put n xs i p = newest_over n xs i p.before p.here

@@ -1,5 +1,6 @@
 -- What the coordinator posts in a step: to actors that it or the input names, naming such actors alone, with epochs at most 1 above the greatest.
-use Rattle.std.proofs.Common.{◌≡◌, ℕ, ◌+◌, ◌≤◌, inl, inr, Bool, true, false, not, ◌&&◌, List, [], ◌∷◌, ◌++◌, map, Option, Some, None, refl, sym, subst, arith, cond, eqb, ltb}
+use Rattle.std.proofs.Common.{◌≡◌, ℕ, ◌+◌, ◌≤◌, inl, inr, Bool, true, false, not, ◌&&◌, List, [], ◌∷◌, ◌++◌, map}
+use Rattle.std.proofs.Common.{Option, Some, None, refl, sym, subst, arith, cond, eqb, ltb}
 use Rattle.std.specs.Prelude.{⊤}
 use Rattle.std.specs.List.{All, filter, flat_map, slice_get}
 use Rattle.std.specs.Option.{option_map}
@@ -11,8 +12,15 @@ use Rattle.hx_types.specs.declared.messages.Message.TheVariants as a_message
 use Rattle.hx_types.specs.Configs.{any_joining, any_ready, is_lost, lists_joining, lists_ready, members_of}
 use Rattle.hx_types.specs.Posts.{AnswerUpTo}
 use Rattle.hx_types.specs.Words.{IsIn, below, first_of_list, list_of, post, same_server, server_in}
-use Rattle.hx_model.specs.CoordinatorSteps.{Answered, CoordinatorState, CoordinatorStep, Newest, Task, add_step, adds, administers, again, by_number, config_ready, config_with, config_without, coordinator_message, coordinator_step, coordinator_tick, die_for, gone_step, issue, join_posts, judged, last_ready_pair, members_without, newest_of, outcome, poll_step, ready_if, ready_step, resting, session_posts, stop_step, stops, stops_answered, stops_left, stops_server, telling, to_server, with_number}
-use Rattle.hx_law_lemmas.proofs.Lemmas.{all-of, in-append, in-filter, in-flat_map, in-map, in-provided, in-slice_get, in-slice_set, in-with_newest, newest-in, when_some_both}
+use Rattle.hx_model.specs.CoordinatorSteps.{Answered, CoordinatorState, CoordinatorStep, Newest, Task, add_step, adds}
+use Rattle.hx_model.specs.CoordinatorSteps.{administers, again, by_number, config_ready, config_with, config_without}
+use Rattle.hx_model.specs.CoordinatorSteps.{coordinator_message, coordinator_step, coordinator_tick, die_for}
+use Rattle.hx_model.specs.CoordinatorSteps.{gone_step, issue, join_posts, judged, last_ready_pair, members_without}
+use Rattle.hx_model.specs.CoordinatorSteps.{newest_of, outcome, poll_step, ready_if, ready_step, resting}
+use Rattle.hx_model.specs.CoordinatorSteps.{session_posts, stop_step, stops, stops_answered, stops_left, stops_server}
+use Rattle.hx_model.specs.CoordinatorSteps.{telling, to_server, with_number}
+use Rattle.hx_law_lemmas.proofs.Lemmas.{all-of, in-append, in-filter, in-flat_map, in-map, in-provided, in-slice_get}
+use Rattle.hx_law_lemmas.proofs.Lemmas.{in-slice_set, in-with_newest, newest-in, when_some_both}
 use Rattle.hx_law_posts.proofs.Lemmas.{answer-up}
 use Rattle.hx_coord.specs.Coordinators.{MaybeAnswerUpTo}
 use Rattle.hx_coord.specs.Outcomes.{outcomes}
@@ -151,7 +159,9 @@ module _ (Known : Actor → Type 0) (most : ℕ) where
   judged-small config s g e = by (server_in s config.servers) (is_lost config g) (lists_ready config g s) (any_joining (members_of config g))
     where
       by : (a b c d : Bool)
-          → JudgedSmall (cond (not a) (Some (an_answer.Stopped config.epoch)) (cond b (Some (an_answer.Lost config.epoch)) (cond c (Some (an_answer.Member config.epoch)) (cond d (Some (an_answer.Joining config.epoch)) None))))
+          → JudgedSmall (cond (not a) (Some (an_answer.Stopped config.epoch))
+          (cond b (Some (an_answer.Lost config.epoch))
+          (cond c (Some (an_answer.Member config.epoch)) (cond d (Some (an_answer.Joining config.epoch)) None))))
       by false b c d = e
       by true true c d = e
       by true false true d = e
@@ -163,7 +173,8 @@ module _ (Known : Actor → Type 0) (most : ℕ) where
   stops-good c h caller known s server =
       cond_both (server_in s c.config.servers) _ _ AreGood
       (λ t. one-good (to_server a_message.Die s) (plain-good a_message.Die s server (λ a j. absurd j) tt))
-      (λ t. one-good (outcome caller (an_answer.Stopped c.config.epoch)) (outcome-good caller (an_answer.Stopped c.config.epoch) known (let l = h.low in omega (arith, l))))
+      (λ t. one-good (outcome caller (an_answer.Stopped c.config.epoch))
+      (outcome-good caller (an_answer.Stopped c.config.epoch) known (let l = h.low in omega (arith, l))))
 
   -- a call's number
   number-known : (c : CoordinatorState) → Knows c → (caller : Caller) → Knows (with_number c caller None)
@@ -190,7 +201,8 @@ module _ (Known : Actor → Type 0) (most : ℕ) where
   again-good : (c : CoordinatorState) (caller : Caller) → Known (Session caller.session) → (o : Option Answer) → MaybeAnswerUpTo most o
       → AreGood (again c caller o)
   again-good c caller known None small = none-good
-  again-good c caller known (Some answer) small = one-good (outcome caller answer) (outcome-good caller answer known (answer-up most (most + 1) answer (omega arith) small))
+  again-good c caller known (Some answer) small =
+      one-good (outcome caller answer) (outcome-good caller answer known (answer-up most (most + 1) answer (omega arith) small))
 
   by_number-good : (c : CoordinatorState) → Knows c → (caller : Caller) → Known (Session caller.session) → (o : Option Newest)
       → newest_of caller.session c.newest ≡ o → (new : CoordinatorStep) → AreGood new → AreGood (by_number c caller o new)
@@ -207,13 +219,17 @@ module _ (Known : Actor → Type 0) (most : ℕ) where
   stop-good : (c : CoordinatorState) → Knows c → (number : ℕ) (s : ServerId) → Known (Server s) → (u : SessionId) → Known (Session u)
       → AreGood (stop_step c number s u)
   stop-good c h number s server u known =
-      by_number-good c h (record { session = u; number = number }) known (newest_of u c.newest) refl (stops c (record { session = u; number = number }) s) (stops-good c h (record { session = u; number = number }) known s server)
+      by_number-good c h (record { session = u; number = number }) known (newest_of u c.newest) refl
+      (stops c (record { session = u; number = number }) s)
+      (stops-good c h (record { session = u; number = number }) known s server)
 
   add-good : (c : CoordinatorState) → Knows c → (number : ℕ) (s : ServerId) (g : RegionId) → Known (Server s) → (u : SessionId) → Known (Session u)
       → AreGood (add_step c number s g u)
   add-good c h number s g server u known =
-      by_number-good c h (record { session = u; number = number }) known (newest_of u c.newest) refl (adds c (record { session = u; number = number }) s g (judged c.config s g))
-      (adds-good c h (record { session = u; number = number }) known s g server (judged c.config s g) (judged-small c.config s g (let l = h.low in omega (arith, l))))
+      by_number-good c h (record { session = u; number = number }) known (newest_of u c.newest) refl
+      (adds c (record { session = u; number = number }) s g (judged c.config s g))
+      (adds-good c h (record { session = u; number = number }) known s g server (judged c.config s g)
+      (judged-small c.config s g (let l = h.low in omega (arith, l))))
 
   -- ---- servers
 
@@ -296,8 +312,10 @@ module _ (Known : Actor → Type 0) (most : ℕ) where
   message-good : (c : CoordinatorState) → Knows c → (from : Actor) → Known from → (m : Message) → ((a : Actor) → IsIn a (actors_of_message m) → Known a)
       → AreGood (coordinator_message c from m)
   message-good c h from x a_message.Gone f = gone-good c h from
-  message-good c h from x (a_message.StopServer number server) f = administers-good c from x (stop_step c number server) (stop-good c h number server (f (Server server) (inl refl)))
-  message-good c h from x (a_message.AddReplica number server g) f = administers-good c from x (add_step c number server g) (add-good c h number server g (f (Server server) (inl refl)))
+  message-good c h from x (a_message.StopServer number server) f =
+      administers-good c from x (stop_step c number server) (stop-good c h number server (f (Server server) (inl refl)))
+  message-good c h from x (a_message.AddReplica number server g) f =
+      administers-good c from x (add_step c number server g) (add-good c h number server g (f (Server server) (inl refl)))
   message-good c h from x (a_message.Ready epoch g) f = ready-good c h g from
   message-good c h from x (a_message.Poll epoch) f = poll-good c h epoch from x
   message-good c h from x other f = none-good

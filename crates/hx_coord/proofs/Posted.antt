@@ -11,8 +11,10 @@ use Rattle.hx_types.specs.Words.{IsIn, below, post}
 use Rattle.hx_model.specs.CoordinatorSteps.{CoordinatorState, Newest, coordinator_at_start, coordinator_step}
 use Rattle.hx_law_lemmas.proofs.Lemmas.{all-in, all-of, in-flat, in_left, in_right, map-in}
 use Rattle.hx_law_posts.proofs.Lemmas.{answer-up, first-of_space, DoesWell, IsMaybeSound, IsSoundCoordinator, coordinator-good}
-use Rattle.hx_coord.specs.Coordinators.{CoordinatorUpTo, IsCoordinatorOf, IsInputOf, IsMaybeAnswerOf, IsTaskOf, MaybeAnswerUpTo, actors_of_coordinator, actors_of_task, known_to}
-use Rattle.hx_types.specs.Posted.{ArePostsOf, IsPostOf, MessageUpTo, NameOnly, NamesOnly, PostsUpTo, actors_of_config, actors_of_input, actors_of_message, servers_among}
+use Rattle.hx_coord.specs.Coordinators.{CoordinatorUpTo, IsCoordinatorOf, IsInputOf, IsMaybeAnswerOf, IsTaskOf}
+use Rattle.hx_coord.specs.Coordinators.{MaybeAnswerUpTo, actors_of_coordinator, actors_of_task, known_to}
+use Rattle.hx_types.specs.Posted.{ArePostsOf, IsPostOf, MessageUpTo, NameOnly, NamesOnly, PostsUpTo, actors_of_config}
+use Rattle.hx_types.specs.Posted.{actors_of_input, actors_of_message, servers_among}
 use Rattle.hx_coord.proofs.Making.{IsGood, Knows, KnowsInput, stepped}
 
 -- ---- of the space
@@ -58,7 +60,8 @@ IsSoundInput space sessions entry (Deliver id from m) = IsSoundPost space sessio
 
 well : (space : Space) (c : CoordinatorState) → (h : IsCoordinatorOf space c) → (input : Input) → IsInputOf space c.sessions input
     → DoesWell space c.sessions h.most (coordinator_step c input)
-well space c h input brings = coordinator-good space c.sessions h.most c (record { sound = sound_from space c h; low = h.epoch }) input (sound_input input brings)
+well space c h input brings = coordinator-good space c.sessions h.most c
+    (record { sound = sound_from space c h; low = h.epoch }) input (sound_input input brings)
   where
     sound_input : (input : Input) → IsInputOf space c.sessions input → (id : PostId) (from : Actor) (m : Message) → input ≡ Deliver id from m
         → (j : ℕ) × IsSoundPost space c.sessions j (post from Coordinator m)
@@ -70,7 +73,8 @@ pub posts_of_space : (space : Space) (c : CoordinatorState) → IsCoordinatorOf 
     → ArePostsOf space (coordinator_step c input).posts
 posts_of_space space c h input brings =
     all-of (IsPostOf space) (coordinator_step c input).posts
-    (λ p i. (let sound = (well space c h input brings).posts p i in record { sessions = c.sessions; most = h.most + 1; to = sound.to; between = sound.between; message = sound.message }))
+    (λ p i. (let sound = (well space c h input brings).posts p i in
+    record { sessions = c.sessions; most = h.most + 1; to = sound.to; between = sound.between; message = sound.message }))
 
 pub stays_of_space : (space : Space) (c : CoordinatorState) → IsCoordinatorOf space c → (input : Input) → IsInputOf space c.sessions input
     → IsCoordinatorOf space (coordinator_step c input).state
@@ -100,15 +104,19 @@ knows : (Known : Actor → Type 0) (most : ℕ) (c : CoordinatorState) → ((a :
     → Knows Known most c
 knows Known most c f small = record {
   config = record {
-    servers = λ s i. f (Server s) (names_config c (Server s) (in_left (map (λ (x : ServerId). Server x) c.config.servers) (flat_map servers_among c.config.regions) (Server s) (map-in (λ (x : ServerId). Server x) c.config.servers s i)));
-    members = λ ms i m j. f (Server m.server) (names_config c (Server m.server) (in_right (map (λ (x : ServerId). Server x) c.config.servers) (flat_map servers_among c.config.regions) (Server m.server)
+    servers = λ s i. f (Server s) (names_config c (Server s)
+        (in_left (map (λ (x : ServerId). Server x) c.config.servers) (flat_map servers_among c.config.regions)
+        (Server s) (map-in (λ (x : ServerId). Server x) c.config.servers s i)));
+    members = λ ms i m j. f (Server m.server) (names_config c (Server m.server)
+        (in_right (map (λ (x : ServerId). Server x) c.config.servers) (flat_map servers_among c.config.regions) (Server m.server)
         (in-flat servers_among c.config.regions ms (Server m.server) i (map-in (λ (x : Member). Server x.server) ms m j))));
   };
   todo = λ t i. record {
     caller = f (Session t.caller.session) (names_todo c (Session t.caller.session) (in-flat actors_of_task c.todo t (Session t.caller.session) i (inl refl)));
     op = λ a j. f a (names_todo c a (in-flat actors_of_task c.todo t a i (inr j)));
   };
-  sessions = λ k i. f (Session (record { 0 = k + 1 })) (names_sessions c (Session (record { 0 = k + 1 })) (map-in (λ n. Session (record { 0 = n + 1 })) (below c.sessions) k i));
+  sessions = λ k i. f (Session (record { 0 = k + 1 }))
+      (names_sessions c (Session (record { 0 = k + 1 })) (map-in (λ n. Session (record { 0 = n + 1 })) (below c.sessions) k i));
   low = small.0;
   newest = λ x i. all-in (λ (n : Newest). MaybeAnswerUpTo most n.answer) c.newest x small.1 i;
 }
@@ -129,7 +137,9 @@ names known to m here f = all-of (λ (a : Actor). IsIn a known) (to ∷ actors_o
 pub posts_small : (c : CoordinatorState) (input : Input) (most : ℕ) → CoordinatorUpTo most c → PostsUpTo (most + 1) (coordinator_step c input).posts
 posts_small c input most small =
     all-of (λ (p : Post). MessageUpTo (most + 1) p.message) (coordinator_step c input).posts
-    (λ p i. (all-in (IsGood (λ a. ⊤) most) (coordinator_step c input).posts p (stepped (λ a. ⊤) most c (knows (λ a. ⊤) most c (λ a j. tt) small) input (input_known (λ a. ⊤) most input (λ a j. tt))) i).small)
+    (λ p i. (all-in (IsGood (λ a. ⊤) most) (coordinator_step c input).posts p
+    (stepped (λ a. ⊤) most c (knows (λ a. ⊤) most c (λ a j. tt) small) input
+    (input_known (λ a. ⊤) most input (λ a j. tt))) i).small)
 
 -- every answer is within some bound
 answer_bound : (a : Answer) → (most : ℕ) × AnswerUpTo most a
@@ -157,8 +167,15 @@ answer_bound other = (0, tt)
 -- and so is all that a coordinator keeps
 coordinator_bound : (c : CoordinatorState) → (most : ℕ) × CoordinatorUpTo most c
 coordinator_bound c =
-    let b = of_all c.newest in
-    (c.config.epoch.0 + b.0, (omega arith, all-of (λ (n : Newest). MaybeAnswerUpTo (c.config.epoch.0 + b.0) n.answer) c.newest (λ n i. up b.0 (c.config.epoch.0 + b.0) n.answer (omega arith) (all-in (λ (x : Newest). MaybeAnswerUpTo b.0 x.answer) c.newest n b.1 i))))
+    let b = of_all c.newest in (
+      c.config.epoch.0 + b.0,
+      (
+        omega arith,
+        all-of (λ (n : Newest). MaybeAnswerUpTo (c.config.epoch.0 + b.0) n.answer)
+            c.newest (λ n i. up b.0 (c.config.epoch.0 + b.0) n.answer (omega arith)
+            (all-in (λ (x : Newest). MaybeAnswerUpTo b.0 x.answer) c.newest n b.1 i)),
+      ),
+    )
   where
     up : (m n : ℕ) (o : Option Answer) → m ≤ n → MaybeAnswerUpTo m o → MaybeAnswerUpTo n o
     up m n None l h = tt

@@ -6,7 +6,9 @@ use Rattle.hx_model.specs.Types.{Answer, Caller, Config, Post, RegionId, ServerI
 use Rattle.hx_types.specs.declared.calls.Answer.TheVariants as an_answer
 use Rattle.hx_types.specs.declared.messages.Message.TheVariants as a_message
 use Rattle.hx_types.specs.Words.{server_in}
-use Rattle.hx_model.specs.CoordinatorSteps.{Answered, CoordinatorStep, Task, adds, again, by_number, config_with, coordinator_tick, die_for, issue, join_posts, judged, newest_of, outcome, resting, stops, telling, to_server}
+use Rattle.hx_model.specs.CoordinatorSteps.{Answered, CoordinatorStep, Task, adds, again, by_number, config_with}
+use Rattle.hx_model.specs.CoordinatorSteps.{coordinator_tick, die_for, issue, join_posts, judged, newest_of, outcome}
+use Rattle.hx_model.specs.CoordinatorSteps.{resting, stops, telling, to_server}
 use Rattle.hx_coord.specs.declared.agendas.Agenda.{Agenda}
 use Rattle.hx_coord.specs.declared.outputs.StepOutput.{StepOutput}
 use Rattle.hx_coord.specs.Changes.{IsOutputOf, done_by, issued_as, known_posts, numbered, standing, to_do, told}
@@ -27,7 +29,8 @@ rested_made config a made e = told_made config a [] made e
 pub issued_made : (config next : Config) (a : Agenda) (answered : List Answered) (made : StepOutput) → made ≡ issued_as a next answered
     → IsOutputOf config (issue (standing config a) next answered a.todo) made
 issued_made config next a answered made e =
-    subst (λ (m : StepOutput). IsOutputOf config (issue (standing config a) next answered a.todo) m) (sym e) (record { posts = refl; notes = refl; state = refl })
+    subst (λ (m : StepOutput). IsOutputOf config (issue (standing config a) next answered a.todo) m) (sym e)
+    (record { posts = refl; notes = refl; state = refl })
 
 -- a step that is the same is made, too
 pub made_as : (config : Config) (step other : CoordinatorStep) (made : StepOutput) → step ≡ other → IsOutputOf config other made → IsOutputOf config step made

@@ -4,7 +4,8 @@ use Rattle.hx_model.specs.Types.{Answer, Caller, Config, Post, ServerId, Stop}
 use Rattle.hx_types.specs.declared.calls.Answer.TheVariants as an_answer
 use Rattle.hx_types.specs.declared.messages.Message.TheVariants as a_message
 use Rattle.hx_types.specs.declared.traces.Note.TheVariants as a_note
-use Rattle.hx_model.specs.CoordinatorSteps.{Answered, CoordinatorState, CoordinatorStep, Newest, coordinator_step, newest_answered, outcome, session_posts, to_server, with_newest}
+use Rattle.hx_model.specs.CoordinatorSteps.{Answered, CoordinatorState, CoordinatorStep, Newest, coordinator_step}
+use Rattle.hx_model.specs.CoordinatorSteps.{newest_answered, outcome, session_posts, to_server, with_newest}
 use Rattle.hx_coord.specs.declared.agendas.Agenda.{Agenda}
 use Rattle.hx_coord.specs.declared.outputs.StepOutput.{StepOutput}
 use Rattle.hx_coord.specs.declared.prepared.Plan.{Plan}

@@ -1,5 +1,6 @@
 -- The books of a crew: what its actors' entries posted was offered, and is put or kept.
-use Rattle.std.proofs.Common.{◌≡◌, ℕ, ◌+◌, ◌*◌, ◌<◌, ◌≤◌, List, [], ◌∷◌, ◌++◌, length, slice_index_or, slice_set, refl, ap, sym, ◌∙◌, arith, append_assoc, length-append, Option}
+use Rattle.std.proofs.Common.{◌≡◌, ℕ, ◌+◌, ◌*◌, ◌<◌, ◌≤◌, List, [], ◌∷◌, ◌++◌, length, slice_index_or, slice_set, refl}
+use Rattle.std.proofs.Common.{ap, sym, ◌∙◌, arith, append_assoc, length-append, Option}
 use Rattle.std.specs.List.{AllByRecursion}
 use Rattle.std.specs.Vec.{with_item}
 use Rattle.atomic_table.specs.Seated.{TableId}
@@ -27,7 +28,8 @@ made-append [] ys = refl
 made-append (x ∷ xs) ys = ap (λ l. made_in x ++ l) (made-append xs ys) ∙ sym (append_assoc (made_in x) (made_by xs) (made_by ys))
 
 -- the same offers, beside what else was put or is kept
-offered-frame : (u v u' v' : (Mailed → ℕ) → ℕ) (t t' : Totals) (f f' : FateState) (ms : List Mailed) → IsOffered u v t t' f f' ms → ((h : Mailed → ℕ) → v' h + u h ≡ u' h + v h) → IsOffered u' v' t t' f f' ms
+offered-frame : (u v u' v' : (Mailed → ℕ) → ℕ) (t t' : Totals) (f f' : FateState) (ms : List Mailed)
+    → IsOffered u v t t' f f' ms → ((h : Mailed → ℕ) → v' h + u h ≡ u' h + v h) → IsOffered u' v' t t' f f' ms
 offered-frame u v u' v' t t' f f' ms a e = record {
   offers = a.offers;
   are = a.are;
@@ -46,9 +48,15 @@ offered-frame u v u' v' t t' f f' ms a e = record {
 -- a fate's state after offers, whatever it was before
 abbrev state-after : FateState → List Offer → FateState
 state-after e offers =
-    record { tuning = e.tuning; chosen = raised_by (asked_of offers) e.chosen; lost = raised_by (count_of 0 offers) e.lost; doubled = raised_by (count_of 2 offers) e.doubled }
+    record {
+      tuning = e.tuning;
+      chosen = raised_by (asked_of offers) e.chosen;
+      lost = raised_by (count_of 0 offers) e.lost;
+      doubled = raised_by (count_of 2 offers) e.doubled;
+    }
 
-offered-from : (u v : (Mailed → ℕ) → ℕ) (t t' : Totals) (f f' e : FateState) (ms : List Mailed) (a : IsOffered u v t t' f f' ms) → IsOffered u v t t' e (state-after e a.offers) ms
+offered-from : (u v : (Mailed → ℕ) → ℕ) (t t' : Totals) (f f' e : FateState) (ms : List Mailed)
+    (a : IsOffered u v t t' f f' ms) → IsOffered u v t t' e (state-after e a.offers) ms
 offered-from u v t t' f f' e ms a = record {
   offers = a.offers;
   are = a.are;
@@ -75,7 +83,8 @@ pub posted-trans : (a b c : Crew) (e f g : FateState) → IsPosted a b e f → I
 posted-trans a b c e f g h k = record {
   posts = h.posts ++ k.posts;
   offered =
-      offered-both (λ w. weight_in w a.out a.desks.items) (λ w. weight_in w b.out b.desks.items) (λ w. weight_in w c.out c.desks.items) a.totals b.totals c.totals e f g h.posts k.posts h.offered k.offered;
+      offered-both (λ w. weight_in w a.out a.desks.items) (λ w. weight_in w b.out b.desks.items)
+      (λ w. weight_in w c.out c.desks.items) a.totals b.totals c.totals e f g h.posts k.posts h.offered k.offered;
   made = λ w. omega (arith, h.made w, k.made w, total-append w h.posts k.posts);
 }
 
@@ -90,15 +99,22 @@ pub record IsTurnIn (boxes : List Boxed) (c c' : Crew) (at : ℕ) (d d' : Desk) 
   pub turn : IsTurn boxes d d' c.out c'.out c.totals c'.totals f f' xs
   pub desks : c'.desks.items ≡ slice_set c.desks.items at d'
 
-pub turn-in : (boxes : List Boxed) (c : Crew) (at : ℕ) (d d' : Desk) (out : Outbox) (totals : Totals) (fault : Option Fault) (f f' : FateState) (xs : List Stamped) → at < length c.desks.items → d ≡ slice_index_or c.desks.items at d
+pub turn-in : (boxes : List Boxed) (c : Crew) (at : ℕ) (d d' : Desk) (out : Outbox) (totals : Totals)
+    (fault : Option Fault) (f f' : FateState) (xs : List Stamped) → at < length c.desks.items
+    → d ≡ slice_index_or c.desks.items at d
     → IsTurn boxes d d' c.out out c.totals totals f f' xs → IsTurnIn boxes c (with_turn c at d' out totals fault) at d d' f f' xs
 turn-in boxes c at d d' out totals fault f f' xs within is turn = record { within = within; desk = is; turn = turn; desks = refl }
 
 module _ (boxes : List Boxed) (c c' : Crew) (at : ℕ) (d d' : Desk) (f f' : FateState) (xs : List Stamped) (k : IsTurnIn boxes c c' at d d' f f' xs) where
   offered-turn : IsOffered (λ h. weight_in h c.out c.desks.items) (λ h. weight_in h c'.out c'.desks.items) c.totals c'.totals f f' (made_by xs)
   offered-turn =
-      offered-frame (λ h. weight_of h c.out d) (λ h. weight_of h c'.out d') (λ h. weight_in h c.out c.desks.items) (λ h. weight_in h c'.out c'.desks.items) c.totals c'.totals f f' (made_by xs) k.turn.offered
-      (λ h. omega (arith, set-total (λ (e : Desk). kept_weight h e.kept.items) c.desks.items at d d' k.within k.desk, ap (total (λ (e : Desk). kept_weight h e.kept.items)) k.desks))
+      offered-frame (λ h. weight_of h c.out d) (λ h. weight_of h c'.out d') (λ h. weight_in h c.out c.desks.items)
+      (λ h. weight_in h c'.out c'.desks.items) c.totals c'.totals f f' (made_by xs) k.turn.offered
+      (λ h. omega (
+        arith,
+        set-total (λ (e : Desk). kept_weight h e.kept.items) c.desks.items at d d' k.within k.desk,
+        ap (total (λ (e : Desk). kept_weight h e.kept.items)) k.desks,
+      ))
 
   made-turn : (h : Mailed → ℕ) → made_weight h c.desks.items + total h (made_by xs) ≡ made_weight h c'.desks.items
   made-turn h = omega (
@@ -128,7 +144,8 @@ entries-turn boxes c c' at d d' f f' xs k = omega (
   length-append d.part.items xs,
 )
 
-pub booked-turn : (boxes : List Boxed) (c c' : Crew) (at : ℕ) (d d' : Desk) (f f' : FateState) (xs : List Stamped) → IsTurnIn boxes c c' at d d' f f' xs → IsBooked c → IsBooked c'
+pub booked-turn : (boxes : List Boxed) (c c' : Crew) (at : ℕ) (d d' : Desk) (f f' : FateState) (xs : List Stamped)
+    → IsTurnIn boxes c c' at d d' f f' xs → IsBooked c → IsBooked c'
 booked-turn boxes c c' at d d' f f' xs k b =
     let offered = offered-turn boxes c c' at d d' f f' xs k in
     let few = b.few in
@@ -137,18 +154,30 @@ booked-turn boxes c c' at d d' f f' xs k b =
       before = b.before;
       after = state-after b.after offered.offers;
       offered =
-          offered-both (λ h. 0) (λ h. weight_in h c.out c.desks.items) (λ h. weight_in h c'.out c'.desks.items) no_totals c.totals c'.totals b.before b.after (state-after b.after offered.offers) b.posts (made_by xs) b.offered
+          offered-both (λ h. 0) (λ h. weight_in h c.out c.desks.items)
+          (λ h. weight_in h c'.out c'.desks.items) no_totals c.totals c'.totals b.before b.after
+          (state-after b.after offered.offers) b.posts (made_by xs) b.offered
           (offered-from (λ h. weight_in h c.out c.desks.items) (λ h. weight_in h c'.out c'.desks.items) c.totals c'.totals f f' b.after (made_by xs) offered);
       made = λ h. omega (arith, b.made h, made-turn boxes c c' at d d' f f' xs k h, total-append h b.posts (made_by xs));
-      few = omega (arith, few, made-turn boxes c c' at d d' f f' xs k (λ m. 1), total-one (made_by xs), few-of xs k.turn.one k.turn.few, entries-turn boxes c c' at d d' f f' xs k);
+      few = omega (
+        arith,
+        few,
+        made-turn boxes c c' at d d' f f' xs k (λ m. 1),
+        total-one (made_by xs),
+        few-of xs k.turn.one k.turn.few,
+        entries-turn boxes c c' at d d' f f' xs k,
+      );
     }
 
-entries-few : (script : Script) (clock : TableId) (boxes : List Boxed) (w : ℕ) (c : Crew) (desks : List Desk) → AllByRecursion (IsDeskOf script clock boxes w c) desks → total (λ (d : Desk). length d.part.items) desks ≤ length desks * 1048576
+entries-few : (script : Script) (clock : TableId) (boxes : List Boxed) (w : ℕ) (c : Crew) (desks : List Desk)
+    → AllByRecursion (IsDeskOf script clock boxes w c) desks
+    → total (λ (d : Desk). length d.part.items) desks ≤ length desks * 1048576
 entries-few script clock boxes w c [] h = omega arith
 entries-few script clock boxes w c (d ∷ desks) h = let few = h.0.broken.desk.few in omega (arith, few, entries-few script clock boxes w c desks h.1)
 
 -- so few posts are made that they can be counted
-pub has-room : (script : Script) (clock : TableId) (boxes : List Boxed) (w : ℕ) (c : Crew) (at : ℕ) (d : Desk) → IsCrew script clock boxes w c → at < length c.desks.items → d ≡ slice_index_or c.desks.items at d → HasRoom c.out d c.totals
+pub has-room : (script : Script) (clock : TableId) (boxes : List Boxed) (w : ℕ) (c : Crew) (at : ℕ) (d : Desk)
+    → IsCrew script clock boxes w c → at < length c.desks.items → d ≡ slice_index_or c.desks.items at d → HasRoom c.out d c.totals
 has-room script clock boxes w c at d h within is =
     let entries = entries-few script clock boxes w c c.desks.items h.desks in
     let many = h.many in

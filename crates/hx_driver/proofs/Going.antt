@@ -19,7 +19,8 @@ use Rattle.hx_driver.specs.declared.moves.Move.TheVariants.{Turn, Retry}
 use Rattle.hx_driver.specs.Moves.{GoesOn, HasFailed, HasMoved, HasMovedAt}
 use Rattle.hx_driver.specs.Slices.{MayHaveRetried}
 use Rattle.hx_driver.proofs.Booking.{posted-none, posted-trans, posted-turn, turn-in, with_turn}
-use Rattle.hx_driver.proofs.Moving.{crew-later, crew-later-refl, crew-later-trans, desk-at, done-turn, fault-of, fault-since, may-idle, moved-calm, moved-fault, none-retried, none-retried-refl}
+use Rattle.hx_driver.proofs.Moving.{crew-later, crew-later-refl, crew-later-trans, desk-at, done-turn, fault-of}
+use Rattle.hx_driver.proofs.Moving.{fault-since, may-idle, moved-calm, moved-fault, none-retried, none-retried-refl}
 
 pub match-all : {T E : Type 0} (P : T → Type 0) (Q : E → Type 0) (r : Result T E) → ((x : T) → P x) → ((e : E) → Q e) → MatchResult r P Q
 match-all P Q (Ok x) p q = p x
@@ -57,7 +58,8 @@ module _ (script : Script) (clock : TableId) (boxes : List Boxed) (c : Crew) (at
 
   pub moved-at : (to : Move) → HasMoved script to d d' → HasMovedAt script to at c (with_turn c at d' out totals c.fault)
   moved-at Turn h =
-      none-retried script boxes c (with_turn c at d' out totals c.fault) at d d' f f' xs (turn-in boxes c at d d' out totals c.fault f f' xs within is turn) h (inl calm)
+      none-retried script boxes c (with_turn c at d' out totals c.fault) at d d' f f' xs
+      (turn-in boxes c at d d' out totals c.fault f f' xs within is turn) h (inl calm)
   moved-at Retry h =
       let c' = with_turn c at d' out totals c.fault in
       let k = turn-in boxes c at d d' out totals c.fault f f' xs within is turn in
@@ -76,7 +78,8 @@ module _ (script : Script) (clock : TableId) (boxes : List Boxed) (c : Crew) (at
       let why = failed-fault script to d d' fault failed in
       record {
         crew = λ w h.
-            moved-fault script clock boxes w c c' at d d' f f' xs k calm h why.0 fault refl why.1 (broken w (desk-at script clock boxes w c at d h calm within is));
+            moved-fault script clock boxes w c c' at d d' f f' xs k calm h why.0 fault refl why.1
+            (broken w (desk-at script clock boxes w c at d h calm within is));
         later = crew-later boxes c c' at d d' f f' xs k calm;
         posted = posted-turn boxes c c' at d d' f f' xs k;
       }

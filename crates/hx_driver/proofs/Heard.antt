@@ -1,5 +1,6 @@
 -- What was taken from a box, and its counts.
-use Rattle.std.proofs.Common.{◌≡◌, ◌≢◌, ℕ, zero, suc, ◌+◌, ◌<◌, ◌≤◌, Bool, true, false, cond, eqb, List, [], ◌∷◌, ◌++◌, map, length, slice_index_or, slice_set, Some, ap, sym, ◌∙◌, arith, length-append}
+use Rattle.std.proofs.Common.{◌≡◌, ◌≢◌, ℕ, zero, suc, ◌+◌, ◌<◌, ◌≤◌, Bool, true, false, cond, eqb, List, [], ◌∷◌, ◌++◌}
+use Rattle.std.proofs.Common.{map, length, slice_index_or, slice_set, Some, ap, sym, ◌∙◌, arith, length-append}
 use Rattle.std.specs.Prelude.{nat_lt}
 use Rattle.std.specs.List.{list_all}
 use Rattle.std.proofs.lemmas.Bool.{and_parts, ltb-true}
@@ -33,7 +34,8 @@ count-at [] i n h lt e = absurd (omega (arith, lt))
 count-at (a ∷ ns) zero n h lt e = let l = h.0 in omega (arith, e, l)
 count-at (a ∷ ns) (suc i) n h lt e = count-at ns i n h.1 (omega (arith, lt)) e
 
-pub heard-other : (k : ℕ) (ns : List ℕ) (ins : List Sent) (name : ℕ) (m : Mailed) → IsHeardFrom k ns ins → ((i : ℕ) → i < length ns → k + i ≢ name) → IsHeardFrom k ns (ins ++ sent name m ∷ [])
+pub heard-other : (k : ℕ) (ns : List ℕ) (ins : List Sent) (name : ℕ) (m : Mailed) → IsHeardFrom k ns ins
+    → ((i : ℕ) → i < length ns → k + i ≢ name) → IsHeardFrom k ns (ins ++ sent name m ∷ [])
 heard-other k [] ins name m h d = tt
 heard-other k (n ∷ ns) ins name m h d =
     let z : k + 0 ≡ k = omega arith in (
@@ -41,7 +43,8 @@ heard-other k (n ∷ ns) ins name m h d =
       heard-other (suc k) ns ins name m h.1 (λ i lt e. d (suc i) (omega (arith, lt)) (omega (arith, e))),
     )
 
-pub heard-set : (k : ℕ) (ns : List ℕ) (ins : List Sent) (i n name : ℕ) (m : Mailed) → IsHeardFrom k ns ins → i < length ns → n ≡ slice_index_or ns i n → name ≡ k + i
+pub heard-set : (k : ℕ) (ns : List ℕ) (ins : List Sent) (i n name : ℕ) (m : Mailed) → IsHeardFrom k ns ins
+    → i < length ns → n ≡ slice_index_or ns i n → name ≡ k + i
     → IsHeardFrom k (slice_set ns i (n + 1)) (ins ++ sent name m ∷ [])
 heard-set k [] ins i n name m h lt e f = absurd (omega (arith, lt))
 heard-set k (a ∷ ns) ins zero n name m h lt e f =
@@ -55,7 +58,8 @@ heard-set k (a ∷ ns) ins (suc i) n name m h lt e f = (
 )
 
 -- the port after an envelope was taken
-pub take-in : (w : ℕ) (box : Boxed) (p q : Ported) (s : Sent) → IsInPort w box p → IsPortOf box q → q.view ≡ after_take s p.view → IsInPort w box q × (ins_of q ≡ ins_of p ++ s ∷ [])
+pub take-in : (w : ℕ) (box : Boxed) (p q : Ported) (s : Sent) → IsInPort w box p → IsPortOf box q
+    → q.view ≡ after_take s p.view → IsInPort w box q × (ins_of q ≡ ins_of p ++ s ∷ [])
 take-in w box p q s h of e =
     let v : q.view ≡ port 0 (Some box.names) (lists_of 0 [] (ins_of p ++ s ∷ []) ∷ []) (Some w) = e ∙ ap (after_take s) h.view in
     let o : ins_of q ≡ ins_of p ++ s ∷ [] = ap (λ (x : PortView). taken_first x.lists) v in
@@ -75,7 +79,8 @@ few-counts k [] ins few h = tt
 few-counts k (n ∷ ns) ins few h = (omega (arith, h.0, put-short k ins, few), few-counts (suc k) ns ins few h.1)
 
 -- where all that was taken was delivered, each count can be raised
-pub can-count : (xs : List Stamped) (ins : List Sent) (ns : List ℕ) → told xs ++ [] ≡ map (λ s. s.mailed) ins → length xs ≤ MOST_ENTRIES → IsHeardFrom 0 ns ins → CanCount ns
+pub can-count : (xs : List Stamped) (ins : List Sent) (ns : List ℕ) → told xs ++ [] ≡ map (λ s. s.mailed) ins
+    → length xs ≤ MOST_ENTRIES → IsHeardFrom 0 ns ins → CanCount ns
 can-count xs ins ns e few h =
     few-counts 0 ns ins (omega (arith, ap length e, length-append (told xs) [], map-length (λ (s : Sent). s.mailed) ins, told-short xs, few)) h
 

@@ -67,7 +67,8 @@ next-meets script d r n = subst (λ (a : Actor). InputMeets (Knows d.seat.view) 
 pub past-next : (part part' : List Stamped) (x : Stamped) → part' ≡ part ++ x ∷ [] → past_of part' ≡ x ∷ past_of part
 past-next part part' x e = ap past_of e ∙ reverse_snoc x part
 
-pub next-own : (script : Script) (d : Desk) (r : Entry) → IsOwn script d.actor (entries_before d.part.items) → IsNext script d r → IsOwn script d.actor (r ∷ entries_before d.part.items)
+pub next-own : (script : Script) (d : Desk) (r : Entry) → IsOwn script d.actor (entries_before d.part.items)
+    → IsNext script d r → IsOwn script d.actor (r ∷ entries_before d.part.items)
 next-own script d r own n = (
   record {
     actor = actor-of script d r n;
@@ -79,7 +80,8 @@ next-own script d r own n = (
   own,
 )
 
-pub next-fed : (script : Script) (d : Desk) (k stamp : ℕ) (r : Entry) → Owns d.seat.view k d.part.items → ((x : Stamped) → Has d.seat.view x → x.stamp.0 < stamp) → IsFed script (past_of d.part.items) → IsNext script d r
+pub next-fed : (script : Script) (d : Desk) (k stamp : ℕ) (r : Entry) → Owns d.seat.view k d.part.items
+    → ((x : Stamped) → Has d.seat.view x → x.stamp.0 < stamp) → IsFed script (past_of d.part.items) → IsNext script d r
     → IsFed script (stamped stamp r ∷ past_of d.part.items)
 next-fed script d k stamp r own later fed n = (
   latest-low d.seat.view k d.part.items stamp own later,
@@ -88,24 +90,33 @@ next-fed script d k stamp r own later fed n = (
 )
 
 -- its posts are sound
-pub next-sound : (script : Script) (d : Desk) (k stamp : ℕ) (r : Entry) → Owns d.seat.view k d.part.items → ((x : Stamped) → Has d.seat.view x → x.stamp.0 < stamp) → IsOwn script d.actor (entries_before d.part.items)
+pub next-sound : (script : Script) (d : Desk) (k stamp : ℕ) (r : Entry) → Owns d.seat.view k d.part.items
+    → ((x : Stamped) → Has d.seat.view x → x.stamp.0 < stamp) → IsOwn script d.actor (entries_before d.part.items)
     → IsFed script (past_of d.part.items) → IsNext script d r → AllByRecursion (IsSoundPost script.space (length script.sessions) (stamp + 1)) r.outputs
 next-sound script d k stamp r own later mine fed n =
-    let s = actors_stay_sound script n.takes.valid d.actor n.takes.exists (stamped stamp r ∷ past_of d.part.items) (next-own script d r mine n) (next-fed script d k stamp r own later fed n) in
+    let s = actors_stay_sound script n.takes.valid d.actor n.takes.exists (stamped stamp r ∷ past_of d.part.items)
+    (next-own script d r mine n) (next-fed script d k stamp r own later fed n) in
     each_all _ r.outputs (λ p i. s.posts (stamped stamp r) (inl refl) p i)
 
 pub owns-carries : (v : View) (k : ℕ) (part : List Stamped) (x : Stamped) → Owns v k (part ++ x ∷ []) → Carries v x
-owns-carries v k part x own = (numbered k (part ++ x ∷ []), subst (IsIn (numbered k (part ++ x ∷ []))) (sym own) (inl refl), in_right x part (x ∷ []) (inl refl))
+owns-carries v k part x own = (
+  numbered k (part ++ x ∷ []),
+  subst (IsIn (numbered k (part ++ x ∷ []))) (sym own) (inl refl),
+  in_right x part (x ∷ []) (inl refl),
+)
 
 told-append : (xs ys : List Stamped) → told (xs ++ ys) ≡ told xs ++ told ys
 told-append [] ys = refl
-told-append (x ∷ xs) ys = ap (λ l. told_by x.entry.actor x.entry.input ++ l) (told-append xs ys) ∙ sym (append_assoc (told_by x.entry.actor x.entry.input) (told xs) (told ys))
+told-append (x ∷ xs) ys = ap (λ l. told_by x.entry.actor x.entry.input ++ l) (told-append xs ys)
+    ∙ sym (append_assoc (told_by x.entry.actor x.entry.input) (told xs) (told ys))
 
 -- what the entries deliver after one more
-pub next-told : (script : Script) (d : Desk) (stamp : ℕ) (r : Entry) (part : List Stamped) (ms : List Mailed) → IsNext script d r → part ≡ d.part.items ++ stamped stamp r ∷ [] → told d.part.items ++ told_by d.actor r.input ≡ ms
+pub next-told : (script : Script) (d : Desk) (stamp : ℕ) (r : Entry) (part : List Stamped) (ms : List Mailed)
+    → IsNext script d r → part ≡ d.part.items ++ stamped stamp r ∷ [] → told d.part.items ++ told_by d.actor r.input ≡ ms
     → told part ++ [] ≡ ms
 next-told script d stamp r part ms n e h =
-    append-nil (told part) ∙ ap told e ∙ told-append d.part.items (stamped stamp r ∷ []) ∙ ap (λ l. told d.part.items ++ l) (append-nil (told_by r.actor r.input))
+    append-nil (told part) ∙ ap told e ∙ told-append d.part.items (stamped stamp r ∷ [])
+    ∙ ap (λ l. told d.part.items ++ l) (append-nil (told_by r.actor r.input))
     ∙ ap (λ (a : Actor). told d.part.items ++ told_by a r.input) (actor-of script d r n) ∙ h
 
 named-long : (e k : ℕ) (ps : List Post) → length (named e k ps) ≡ length ps

@@ -1,5 +1,7 @@
 -- A crew before and after one of its actors had a turn.
-use Rattle.std.proofs.Common.{◌≡◌, ℕ, zero, suc, ◌+◌, ◌<◌, ◌≤◌, ◌⊎◌, ⊎_elim, inl, inr, Bool, true, false, List, [], ◌∷◌, length, slice_get, slice_index_or, slice_set, Some, None, refl, ap, sym, subst, ◌∙◌, arith}
+use Rattle.std.proofs.Common.{◌≡◌, ℕ, zero, suc, ◌+◌, ◌<◌, ◌≤◌, ◌⊎◌, ⊎_elim, inl, inr, Bool, true, false, List, []}
+use Rattle.std.proofs.Common.{◌∷◌, length, slice_get, slice_index_or, slice_set, Some, None, refl, ap, sym, subst, ◌∙◌}
+use Rattle.std.proofs.Common.{arith}
 use Rattle.std.specs.List.{AllByRecursion}
 use Rattle.std.proofs.lemmas.Option.{none-some, slice_get_within}
 use Rattle.atomic_table.specs.Seated.{TableId}
@@ -25,7 +27,8 @@ use Rattle.hx_driver.proofs.Booking.{booked-turn, IsTurnIn}
 use Rattle.hx_driver.proofs.Places.{both-and, both-refl, both-set, both-trans, each-at, each-set, in-set, set-length}
 
 -- an actor of a crew that met no fault
-pub desk-at : (script : Script) (clock : TableId) (boxes : List Boxed) (w : ℕ) (c : Crew) (at : ℕ) (d : Desk) → IsCrew script clock boxes w c → c.fault ≡ None → at < length c.desks.items → d ≡ slice_index_or c.desks.items at d
+pub desk-at : (script : Script) (clock : TableId) (boxes : List Boxed) (w : ℕ) (c : Crew) (at : ℕ) (d : Desk)
+    → IsCrew script clock boxes w c → c.fault ≡ None → at < length c.desks.items → d ≡ slice_index_or c.desks.items at d
     → IsWholeDesk script clock boxes w d
 desk-at script clock boxes w c at d h calm within is = (each-at (IsDeskOf script clock boxes w c) c.desks.items at d h.desks within is).whole calm
 
@@ -38,7 +41,8 @@ done-at R zero (d ∷ ds) (x ∷ es) e h lt is = inl (is ∙ h.0)
 done-at R (suc n) (d ∷ ds) (x ∷ es) e h lt is = inr (done-at R n ds es e h.1 (omega (arith, lt)) is)
 
 -- the fault that the turn met
-module _ (script : Script) (boxes : List Boxed) (c c' : Crew) (at : ℕ) (d d' : Desk) (f f' : FateState) (xs : List Stamped) (k : IsTurnIn boxes c c' at d d' f f' xs) where
+module _ (script : Script) (boxes : List Boxed) (c c' : Crew) (at : ℕ) (d d' : Desk) (f f' : FateState)
+    (xs : List Stamped) (k : IsTurnIn boxes c c' at d d' f f' xs) where
   worn-of : (retry : Bool) (a : Actor) → c'.fault ≡ Some (a_fault.Worn a) → IsFaultOf script retry d' (a_fault.Worn a) → HasWorn script retry c'
   worn-of retry a e why = record {
     desk = d';
@@ -78,7 +82,9 @@ module _ (script : Script) (clock : TableId) (boxes : List Boxed) (w : ℕ) (c c
     out = k.turn.out.0;
     desks =
         subst (AllByRecursion (IsDeskOf script clock boxes w c')) (sym k.desks)
-        (each-set (IsDeskOf script clock boxes w c') c.desks.items at d' (each_map (IsDeskOf script clock boxes w c) (IsDeskOf script clock boxes w c') c.desks.items (λ e i g. same-desk e g) h.desks) here);
+        (each-set (IsDeskOf script clock boxes w c') c.desks.items at d'
+        (each_map (IsDeskOf script clock boxes w c) (IsDeskOf script clock boxes w c') c.desks.items
+        (λ e i g. same-desk e g) h.desks) here);
     many = let many = h.many in omega (arith, many, ap length k.desks, set-length c.desks.items at d');
     booked = booked-turn boxes c c' at d d' f f' xs k h.booked;
     total = k.turn.total;
@@ -88,9 +94,11 @@ module _ (script : Script) (clock : TableId) (boxes : List Boxed) (w : ℕ) (c c
   pub moved-calm : c'.fault ≡ None → IsWholeDesk script clock boxes w d' → IsCrew script clock boxes w c'
   moved-calm none whole = moved (record { broken = record { rest = whole.rest; desk = whole.desk }; whole = λ n. whole }) (false, inl none)
 
-  pub moved-fault : (retry : Bool) (fault : Fault) → c'.fault ≡ Some fault → IsFaultOf script retry d' fault → IsBrokenDesk script clock boxes w d' → IsCrew script clock boxes w c'
+  pub moved-fault : (retry : Bool) (fault : Fault) → c'.fault ≡ Some fault → IsFaultOf script retry d' fault
+      → IsBrokenDesk script clock boxes w d' → IsCrew script clock boxes w c'
   moved-fault retry fault e why broken =
-      moved (record { broken = broken; whole = λ n. absurd (none-some fault (sym n ∙ e)) }) (retry, fault-of script boxes c c' at d d' f f' xs k retry fault e why)
+      moved (record { broken = broken; whole = λ n. absurd (none-some fault (sym n ∙ e)) })
+      (retry, fault-of script boxes c c' at d d' f f' xs k retry fault e why)
 
 -- the crew is the same later
 later-refl : (d : Desk) → IsLater d d
@@ -103,7 +111,8 @@ later-trans d e f a b = record {
   ins = begins-trans (ins_of d.inbox) (ins_of e.inbox) (ins_of f.inbox) a.ins b.ins;
 }
 
-pub crew-later : (boxes : List Boxed) (c c' : Crew) (at : ℕ) (d d' : Desk) (f f' : FateState) (xs : List Stamped) → IsTurnIn boxes c c' at d d' f f' xs → c.fault ≡ None → IsLaterCrew c c'
+pub crew-later : (boxes : List Boxed) (c c' : Crew) (at : ℕ) (d d' : Desk) (f f' : FateState) (xs : List Stamped)
+    → IsTurnIn boxes c c' at d d' f f' xs → c.fault ≡ None → IsLaterCrew c c'
 crew-later boxes c c' at d d' f f' xs k calm = record {
   index = k.turn.out.1;
   put = k.turn.more;
@@ -152,7 +161,8 @@ no-retry-trans d e f h later k n x le at =
     (λ (ge : length e.part.items ≤ n). k n x ge at)
     (below-or-not n (length e.part.items))
 
-pub none-retried : (script : Script) (boxes : List Boxed) (c c' : Crew) (at : ℕ) (d d' : Desk) (f f' : FateState) (xs : List Stamped) → IsTurnIn boxes c c' at d d' f f' xs
+pub none-retried : (script : Script) (boxes : List Boxed) (c c' : Crew) (at : ℕ) (d d' : Desk) (f f' : FateState)
+    (xs : List Stamped) → IsTurnIn boxes c c' at d d' f f' xs
     → HasNoRetry d d' → HasFault script false c' → HaveNoRetry script c c'
 none-retried script boxes c c' at d d' f f' xs k h fault = record {
   desks = subst (Both HasNoRetry c.desks.items) (sym k.desks) (both-set HasNoRetry no-retry-refl c.desks.items at d d' k.desk h);
@@ -163,7 +173,8 @@ pub none-retried-refl : (script : Script) (c : Crew) → HaveNoRetry script c c
 none-retried-refl script c = record { desks = both-refl HasNoRetry no-retry-refl c.desks.items; fault = λ e. inl e }
 
 -- after a fault nothing changes
-fault-stays : (script : Script) (retry : Bool) (b c : Crew) → IsLaterCrew b c → HasFault script retry b → (b.fault ≡ None → HasFault script retry c) → HasFault script retry c
+fault-stays : (script : Script) (retry : Bool) (b c : Crew) → IsLaterCrew b c → HasFault script retry b
+    → (b.fault ≡ None → HasFault script retry c) → HasFault script retry c
 fault-stays script retry b c later fault calm =
     ⊎_elim calm
     (λ (h : (b.fault ≡ Some a_fault.Memory) ⊎ HasWorn script retry b).
@@ -173,7 +184,8 @@ fault-stays script retry b c later fault calm =
 pub none-retried-trans : (script : Script) (a b c : Crew) → HaveNoRetry script a b → IsLaterCrew b c → HaveNoRetry script b c → HaveNoRetry script a c
 none-retried-trans script a b c h later k = record {
   desks =
-      both-trans HasNoRetry (λ x y. IsLater x y × HasNoRetry x y) HasNoRetry (λ x y z m n. no-retry-trans x y z m n.0 n.1) a.desks.items b.desks.items c.desks.items h.desks
+      both-trans HasNoRetry (λ x y. IsLater x y × HasNoRetry x y) HasNoRetry
+      (λ x y z m n. no-retry-trans x y z m n.0 n.1) a.desks.items b.desks.items c.desks.items h.desks
       (both-and IsLater HasNoRetry b.desks.items c.desks.items later.desks k.desks);
   fault = λ e. fault-stays script false b c later (h.fault e) k.fault;
 }
@@ -183,7 +195,8 @@ pub done-none : (R : Desk → Desk → Type 0) (ds : List Desk) → DoneTo R 0 d
 done-none R [] = tt
 done-none R (d ∷ ds) = (refl, done-none R ds)
 
-done-set : (R : Desk → Desk → Type 0) (n : ℕ) (ds es : List Desk) (e e' : Desk) → DoneTo R n ds es → n < length es → e ≡ slice_index_or es n e → R e e' → DoneTo R (n + 1) ds (slice_set es n e')
+done-set : (R : Desk → Desk → Type 0) (n : ℕ) (ds es : List Desk) (e e' : Desk) → DoneTo R n ds es → n < length es
+    → e ≡ slice_index_or es n e → R e e' → DoneTo R (n + 1) ds (slice_set es n e')
 done-set R n [] [] e e' h lt is k = absurd (omega (arith, lt))
 done-set R n [] (x ∷ es) e e' h lt is k = absurd h
 done-set R n (d ∷ ds) [] e e' h lt is k = absurd h
@@ -193,9 +206,11 @@ done-set R (suc n) (d ∷ ds) (x ∷ es) e e' h lt is k =
     let next : suc (n + 1) ≡ suc n + 1 = omega arith in
     subst (λ m. DoneTo R m (d ∷ ds) (x ∷ slice_set es n e')) next (h.0, done-set R n ds es e e' h.1 (omega (arith, lt)) is k)
 
-pub done-turn : (R : Desk → Desk → Type 0) (boxes : List Boxed) (c c' : Crew) (at : ℕ) (d d' : Desk) (f f' : FateState) (xs : List Stamped) → IsTurnIn boxes c c' at d d' f f' xs → R d d'
+pub done-turn : (R : Desk → Desk → Type 0) (boxes : List Boxed) (c c' : Crew) (at : ℕ) (d d' : Desk)
+    (f f' : FateState) (xs : List Stamped) → IsTurnIn boxes c c' at d d' f f' xs → R d d'
     → (before : List Desk) → DoneTo R at before c.desks.items → DoneTo R (at + 1) before c'.desks.items
-done-turn R boxes c c' at d d' f f' xs k r before h = subst (DoneTo R (at + 1) before) (sym k.desks) (done-set R at before c.desks.items d d' h k.within k.desk r)
+done-turn R boxes c c' at d d' f f' xs k r before h =
+    subst (DoneTo R (at + 1) before) (sym k.desks) (done-set R at before c.desks.items d d' h k.within k.desk r)
 
 -- an actor that did nothing
 may-same : (script : Script) (n : ℕ) (ds es : List Desk) → DoneTo (MayHaveRetried script) n ds es → DoneTo (MayHaveRetried script) (n + 1) ds es
@@ -203,11 +218,13 @@ may-same script n [] [] h = tt
 may-same script n [] (e ∷ es) h = absurd h
 may-same script n (d ∷ ds) [] h = absurd h
 may-same script zero (d ∷ ds) (e ∷ es) h =
-    let one : suc zero ≡ zero + 1 = omega arith in subst (λ m. DoneTo (MayHaveRetried script) m (d ∷ ds) (e ∷ es)) one (inr (ap (λ (x : Desk). x.part.items) h.0), h.1)
+    let one : suc zero ≡ zero + 1 = omega arith in
+    subst (λ m. DoneTo (MayHaveRetried script) m (d ∷ ds) (e ∷ es)) one (inr (ap (λ (x : Desk). x.part.items) h.0), h.1)
 may-same script (suc n) (d ∷ ds) (e ∷ es) h =
     let next : suc (n + 1) ≡ suc n + 1 = omega arith in subst (λ m. DoneTo (MayHaveRetried script) m (d ∷ ds) (e ∷ es)) next (h.0, may-same script n ds es h.1)
 
-pub may-idle : (script : Script) (c : Crew) (at : ℕ) (before : List Desk) → DoneTo (MayHaveRetried script) at before c.desks.items → DoneTo (MayHaveRetried script) (at + 1) before c.desks.items
+pub may-idle : (script : Script) (c : Crew) (at : ℕ) (before : List Desk)
+    → DoneTo (MayHaveRetried script) at before c.desks.items → DoneTo (MayHaveRetried script) (at + 1) before c.desks.items
 may-idle script c at before h = may-same script at before c.desks.items h
 
 pub done-all : (R : Desk → Desk → Type 0) (n : ℕ) (ds es : List Desk) → n ≡ length ds → DoneTo R n ds es → Both R ds es

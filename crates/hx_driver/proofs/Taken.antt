@@ -50,17 +50,21 @@ entry-low : (v : View) (n : ℕ) (id : PostId) (p : Post) → ((x : Stamped) →
 entry-low v n id p h k =
     ⊎_elim
     (λ (l : (nat_lt n id.entry ≡ true) × (n < id.entry)).
-    absurd (∥∥₁_elim k (λ (x : ⊥) y. absurd x) (λ (y : (x : Stamped) × Has v x × Posted x id p). let a = h y.0 y.1 in let b = l.1 in let c = y.2.0 in omega (arith, a, b, c))))
+    absurd (∥∥₁_elim k (λ (x : ⊥) y. absurd x) (λ (y : (x : Stamped) × Has v x × Posted x id p). let a = h y.0 y.1 in
+    let b = l.1 in let c = y.2.0 in omega (arith, a, b, c))))
     (λ (l : (nat_lt n id.entry ≡ false) × (id.entry ≤ n)). l.1)
     (lt_tells n id.entry)
 
-pub fed-by : (script : Script) (d : Desk) (n : ℕ) (input : Input) → ((x : Stamped) → Has d.seat.view x → x.stamp.0 < n) → CanBeGiven script d input → IsFedBy script n d.actor input
+pub fed-by : (script : Script) (d : Desk) (n : ℕ) (input : Input)
+    → ((x : Stamped) → Has d.seat.view x → x.stamp.0 < n) → CanBeGiven script d input → IsFedBy script n d.actor input
 fed-by script d n Tick h g = tt
 fed-by script d n Halt h g = absurd g
 fed-by script d n (Deliver id from message) h g = (entry-low d.seat.view n id (post from d.actor message) h g.0, g.1)
 
-pub can-take : (script : Script) (clock : TableId) (boxes : List Boxed) (w : ℕ) (rest : List Mailed) (d : Desk) (n : ℕ) (input : Input) → IsScript script → IsDesk script clock boxes w rest d
-    → has_halted script (entries_before d.part.items) d.actor ≡ false → ((x : Stamped) → Has d.seat.view x → x.stamp.0 < n) → n < 2 ^ 61 → CanBeGiven script d input
+pub can-take : (script : Script) (clock : TableId) (boxes : List Boxed) (w : ℕ) (rest : List Mailed) (d : Desk)
+    (n : ℕ) (input : Input) → IsScript script → IsDesk script clock boxes w rest d
+    → has_halted script (entries_before d.part.items) d.actor ≡ false
+    → ((x : Stamped) → Has d.seat.view x → x.stamp.0 < n) → n < 2 ^ 61 → CanBeGiven script d input
     → CanTake script d.actor (past_of d.part.items) input
 can-take script clock boxes w rest d n input valid h running after few g = record {
   valid = valid;
@@ -75,7 +79,8 @@ can-take script clock boxes w rest d n input valid h running after few g = recor
 }
 
 -- the same desk with a machine of the same state
-pub desk-same : (script : Script) (clock : TableId) (boxes : List Boxed) (w : ℕ) (rest : List Mailed) (d d' : Desk) → IsSame d d' → IsMachine script d.actor (entries_before d.part.items) d'.machine
+pub desk-same : (script : Script) (clock : TableId) (boxes : List Boxed) (w : ℕ) (rest : List Mailed) (d d' : Desk)
+    → IsSame d d' → IsMachine script d.actor (entries_before d.part.items) d'.machine
     → IsDesk script clock boxes w rest d → IsDesk script clock boxes w rest d'
 desk-same script clock boxes w rest d d' s m h = record {
   exists = subst (λ (a : Actor). is_actor script a ≡ true) (sym s.actor) h.exists;
@@ -85,13 +90,17 @@ desk-same script clock boxes w rest d d' s m h = record {
         (subst (λ (part : List Stamped). Owns d'.seat.view (place_of script.space d.actor) part) (sym s.part)
         (subst (λ (x : Seated). Owns x.view (place_of script.space d.actor) d.part.items) (sym s.seat) h.seat.1)),
   );
-  machine = subst (λ (a : Actor). IsMachine script a (entries_before d'.part.items) d'.machine) (sym s.actor) (subst (λ (part : List Stamped). IsMachine script d.actor (entries_before part) d'.machine) (sym s.part) m);
-  own = subst (λ (a : Actor). IsOwn script a (entries_before d'.part.items)) (sym s.actor) (subst (λ (part : List Stamped). IsOwn script d.actor (entries_before part)) (sym s.part) h.own);
+  machine = subst (λ (a : Actor). IsMachine script a (entries_before d'.part.items) d'.machine) (sym s.actor)
+      (subst (λ (part : List Stamped). IsMachine script d.actor (entries_before part) d'.machine) (sym s.part) m);
+  own = subst (λ (a : Actor). IsOwn script a (entries_before d'.part.items)) (sym s.actor)
+      (subst (λ (part : List Stamped). IsOwn script d.actor (entries_before part)) (sym s.part) h.own);
   fed = subst (λ (part : List Stamped). IsFed script (past_of part)) (sym s.part) h.fed;
-  inbox = subst (λ (a : Actor). HasInPort w boxes (place_of script.space a) d'.inbox) (sym s.actor) (subst (λ (p : Ported). HasInPort w boxes (place_of script.space d.actor) p) (sym s.inbox) h.inbox);
+  inbox = subst (λ (a : Actor). HasInPort w boxes (place_of script.space a) d'.inbox) (sym s.actor)
+      (subst (λ (p : Ported). HasInPort w boxes (place_of script.space d.actor) p) (sym s.inbox) h.inbox);
   heard = (
     ap length s.heard ∙ h.heard.0,
-    subst (λ (ns : List ℕ). IsHeardFrom 0 ns (ins_of d'.inbox)) (sym s.heard) (subst (λ (p : Ported). IsHeardFrom 0 d.heard.items (ins_of p)) (sym s.inbox) h.heard.1),
+    subst (λ (ns : List ℕ). IsHeardFrom 0 ns (ins_of d'.inbox)) (sym s.heard)
+        (subst (λ (p : Ported). IsHeardFrom 0 d.heard.items (ins_of p)) (sym s.inbox) h.heard.1),
   );
   told = ap (λ (part : List Stamped). told part ++ rest) s.part ∙ h.told ∙ ap (λ (p : Ported). map (λ (x : Sent). x.mailed) (ins_of p)) (sym s.inbox);
   kept = subst (AreGood script clock) (sym s.kept) h.kept;
@@ -99,9 +108,11 @@ desk-same script clock boxes w rest d d' s m h = record {
 }
 
 -- what can be given to the same actor with a seat that knows as much
-pub given-view : (script : Script) (d d' : Desk) (input : Input) → d'.actor ≡ d.actor → d'.seat.view ≡ d.seat.view → CanBeGiven script d input → CanBeGiven script d' input
+pub given-view : (script : Script) (d d' : Desk) (input : Input) → d'.actor ≡ d.actor → d'.seat.view ≡ d.seat.view
+    → CanBeGiven script d input → CanBeGiven script d' input
 given-view script d d' Tick a v g = tt
 given-view script d d' Halt a v g = absurd g
 given-view script d d' (Deliver id from message) a v g =
-    subst (λ (b : Actor). Knows d'.seat.view id (post from b message) × IsSoundPost script.space (length script.sessions) id.entry (post from b message)) (sym a)
+    subst (λ (b : Actor). Knows d'.seat.view id (post from b message)
+    × IsSoundPost script.space (length script.sessions) id.entry (post from b message)) (sym a)
     (subst (λ (u : View). Knows u id (post from d.actor message)) (sym v) g.0, g.1)

@@ -17,7 +17,8 @@ use Rattle.hx_driver.specs.Inboxes.{ins_of}
 use Rattle.hx_driver.specs.Turns.{weight_of, IsTurn}
 
 -- nothing was done but what was taken
-pub turn-none : (boxes : List Boxed) (d d' : Desk) (o : Outbox) (t : Totals) (f : FateState) → d'.actor ≡ d.actor → d'.part.items ≡ d.part.items → d'.kept.items ≡ d.kept.items → IsPrefix (ins_of d.inbox) (ins_of d'.inbox)
+pub turn-none : (boxes : List Boxed) (d d' : Desk) (o : Outbox) (t : Totals) (f : FateState) → d'.actor ≡ d.actor
+    → d'.part.items ≡ d.part.items → d'.kept.items ≡ d.kept.items → IsPrefix (ins_of d.inbox) (ins_of d'.inbox)
     → IsOutbox boxes o → IsTotal t → IsTurn boxes d d' o o t t f f []
 turn-none boxes d d' o t f actor part kept ins out total = record {
   later = record { actor = actor; part = ([], append-nil d.part.items ∙ sym part); ins = ins };
@@ -31,7 +32,8 @@ turn-none boxes d d' o t f actor part kept ins out total = record {
 }
 
 -- a turn in two halves, of which the first makes no entry
-pub turn-both : (boxes : List Boxed) (d e f : Desk) (o p q : Outbox) (t u : Totals) (k l : FateState) (xs : List Stamped) → IsTurn boxes d e o p t t k k [] → IsTurn boxes e f p q t u k l xs → IsTurn boxes d f o q t u k l xs
+pub turn-both : (boxes : List Boxed) (d e f : Desk) (o p q : Outbox) (t u : Totals) (k l : FateState)
+    (xs : List Stamped) → IsTurn boxes d e o p t t k k [] → IsTurn boxes e f p q t u k l xs → IsTurn boxes d f o q t u k l xs
 turn-both boxes d e f o p q t u k l xs a b = record {
   later = record {
     actor = b.later.actor ∙ a.later.actor;
@@ -50,7 +52,9 @@ turn-both boxes d e f o p q t u k l xs a b = record {
 -- one more entry, which is no retry
 pub no-retry-one : (d d' : Desk) (x : Stamped) → d'.part.items ≡ d.part.items ++ x ∷ [] → is_retry x.entry ≡ false → HasNoRetry d d'
 no-retry-one d d' x is not_one n y le at =
-    ⊎_elim (λ (e : slice_get d.part.items n ≡ Some y). let l = get-below d.part.items n y e in absurd (omega (arith, l, le))) (λ (e : (n ≡ length d.part.items) × (x ≡ y)). ap (λ (z : Stamped). is_retry z.entry) (sym e.1) ∙ not_one)
+    ⊎_elim (λ (e : slice_get d.part.items n ≡ Some y). let l = get-below d.part.items n y e in
+    absurd (omega (arith, l, le))) (λ (e : (n ≡ length d.part.items) × (x ≡ y)). ap
+    (λ (z : Stamped). is_retry z.entry) (sym e.1) ∙ not_one)
     (get-snoc d.part.items x n y (ap (λ l. slice_get l n) (sym is) ∙ at))
 
 pub no-retry-none : (d d' : Desk) → d'.part.items ≡ d.part.items → HasNoRetry d d'
@@ -65,8 +69,10 @@ pub turn-self : (boxes : List Boxed) (d : Desk) (o : Outbox) (t : Totals) (f : F
 turn-self boxes d o t f out total = turn-none boxes d d o t f refl refl refl (begins-refl (ins_of d.inbox)) out total
 
 -- the same desk
-pub turn-still : (boxes : List Boxed) (d d' : Desk) (o : Outbox) (t : Totals) (f : FateState) → d' ≡ d → IsOutbox boxes o → IsTotal t → IsTurn boxes d d' o o t t f f []
+pub turn-still : (boxes : List Boxed) (d d' : Desk) (o : Outbox) (t : Totals) (f : FateState) → d' ≡ d
+    → IsOutbox boxes o → IsTotal t → IsTurn boxes d d' o o t t f f []
 turn-still boxes d d' o t f same out total = subst (λ (e : Desk). IsTurn boxes d e o o t t f f []) (sym same) (turn-self boxes d o t f out total)
 
-pub turn-from : (boxes : List Boxed) (d d' e : Desk) (o p : Outbox) (t u : Totals) (k l : FateState) (xs : List Stamped) → d' ≡ d → IsTurn boxes d' e o p t u k l xs → IsTurn boxes d e o p t u k l xs
+pub turn-from : (boxes : List Boxed) (d d' e : Desk) (o p : Outbox) (t u : Totals) (k l : FateState)
+    (xs : List Stamped) → d' ≡ d → IsTurn boxes d' e o p t u k l xs → IsTurn boxes d e o p t u k l xs
 turn-from boxes d d' e o p t u k l xs same h = subst (λ (x : Desk). IsTurn boxes x e o p t u k l xs) same h

@@ -1,5 +1,6 @@
 -- Which ticks begin a call, and which are retries.
-use Rattle.std.proofs.Common.{◌≡◌, ℕ, zero, suc, ◌+◌, ◌<◌, ◌⊎◌, inl, inr, ⊎_elim, Bool, true, false, nat_lt, List, [], ◌∷◌, ◌++◌, length, Option, Some, None, slice_get, refl, ap, sym, subst, ◌∙◌, arith}
+use Rattle.std.proofs.Common.{◌≡◌, ℕ, zero, suc, ◌+◌, ◌<◌, ◌⊎◌, inl, inr, ⊎_elim, Bool, true, false, nat_lt, List, []}
+use Rattle.std.proofs.Common.{◌∷◌, ◌++◌, length, Option, Some, None, slice_get, refl, ap, sym, subst, ◌∙◌, arith}
 use Rattle.std.specs.Prelude.{not, ◌&&◌, ◌||◌}
 use Rattle.std.specs.List.{list_any}
 use Rattle.std.proofs.lemmas.Bool.{and_from, and_parts, cond_both, lt-ltb, ltb-true, not-true, true≢false}
@@ -79,10 +80,12 @@ numbered-below xs (suc m) n x e h = let l = get-below xs m x h in omega (arith, 
 session-quiet : (space : Space) (s : SessionState) → is_idle s ≡ false → IsQuiet (session_tick space s).notes
 session-quiet space s idle =
     cond_both s.under_way _ _ (λ (step : SessionStep). IsQuiet step.notes)
-    (λ t. some-both (λ (step : SessionStep). IsQuiet step.notes) (numbered s.calls s.begun) (staying s) (λ (op : Op). with_poll (send space s op)) refl (λ op e. send-quiet space s op))
+    (λ t. some-both (λ (step : SessionStep). IsQuiet step.notes) (numbered s.calls s.begun) (staying s)
+    (λ (op : Op). with_poll (send space s op)) refl (λ op e. send-quiet space s op))
     (λ t. some-both (λ (step : SessionStep). IsQuiet step.notes) (numbered s.calls (s.begun + 1)) (staying s) (begin space s) refl
     (λ op e.
-    let busy : is_idle s ≡ true = and_from (not s.under_way) (nat_lt s.begun (length s.calls)) (ap not t) (lt-ltb s.begun (length s.calls) (numbered-below s.calls (s.begun + 1) s.begun op refl e)) in
+    let busy : is_idle s ≡ true = and_from (not s.under_way) (nat_lt s.begun (length s.calls)) (ap not t)
+    (lt-ltb s.begun (length s.calls) (numbered-below s.calls (s.begun + 1) s.begun op refl e)) in
     absurd (true≢false (sym busy ∙ idle))))
 
 -- that of an idle session does
@@ -90,7 +93,8 @@ session-begins : (space : Space) (s : SessionState) → is_idle s ≡ true → l
 session-begins space s idle =
     let both = and_parts (not s.under_way) (nat_lt s.begun (length s.calls)) idle in
     let call = item-numbered s.calls (s.begun + 1) s.begun refl (ltb-true s.begun (length s.calls) both.1) in
-    cond_both s.under_way _ (when_some (numbered s.calls (s.begun + 1)) (staying s) (begin space s)) (λ (step : SessionStep). list_any is_began step.notes ≡ true)
+    cond_both s.under_way _ (when_some (numbered s.calls (s.begun + 1)) (staying s) (begin space s))
+    (λ (step : SessionStep). list_any is_began step.notes ≡ true)
     (λ t. absurd (true≢false (sym t ∙ not-true s.under_way both.0)))
     (λ t. subst (λ o. list_any is_began (when_some o (staying s) (begin space s)).notes ≡ true) (sym call.1) refl)
 
@@ -104,10 +108,12 @@ begins script own Coordinator e = absurd (true≢false (sym e))
 begins script own (Server s) e = absurd (true≢false (sym e))
 begins script own (Session u) e = session-begins script.space (session_of script u own) e
 
-pub tick-retries : (script : Script) (own : List Entry) (a : Actor) → is_idle_actor script own a ≡ false → is_retry (entry_of a Tick (made_of script own a Tick)) ≡ true
+pub tick-retries : (script : Script) (own : List Entry) (a : Actor) → is_idle_actor script own a ≡ false
+    → is_retry (entry_of a Tick (made_of script own a Tick)) ≡ true
 tick-retries script own a e = ap not (quiet script own a e)
 
-pub tick-begins : (script : Script) (own : List Entry) (a : Actor) → is_idle_actor script own a ≡ true → is_retry (entry_of a Tick (made_of script own a Tick)) ≡ false
+pub tick-begins : (script : Script) (own : List Entry) (a : Actor) → is_idle_actor script own a ≡ true
+    → is_retry (entry_of a Tick (made_of script own a Tick)) ≡ false
 tick-begins script own a e = ap not (begins script own a e)
 
 some-enough : (posts : List Post) (notes : List Note) → list_any is_began notes ≡ true → does_something Tick (record { posts = posts; notes = notes }) ≡ true
@@ -129,20 +135,30 @@ and-parts false true false e = absurd (true≢false (sym e))
 and-parts false false true e = (refl, refl, refl)
 and-parts false false false e = absurd (true≢false (sym e))
 
-pub retried-none : (script : Script) (d d' : Desk) → (is_waiting script (entries_before d.part.items) d.actor ≡ true → ⊥) → d'.part.items ≡ d.part.items → HasRetried script d d'
+pub retried-none : (script : Script) (d d' : Desk)
+    → (is_waiting script (entries_before d.part.items) d.actor ≡ true → ⊥) → d'.part.items ≡ d.part.items → HasRetried script d d'
 retried-none script d d' never same = record { waiting = λ e. absurd (never e); other = λ e. same }
 
-pub waits-runs : (script : Script) (d : Desk) → is_waiting script (entries_before d.part.items) d.actor ≡ true → has_halted script (entries_before d.part.items) d.actor ≡ true → ⊥
+pub waits-runs : (script : Script) (d : Desk) → is_waiting script (entries_before d.part.items) d.actor ≡ true
+    → has_halted script (entries_before d.part.items) d.actor ≡ true → ⊥
 waits-runs script d e h = true≢false (sym h ∙ (and-parts _ _ _ e).0)
 
-pub waits-busy : (script : Script) (d : Desk) → is_waiting script (entries_before d.part.items) d.actor ≡ true → is_idle_actor script (entries_before d.part.items) d.actor ≡ true → ⊥
+pub waits-busy : (script : Script) (d : Desk) → is_waiting script (entries_before d.part.items) d.actor ≡ true
+    → is_idle_actor script (entries_before d.part.items) d.actor ≡ true → ⊥
 waits-busy script d e h = true≢false (sym h ∙ (and-parts _ _ _ e).1)
 
-pub retried-one : (script : Script) (d d' : Desk) (x : Stamped) → has_halted script (entries_before d.part.items) d.actor ≡ false → is_idle_actor script (entries_before d.part.items) d.actor ≡ false
-    → does_something Tick (made_of script (entries_before d.part.items) d.actor Tick) ≡ true → x.entry ≡ entry_of d.actor Tick (made_of script (entries_before d.part.items) d.actor Tick) → d'.part.items ≡ d.part.items ++ x ∷ []
+pub retried-one : (script : Script) (d d' : Desk) (x : Stamped)
+    → has_halted script (entries_before d.part.items) d.actor ≡ false
+    → is_idle_actor script (entries_before d.part.items) d.actor ≡ false
+    → does_something Tick (made_of script (entries_before d.part.items) d.actor Tick) ≡ true
+    → x.entry ≡ entry_of d.actor Tick (made_of script (entries_before d.part.items) d.actor Tick)
+    → d'.part.items ≡ d.part.items ++ x ∷ []
     → HasRetried script d d'
 retried-one script d d' x h i m is part =
-    let waits : is_waiting script (entries_before d.part.items) d.actor ≡ true = and_from (not (has_halted script (entries_before d.part.items) d.actor) && not (is_idle_actor script (entries_before d.part.items) d.actor)) _ (and_from (not (has_halted script (entries_before d.part.items) d.actor)) _ (ap not h) (ap not i)) m in
+    let waits : is_waiting script (entries_before d.part.items) d.actor ≡ true =
+    and_from (not (has_halted script (entries_before d.part.items) d.actor)
+    && not (is_idle_actor script (entries_before d.part.items) d.actor)) _
+    (and_from (not (has_halted script (entries_before d.part.items) d.actor)) _ (ap not h) (ap not i)) m in
     record {
       waiting = λ e. (x, ap is_retry is ∙ tick-retries script (entries_before d.part.items) d.actor i, part);
       other = λ e. absurd (true≢false (sym waits ∙ e));
@@ -157,12 +173,18 @@ or-some true y e = inl refl
 or-some false y e = inr e
 
 -- an actor that doesn't rest
-pub not-resting : (script : Script) (own : List Entry) (a : Actor) → has_halted script own a || is_idle_actor script own a ≡ false → (has_halted script own a ≡ false) × (is_idle_actor script own a ≡ false)
+pub not-resting : (script : Script) (own : List Entry) (a : Actor)
+    → has_halted script own a || is_idle_actor script own a ≡ false → (has_halted script own a ≡ false)
+    × (is_idle_actor script own a ≡ false)
 not-resting script own a e = or-none (has_halted script own a) (is_idle_actor script own a) e
 
 -- one that rests doesn't wait
-pub retried-resting : (script : Script) (d : Desk) → has_halted script (entries_before d.part.items) d.actor || is_idle_actor script (entries_before d.part.items) d.actor ≡ true → HasRetried script d d
+pub retried-resting : (script : Script) (d : Desk)
+    → has_halted script (entries_before d.part.items) d.actor
+    || is_idle_actor script (entries_before d.part.items) d.actor ≡ true → HasRetried script d d
 retried-resting script d e =
     retried-none script d d
-    (λ w. ⊎_elim (λ h. waits-runs script d w h) (λ h. waits-busy script d w h) (or-some (has_halted script (entries_before d.part.items) d.actor) (is_idle_actor script (entries_before d.part.items) d.actor) e))
+    (λ w. ⊎_elim (λ h. waits-runs script d w h) (λ h. waits-busy script d w h)
+    (or-some (has_halted script (entries_before d.part.items) d.actor)
+    (is_idle_actor script (entries_before d.part.items) d.actor) e))
     refl

@@ -19,8 +19,10 @@ given-goes-on script d Halt g e = absurd g
 given-goes-on script d (Deliver id from message) g e = absurd (cc)
 
 -- of an input that a running actor can be given, and that makes enough
-pub more-to-make : (script : Script) (clock : TableId) (boxes : List Boxed) (w : ℕ) (retry : Bool) (d : Desk) (input : Input) → IsDesk script clock boxes w (told_by d.actor input) d
-    → has_halted script (entries_before d.part.items) d.actor ≡ false → CanBeGiven script d input → does_something input (made_of script (entries_before d.part.items) d.actor input) ≡ true
+pub more-to-make : (script : Script) (clock : TableId) (boxes : List Boxed) (w : ℕ) (retry : Bool) (d : Desk)
+    (input : Input) → IsDesk script clock boxes w (told_by d.actor input) d
+    → has_halted script (entries_before d.part.items) d.actor ≡ false → CanBeGiven script d input
+    → does_something input (made_of script (entries_before d.part.items) d.actor input) ≡ true
     → is_retry (entry_of d.actor input (made_of script (entries_before d.part.items) d.actor input)) ≡ retry → HasMoreToMake script retry d
 more-to-make script clock boxes w retry d input h running given enough retries = record {
   input = input;

@@ -36,7 +36,8 @@ HasFailed script Retry d d' fault = (d'.part.items ≡ d.part.items) × IsFaultO
 
 -- the retries of the actors before this place, and that of the actor there
 pub record HasRetriedAt (script : Script) (at : ℕ) (c c' : Crew) : Type 0 where
-  pub calm : c'.fault ≡ None → (c.fault ≡ None) × ((before : List Desk) → DoneTo (HasRetried script) at before c.desks.items → DoneTo (HasRetried script) (at + 1) before c'.desks.items)
+  pub calm : c'.fault ≡ None → (c.fault ≡ None) × ((before : List Desk)
+      → DoneTo (HasRetried script) at before c.desks.items → DoneTo (HasRetried script) (at + 1) before c'.desks.items)
   pub some : (before : List Desk) → DoneTo (MayHaveRetried script) at before c.desks.items → DoneTo (MayHaveRetried script) (at + 1) before c'.desks.items
   pub fault : (before : List Desk) → DoneTo (MayHaveRetried script) at before c.desks.items → HasFaultSince script before c → HasFaultSince script before c'
 

@@ -43,7 +43,8 @@ pub record HasRoom (out : Outbox) (d : Desk) (t : Totals) : Type 0 where
   pub posts : t.posts < 2 ^ 61
   pub total : IsTotal t
 
--- the actor has one more entry to make: of what was taken for it and not delivered, or of a tick, where that makes something; `retry` is whether that entry is a retry
+-- the actor has one more entry to make: of what was taken for it and not delivered, or of a tick,
+-- where that makes something; `retry` is whether that entry is a retry
 pub record HasMoreToMake (script : Script) (retry : Bool) (d : Desk) : Type 0 where
   pub input : Input
   pub no_halt : input ≢ Halt

@@ -26,7 +26,8 @@ seed_of_driver : draw_of 7 1 ≡ 309689372594955804
 seed_of_driver = refl
 
 -- its first choices: one of three is lost, and of the others one of two repeated
-by_draw : map (λ n. choice_drawn third_and_second (draw_of (draw_of 7 1) n)) (0 ∷ 1 ∷ 2 ∷ 3 ∷ 4 ∷ 5 ∷ 6 ∷ 7 ∷ []) ≡ Lose ∷ Lose ∷ Deliver ∷ Lose ∷ Deliver ∷ Lose ∷ Lose ∷ Deliver ∷ []
+by_draw : map (λ n. choice_drawn third_and_second (draw_of (draw_of 7 1) n)) (0 ∷ 1 ∷ 2 ∷ 3 ∷ 4 ∷ 5 ∷ 6 ∷ 7 ∷ [])
+    ≡ Lose ∷ Lose ∷ Deliver ∷ Lose ∷ Deliver ∷ Lose ∷ Lose ∷ Deliver ∷ []
 by_draw = refl
 
 -- periods of 0: nothing is lost or repeated, whatever is drawn

@@ -27,7 +27,8 @@ gathered seated lists trace same whole m =
     let merged : IsMerged (parts_of seated) m.0 = subst (λ l. IsMerged l m.0) same m.1 in
     let run : (script : Script) → AreOwnParts script (parts_by seated) → IsRunOfParts script (parts_by seated) m.0 =
     λ script own.
-    merged_run script (parts_by seated) m.0 own (subst AreWholeParts (sym (same_parts seated)) whole) (subst (λ l. IsMerged l m.0) (sym (same_parts seated)) merged) in
+    merged_run script (parts_by seated) m.0 own (subst AreWholeParts (sym (same_parts seated)) whole)
+    (subst (λ l. IsMerged l m.0) (sym (same_parts seated)) merged) in
     record {
       whole = (m.0, merged, stamps_are_places (parts_of seated) m.0 whole merged, m.2);
       parts = whole;

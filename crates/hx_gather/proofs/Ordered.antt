@@ -1,5 +1,6 @@
 -- Stretches in the order of their first stamps are entries in the order of theirs.
-use Rattle.std.proofs.Common.{◌≡◌, ℕ, zero, suc, ◌+◌, ◌<◌, ◌≤◌, ◌⊎◌, inl, inr, Bool, false, List, [], ◌∷◌, ◌++◌, length, get_or, eqb, refl, ap, sym, subst, ◌∙◌, arith, true≢false}
+use Rattle.std.proofs.Common.{◌≡◌, ℕ, zero, suc, ◌+◌, ◌<◌, ◌≤◌, ◌⊎◌, inl, inr, Bool, false, List, [], ◌∷◌, ◌++◌}
+use Rattle.std.proofs.Common.{length, get_or, eqb, refl, ap, sym, subst, ◌∙◌, arith, true≢false}
 use Rattle.std.specs.Prelude.{nat_lt, ⊤}
 use Rattle.std.specs.List.{AllByRecursion, IsDistinct}
 use Rattle.std.specs.List.Sorted.{IsSortedBy, IsStrictlyIncreasing}
@@ -29,7 +30,8 @@ Rises n [] = ⊤
 Rises n (x ∷ xs) = (n ≤ x.stamp.0) × Rises x.stamp.0 xs
 
 rises_rest : (x : Stamped) (xs : List Stamped) → IsStrictlyIncreasing (stamps_of (x ∷ xs)) → IsStrictlyIncreasing (stamps_of xs)
-rises_rest x xs h = λ k lt. let next : suc k + 1 ≡ suc (k + 1) = omega arith in subst (λ i. get_or (stamps_of (x ∷ xs)) (suc k) 0 < get_or (stamps_of (x ∷ xs)) i 0) next (h (suc k) (omega (arith, lt)))
+rises_rest x xs h = λ k lt. let next : suc k + 1 ≡ suc (k + 1) = omega arith in
+    subst (λ i. get_or (stamps_of (x ∷ xs)) (suc k) 0 < get_or (stamps_of (x ∷ xs)) i 0) next (h (suc k) (omega (arith, lt)))
 
 rises : (n : ℕ) (x : Stamped) (xs : List Stamped) → n ≤ x.stamp.0 → IsStrictlyIncreasing (stamps_of (x ∷ xs)) → Rises n (x ∷ xs)
 rises n x [] le h = (le, tt)
@@ -42,7 +44,8 @@ lower n m (s ∷ ss) le h = (omega (arith, le, h.0), h.1)
 ascends_with : (n part at : ℕ) (x : Stamped) (ss : List StretchSeen) → n ≤ x.stamp.0 → Ascends x.stamp.0 ss → Ascends n (with_first part at x ss)
 ascends_with n part at x [] le h = (le, tt)
 ascends_with n part at x (s ∷ ss) le h =
-    cond_both (eqb s.stamp (x.stamp.0 + 1)) (begun_with part at x s.entries ∷ ss) (begun_with part at x [] ∷ s ∷ ss) (Ascends n) (λ t. (le, lower x.stamp.0 s.stamp ss h.0 h.1)) (λ t. (le, h))
+    cond_both (eqb s.stamp (x.stamp.0 + 1)) (begun_with part at x s.entries ∷ ss) (begun_with part at x [] ∷ s ∷ ss)
+    (Ascends n) (λ t. (le, lower x.stamp.0 s.stamp ss h.0 h.1)) (λ t. (le, h))
 
 ascends : (n part at : ℕ) (xs : List Stamped) → Rises n xs → Ascends n (stretches_from part at xs)
 ascends n part at [] h = tt
@@ -65,7 +68,9 @@ sorted_stretches part (x ∷ xs) h = sorted 0 (stretches_from part 0 (x ∷ xs))
 
 -- ---- sorted stretches ascend
 tail_sorted : (s : StretchSeen) (ss : List StretchSeen) → IsSortedBy by_stamp (s ∷ ss) → IsSortedBy by_stamp ss
-tail_sorted s ss h = λ k d low lt. let next : suc k + 1 ≡ suc (k + 1) = omega arith in subst (λ i. by_stamp (get_or (s ∷ ss) i d) (get_or (s ∷ ss) (suc k) d) ≡ false) next (h (suc k) d (omega arith) (omega (arith, lt)))
+tail_sorted s ss h = λ k d low lt. let next : suc k + 1 ≡ suc (k + 1) = omega arith in
+    subst (λ i. by_stamp (get_or (s ∷ ss) i d) (get_or (s ∷ ss) (suc k) d) ≡ false) next
+    (h (suc k) d (omega arith) (omega (arith, lt)))
 
 ascending : (n : ℕ) (s : StretchSeen) (ss : List StretchSeen) → n ≤ s.stamp → IsSortedBy by_stamp (s ∷ ss) → Ascends n (s ∷ ss)
 ascending n s [] le h = (le, tt)
@@ -139,7 +144,8 @@ apart (n ∷ ns) ms m h (inr i) j = apart ns ms m (IsDistinct-tail eqb n (ns ++ 
 of_entries : (ss : List StretchSeen) (m : ℕ) → IsIn m (stamps_of (entries_in ss)) → (t : StretchSeen) × IsIn t ss × IsIn m (stamps_of t.entries)
 of_entries [] m i = absurd i
 of_entries (s ∷ ss) m i =
-    elim (in_append (stamps_of s.entries) (stamps_of (entries_in ss)) m (subst (IsIn m) (map_append (λ (x : Stamped). x.stamp.0) s.entries (entries_in ss)) i)) [
+    elim (in_append (stamps_of s.entries) (stamps_of (entries_in ss)) m
+    (subst (IsIn m) (map_append (λ (x : Stamped). x.stamp.0) s.entries (entries_in ss)) i)) [
       | inl j ↦ (s, inl refl, j)
       | inr j ↦ (let r = of_entries ss m j in (r.0, inr r.1, r.2))
     ]
@@ -159,7 +165,8 @@ at_most_or_above (suc a) zero = inr (omega arith)
 at_most_or_above (suc a) (suc b) = elim (at_most_or_above a b) [ inl l ↦ inl (omega (arith, l)) | inr l ↦ inr (omega (arith, l)) ]
 
 -- no entry of a stretch has a stamp above one of a later stretch
-before : (parts : List (List Stamped)) (s : StretchSeen) (ss : List StretchSeen) (n m : ℕ) → IsStretchOf parts s → AllByRecursion (IsStretchOf parts) ss → Ascends s.stamp ss
+before : (parts : List (List Stamped)) (s : StretchSeen) (ss : List StretchSeen) (n m : ℕ) → IsStretchOf parts s
+    → AllByRecursion (IsStretchOf parts) ss → Ascends s.stamp ss
     → IsDistinct eqb (stamps_of s.entries ++ stamps_of (entries_in ss)) → IsIn n (stamps_of s.entries) → IsIn m (stamps_of (entries_in ss)) → n ≤ m
 before parts s ss n m w ws up differ i j =
     let t = of_entries ss m j in
@@ -170,11 +177,13 @@ before parts s ss n m w ws up differ i j =
     elim (at_most_or_above n t.0.stamp) [
       | inl le ↦ omega (arith, le, other.0)
       | inr lt ↦ absurd
-          (apart (stamps_of s.entries) (stamps_of (entries_in ss)) t.0.stamp differ (follow_has s.stamp s.entries t.0.stamp w.follow later (omega (arith, lt, own.1)))
+          (apart (stamps_of s.entries) (stamps_of (entries_in ss)) t.0.stamp differ
+          (follow_has s.stamp s.entries t.0.stamp w.follow later (omega (arith, lt, own.1)))
           (to_entries ss t.0 t.0.stamp t.1 (follow_has t.0.stamp t.0.entries t.0.stamp v.follow (omega arith) (omega (arith, v.some)))))
     ]
 
-ordered : (parts : List (List Stamped)) (n : ℕ) (ss : List StretchSeen) → AllByRecursion (IsStretchOf parts) ss → Ascends n ss → IsDistinct eqb (stamps_of (entries_in ss)) → Ordered (stamps_of (entries_in ss))
+ordered : (parts : List (List Stamped)) (n : ℕ) (ss : List StretchSeen) → AllByRecursion (IsStretchOf parts) ss
+    → Ascends n ss → IsDistinct eqb (stamps_of (entries_in ss)) → Ordered (stamps_of (entries_in ss))
 ordered parts n [] w up differ = tt
 ordered parts n (s ∷ ss) w up differ =
     let seam = map_append (λ (x : Stamped). x.stamp.0) s.entries (entries_in ss) in
@@ -184,6 +193,9 @@ ordered parts n (s ∷ ss) w up differ =
     (ordered parts s.stamp ss w.1 up.1 (distinct_rest (stamps_of s.entries) (stamps_of (entries_in ss)) here))
     (λ a b i j. before parts s ss a b w.0 w.1 up.1 here i j))
 
-pub entries_rise : (parts : List (List Stamped)) (ss : List StretchSeen) → AllByRecursion (IsStretchOf parts) ss → IsSortedBy by_stamp ss → IsDistinct eqb (stamps_of (entries_in ss)) → IsStrictlyIncreasing (stamps_of (entries_in ss))
+pub entries_rise : (parts : List (List Stamped)) (ss : List StretchSeen) → AllByRecursion (IsStretchOf parts) ss
+    → IsSortedBy by_stamp ss → IsDistinct eqb (stamps_of (entries_in ss)) → IsStrictlyIncreasing (stamps_of (entries_in ss))
 entries_rise parts ss w up differ =
-    IsStrictlyIncreasing-from_distinct (stamps_of (entries_in ss)) (λ i j d le lt. ordered_at (stamps_of (entries_in ss)) i j d (ordered parts 0 ss w (all_ascend ss up) differ) le lt) differ
+    IsStrictlyIncreasing-from_distinct (stamps_of (entries_in ss))
+    (λ i j d le lt. ordered_at (stamps_of (entries_in ss)) i j d
+    (ordered parts 0 ss w (all_ascend ss up) differ) le lt) differ

@@ -32,7 +32,8 @@ carried_parts : (clock : TableId) (seated : List SeatedPart) → AllByRecursion 
     → map (λ (p : NumberedPart). p.entries) (flat_map (λ (p : SeatedPart). p.seat.view.carried) seated) ≡ parts_of seated
 carried_parts clock [] h = refl
 carried_parts clock (p ∷ seated) h =
-    ap (λ l. map (λ (q : NumberedPart). q.entries) (l ++ flat_map (λ (q : SeatedPart). q.seat.view.carried) seated)) h.0.1.1 ∙ ap (λ l. p.part ∷ l) (carried_parts clock seated h.1)
+    ap (λ l. map (λ (q : NumberedPart). q.entries) (l ++ flat_map (λ (q : SeatedPart). q.seat.view.carried) seated))
+    h.0.1.1 ∙ ap (λ l. p.part ∷ l) (carried_parts clock seated h.1)
 
 -- the number of a part is carried
 number_carried : (seated : List SeatedPart) (p : SeatedPart) (k : ℕ) → IsIn p seated → Owns p.seat.view k p.part
@@ -41,15 +42,29 @@ number_carried [] p k i own = absurd i
 number_carried (q ∷ seated) p k (inl e) own =
     let carries : q.seat.view.carried ≡ numbered k p.part ∷ [] = ap (λ (r : SeatedPart). r.seat.view.carried) (sym e) ∙ own in
     let here : times k q.seat.view.carried ≡ one (eqb k k) + 0 = ap (times k) carries in
-    omega (arith, here, one-same k k refl, total-append (λ (r : NumberedPart). one (eqb k r.number)) q.seat.view.carried (flat_map (λ (r : SeatedPart). r.seat.view.carried) seated))
+    omega (
+      arith,
+      here,
+      one-same k k refl,
+      total-append
+          (λ (r : NumberedPart). one (eqb k r.number)) q.seat.view.carried
+          (flat_map (λ (r : SeatedPart). r.seat.view.carried) seated),
+    )
 number_carried (q ∷ seated) p k (inr i) own =
-    omega (arith, number_carried seated p k i own, total-append (λ (r : NumberedPart). one (eqb k r.number)) q.seat.view.carried (flat_map (λ (r : SeatedPart). r.seat.view.carried) seated))
+    omega (
+      arith,
+      number_carried seated p k i own,
+      total-append (λ (r : NumberedPart). one (eqb k r.number)) q.seat.view.carried
+          (flat_map (λ (r : SeatedPart). r.seat.view.carried) seated),
+    )
 
 pub whole_parts : (clock : TableId) (seat : Seated) (seated given : List SeatedPart) (v : View) (drawn : ℕ) → given ≡ seated
-    → AllByRecursion (IsSeated clock) seated → CountsAll seat seated → v.carried ≡ flat_map (λ (p : SeatedPart). p.seat.view.carried) given → v.count ≡ seat.view.count
+    → AllByRecursion (IsSeated clock) seated → CountsAll seat seated
+    → v.carried ≡ flat_map (λ (p : SeatedPart). p.seat.view.carried) given → v.count ≡ seat.view.count
     → (IsWhole v → IsCausal (a_view.parts_of v)) → (IsWhole v → HasStampsBelow drawn (a_view.parts_of v)) → AreWholeParts (parts_of seated)
 whole_parts clock seat seated given v drawn same seats counts carried count causal stamps =
-    let carries : v.carried ≡ flat_map (λ (p : SeatedPart). p.seat.view.carried) seated = carried ∙ ap (flat_map (λ (p : SeatedPart). p.seat.view.carried)) same in
+    let carries : v.carried ≡ flat_map (λ (p : SeatedPart). p.seat.view.carried) seated =
+    carried ∙ ap (flat_map (λ (p : SeatedPart). p.seat.view.carried)) same in
     let whole : IsWhole v = (
       counts.0,
       count ∙ counts.1,
@@ -64,10 +79,12 @@ whole_parts clock seat seated given v drawn same seats counts carried count caus
 
 -- the seat has all that was drawn, and what it carries are the parts
 pub whole_view : (clock : TableId) (seat : Seated) (seated given : List SeatedPart) (v : View) → given ≡ seated
-    → AllByRecursion (IsSeated clock) seated → CountsAll seat seated → v.carried ≡ flat_map (λ (p : SeatedPart). p.seat.view.carried) given → v.count ≡ seat.view.count
+    → AllByRecursion (IsSeated clock) seated → CountsAll seat seated
+    → v.carried ≡ flat_map (λ (p : SeatedPart). p.seat.view.carried) given → v.count ≡ seat.view.count
     → IsWhole v × (a_view.parts_of v ≡ parts_of seated)
 whole_view clock seat seated given v same seats counts carried count =
-    let carries : v.carried ≡ flat_map (λ (p : SeatedPart). p.seat.view.carried) seated = carried ∙ ap (flat_map (λ (p : SeatedPart). p.seat.view.carried)) same in (
+    let carries : v.carried ≡ flat_map (λ (p : SeatedPart). p.seat.view.carried) seated =
+    carried ∙ ap (flat_map (λ (p : SeatedPart). p.seat.view.carried)) same in (
       (
         counts.0,
         count ∙ counts.1,

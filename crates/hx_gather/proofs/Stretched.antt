@@ -1,5 +1,7 @@
 -- The stretches of parts.
-use Rattle.std.proofs.Common.{cond, ◌≡◌, ℕ, zero, suc, ◌+◌, ◌-◌, ◌<◌, ◌≤◌, Bool, true, false, List, [], ◌∷◌, ◌++◌, map, flat_map, length, get_or, take, drop, eqb, slice_get, Option, Some, None, refl, ap, sym, subst, ◌∙◌, arith, rules}
+use Rattle.std.proofs.Common.{cond, ◌≡◌, ℕ, zero, suc, ◌+◌, ◌-◌, ◌<◌, ◌≤◌, Bool, true, false, List, [], ◌∷◌, ◌++◌, map}
+use Rattle.std.proofs.Common.{flat_map, length, get_or, take, drop, eqb, slice_get, Option, Some, None, refl, ap, sym}
+use Rattle.std.proofs.Common.{subst, ◌∙◌, arith, rules}
 use Rattle.std.specs.Prelude.{nat_lt, slice_range, ⊤}
 use Rattle.std.specs.List.{AllByRecursion}
 use Rattle.std.proofs.lemmas.Bool.{cond_both, eq-eqb, eqb-true, ne_eqb}
@@ -20,9 +22,12 @@ use Rattle.hx_gather.specs.Stretches.{begun_with, following, numbered, place_at,
 abbrev cut : ℕ → ℕ → Stamped → List Stamped → ℕ → List StretchSeen
 cut part at x xs c = record { part = part; at = at; stamp = x.stamp.0; entries = take c (x ∷ xs) } ∷ stretches_from part (at + c) (drop c (x ∷ xs))
 
-grown : (part at : ℕ) (x y : Stamped) (ys : List Stamped) → stretches_from part (at + 1) (y ∷ ys) ≡ cut part (at + 1) y ys (suc (following (y.stamp.0 + 1) ys)) → (b : Bool) → eqb y.stamp.0 (x.stamp.0 + 1) ≡ b
+grown : (part at : ℕ) (x y : Stamped) (ys : List Stamped)
+    → stretches_from part (at + 1) (y ∷ ys) ≡ cut part (at + 1) y ys (suc (following (y.stamp.0 + 1) ys)) → (b : Bool)
+    → eqb y.stamp.0 (x.stamp.0 + 1) ≡ b
     → cond b
-    (begun_with part at x (take (suc (following (y.stamp.0 + 1) ys)) (y ∷ ys)) ∷ stretches_from part (at + 1 + suc (following (y.stamp.0 + 1) ys)) (drop (suc (following (y.stamp.0 + 1) ys)) (y ∷ ys)))
+    (begun_with part at x (take (suc (following (y.stamp.0 + 1) ys)) (y ∷ ys)) ∷ stretches_from part
+    (at + 1 + suc (following (y.stamp.0 + 1) ys)) (drop (suc (following (y.stamp.0 + 1) ys)) (y ∷ ys)))
     (begun_with part at x [] ∷ cut part (at + 1) y ys (suc (following (y.stamp.0 + 1) ys)))
     ≡ cut part at x (y ∷ ys) (suc (cond b (suc (following (x.stamp.0 + 1 + 1) ys)) 0))
 grown part at x y ys rest true e =
@@ -55,7 +60,8 @@ following_told m (y ∷ ys) zero s is = let same : s ≡ y.stamp = cc in ap (λ 
 following_told m (y ∷ ys) (suc place) s is = following_told m ys place s is
 
 -- the count goes on where the stamp follows
-pub following_more : (all stamp count at : ℕ) (part : List Stamped) (s : Stamp) → Some s ≡ option_map (λ (x : Stamped). x.stamp) (slice_get part (at + count)) → s.0 ≡ stamp + count
+pub following_more : (all stamp count at : ℕ) (part : List Stamped) (s : Stamp)
+    → Some s ≡ option_map (λ (x : Stamped). x.stamp) (slice_get part (at + count)) → s.0 ≡ stamp + count
     → all ≡ count + following (stamp + count) (drop (at + count) part) → all ≡ count + 1 + following (stamp + (count + 1)) (drop (at + (count + 1)) part)
 following_more all stamp count at part s is follows before =
     let m : stamp + count + 1 ≡ stamp + (count + 1) = omega arith in
@@ -67,7 +73,8 @@ following_more all stamp count at part s is follows before =
     omega (arith, before, one)
 
 -- and ends where it doesn't
-pub following_ends : (all stamp count at : ℕ) (part : List Stamped) (s : Stamp) → Some s ≡ option_map (λ (x : Stamped). x.stamp) (slice_get part (at + count)) → (s.0 ≡ stamp + count → ⊥)
+pub following_ends : (all stamp count at : ℕ) (part : List Stamped) (s : Stamp)
+    → Some s ≡ option_map (λ (x : Stamped). x.stamp) (slice_get part (at + count)) → (s.0 ≡ stamp + count → ⊥)
     → all ≡ count + following (stamp + count) (drop (at + count) part) → count ≡ all
 following_ends all stamp count at part s is gap before =
     let none : following (stamp + count) (drop (at + count) part) ≡ 0 =
@@ -76,7 +83,8 @@ following_ends all stamp count at part s is gap before =
     omega (arith, before, none)
 
 -- ---- items with their numbers
-pub numbered_more : {A B : Type 0} (f : ℕ → A → B) (n : ℕ) (xs : List A) (k : ℕ) (d : A) → k < length xs → numbered f n (take (suc k) xs) ≡ numbered f n (take k xs) ++ f (n + k) (get_or xs k d) ∷ []
+pub numbered_more : {A B : Type 0} (f : ℕ → A → B) (n : ℕ) (xs : List A) (k : ℕ) (d : A) → k < length xs
+    → numbered f n (take (suc k) xs) ≡ numbered f n (take k xs) ++ f (n + k) (get_or xs k d) ∷ []
 numbered_more f n [] k d lt = absurd (omega arith)
 numbered_more f n (x ∷ xs) zero d lt = let e : n ≡ n + 0 = omega arith in ap (λ m. f m x ∷ []) e
 numbered_more f n (x ∷ xs) (suc k) d lt =
@@ -106,7 +114,8 @@ StartsAt part at (s ∷ ss) = (s.part ≡ part) × (s.at ≡ at)
 starts_with : (part at : ℕ) (x : Stamped) (ss : List StretchSeen) → StartsAt part at (with_first part at x ss)
 starts_with part at x [] = (refl, refl)
 starts_with part at x (s ∷ ss) =
-    cond_both (eqb s.stamp (x.stamp.0 + 1)) (begun_with part at x s.entries ∷ ss) (begun_with part at x [] ∷ s ∷ ss) (StartsAt part at) (λ t. (refl, refl)) (λ t. (refl, refl))
+    cond_both (eqb s.stamp (x.stamp.0 + 1)) (begun_with part at x s.entries ∷ ss) (begun_with part at x [] ∷ s ∷ ss)
+    (StartsAt part at) (λ t. (refl, refl)) (λ t. (refl, refl))
 
 starts : (part at : ℕ) (xs : List Stamped) → StartsAt part at (stretches_from part at xs)
 starts part at [] = tt
@@ -136,7 +145,8 @@ place_here parts part at x h = record { there = h.0; notes = ap (λ (y : Stamped
 alone : (parts : List (List Stamped)) (part at : ℕ) (x : Stamped) → IsHere parts part at x → IsStretchOf parts (begun_with part at x [])
 alone parts part at x h = record { places = (place_here parts part at x h, tt); found = ap (λ y. y ∷ []) h.1; some = omega arith; follow = (refl, tt) }
 
-longer : (parts : List (List Stamped)) (part at : ℕ) (x : Stamped) (s : StretchSeen) → IsHere parts part at x → s.part ≡ part → s.at ≡ at + 1 → s.stamp ≡ x.stamp.0 + 1 → IsStretchOf parts s
+longer : (parts : List (List Stamped)) (part at : ℕ) (x : Stamped) (s : StretchSeen) → IsHere parts part at x
+    → s.part ≡ part → s.at ≡ at + 1 → s.stamp ≡ x.stamp.0 + 1 → IsStretchOf parts s
     → IsStretchOf parts (begun_with part at x s.entries)
 longer parts part at x s h p a e w =
     let same : places_in s ≡ numbered (place_at part) (at + 1) s.entries = λ i. numbered (place_at (p i)) (a i) s.entries in
@@ -148,16 +158,19 @@ longer parts part at x s h p a e w =
       follow = (refl, subst (λ n. IsFollowing n s.entries) e w.follow);
     }
 
-with_each : (parts : List (List Stamped)) (part at : ℕ) (x : Stamped) (ss : List StretchSeen) → IsHere parts part at x → StartsAt part (at + 1) ss → AllByRecursion (IsStretchOf parts) ss
+with_each : (parts : List (List Stamped)) (part at : ℕ) (x : Stamped) (ss : List StretchSeen) → IsHere parts part at x
+    → StartsAt part (at + 1) ss → AllByRecursion (IsStretchOf parts) ss
     → AllByRecursion (IsStretchOf parts) (with_first part at x ss)
 with_each parts part at x [] h first w = (alone parts part at x h, tt)
 with_each parts part at x (s ∷ ss) h first w =
     cond_both (eqb s.stamp (x.stamp.0 + 1)) (begun_with part at x s.entries ∷ ss) (begun_with part at x [] ∷ s ∷ ss) (AllByRecursion (IsStretchOf parts))
     (λ t. (longer parts part at x s h first.0 first.1 (eqb-true s.stamp (x.stamp.0 + 1) t) w.0, w.1)) (λ t. (alone parts part at x h, w))
 
-each_stretch : (parts : List (List Stamped)) (part at : ℕ) (xs : List Stamped) → AreHere parts part at xs → AllByRecursion (IsStretchOf parts) (stretches_from part at xs)
+each_stretch : (parts : List (List Stamped)) (part at : ℕ) (xs : List Stamped) → AreHere parts part at xs
+    → AllByRecursion (IsStretchOf parts) (stretches_from part at xs)
 each_stretch parts part at [] h = tt
-each_stretch parts part at (x ∷ xs) h = with_each parts part at x (stretches_from part (at + 1) xs) h.0 (starts part (at + 1) xs) (each_stretch parts part (at + 1) xs h.1)
+each_stretch parts part at (x ∷ xs) h = with_each parts part at x (stretches_from part (at + 1) xs) h.0
+    (starts part (at + 1) xs) (each_stretch parts part (at + 1) xs h.1)
 
 -- the entries of stretches, one after another
 abbrev pub entries_in : List StretchSeen → List Stamped
@@ -166,7 +179,8 @@ entries_in ss = flat_map (λ (s : StretchSeen). s.entries) ss
 entries_with : (part at : ℕ) (x : Stamped) (ss : List StretchSeen) → entries_in (with_first part at x ss) ≡ x ∷ entries_in ss
 entries_with part at x [] = refl
 entries_with part at x (s ∷ ss) =
-    cond_both (eqb s.stamp (x.stamp.0 + 1)) (begun_with part at x s.entries ∷ ss) (begun_with part at x [] ∷ s ∷ ss) (λ l. entries_in l ≡ x ∷ entries_in (s ∷ ss)) (λ t. refl) (λ t. refl)
+    cond_both (eqb s.stamp (x.stamp.0 + 1)) (begun_with part at x s.entries ∷ ss) (begun_with part at x [] ∷ s ∷ ss)
+    (λ l. entries_in l ≡ x ∷ entries_in (s ∷ ss)) (λ t. refl) (λ t. refl)
 
 entries_are : (part at : ℕ) (xs : List Stamped) → entries_in (stretches_from part at xs) ≡ xs
 entries_are part at [] = refl
@@ -182,7 +196,8 @@ pub both_all : {A : Type 0} (P : A → Type 0) (xs ys : List A) → AllByRecursi
 both_all P [] ys h g = g
 both_all P (x ∷ xs) ys h g = (h.0, both_all P xs ys h.1 g)
 
-pub all_stretches : (parts : List (List Stamped)) (n : ℕ) (ps : List (List Stamped)) → ((k : ℕ) → k < length ps → part_at parts (n + k) ≡ get_or ps k []) → AllByRecursion (IsStretchOf parts) (all_from n ps)
+pub all_stretches : (parts : List (List Stamped)) (n : ℕ) (ps : List (List Stamped))
+    → ((k : ℕ) → k < length ps → part_at parts (n + k) ≡ get_or ps k []) → AllByRecursion (IsStretchOf parts) (all_from n ps)
 all_stretches parts n [] h = tt
 all_stretches parts n (p ∷ ps) h =
     let e : n ≡ n + 0 = omega arith in
@@ -204,17 +219,24 @@ all_entries n (p ∷ ps) =
     flat_append (λ (s : StretchSeen). s.entries) (stretches_from n 0 p) (all_from (n + 1) ps) ∙ (λ i. here i ++ rest i)
 
 -- what `next` of stretches gives, and what it leaves
-pub taken_first : (part at : ℕ) (xs front back : List Stamped) (x : Stamped) (n : ℕ) → slice_get xs 0 ≡ Some x → n ≡ following x.stamp.0 xs → front ≡ take n xs → back ≡ drop n xs → length front ≡ n
+pub taken_first : (part at : ℕ) (xs front back : List Stamped) (x : Stamped) (n : ℕ) → slice_get xs 0 ≡ Some x
+    → n ≡ following x.stamp.0 xs → front ≡ take n xs → back ≡ drop n xs → length front ≡ n
     → stretches_from part at xs ≡ record { part = part; at = at; stamp = x.stamp.0; entries = front } ∷ stretches_from part (at + length front) back
 taken_first part at [] front back x n first count is rest long = absurd (let none : slice_get [] 0 ≡ Some x = first in search rules)
 taken_first part at (y ∷ ys) front back x n first count is rest long =
     let same : y ≡ x = (let e : Some y ≡ Some x = first in cc) in
     let all : n ≡ suc (following (y.stamp.0 + 1) ys) =
-    count ∙ ap (λ (z : Stamped). following z.stamp.0 (y ∷ ys)) (sym same) ∙ ap (λ b. cond b (suc (following (y.stamp.0 + 1) ys)) 0) (eq-eqb y.stamp.0 y.stamp.0 refl) in
+    count ∙ ap (λ (z : Stamped). following z.stamp.0 (y ∷ ys)) (sym same)
+    ∙ ap (λ b. cond b (suc (following (y.stamp.0 + 1) ys)) 0) (eq-eqb y.stamp.0 y.stamp.0 refl) in
     let front_is : take (suc (following (y.stamp.0 + 1) ys)) (y ∷ ys) ≡ front = ap (λ k. take k (y ∷ ys)) (sym all) ∙ sym is in
     let back_is : drop (suc (following (y.stamp.0 + 1) ys)) (y ∷ ys) ≡ back = ap (λ k. drop k (y ∷ ys)) (sym all) ∙ sym rest in
     let end : at + suc (following (y.stamp.0 + 1) ys) ≡ at + length front = omega (arith, all, long) in
-    first_stretch part at y ys ∙ (λ i. record { part = part; at = at; stamp = (same i).stamp.0; entries = front_is i } ∷ stretches_from part (end i) (back_is i))
+    first_stretch part at y ys ∙ (λ i. record {
+      part = part;
+      at = at;
+      stamp = (same i).stamp.0;
+      entries = front_is i;
+    } ∷ stretches_from part (end i) (back_is i))
 
 -- ---- runs of a part
 
@@ -239,8 +261,14 @@ long_take [] (suc n) h = absurd (omega (arith, h))
 long_take (x ∷ xs) (suc n) h = ap suc (long_take xs n (omega (arith, h)))
 
 -- what `next` of stretches gives, and what it leaves, of a part
-pub taken_next : (place at end n : ℕ) (part : List Stamped) (s : Stamp) → Some s ≡ option_map (λ (x : Stamped). x.stamp) (slice_get part at) → n ≡ following s.0 (drop at part) → end ≡ at + n
-    → stretches_from place at (drop at part) ≡ record { part = place; at = at; stamp = s.0; entries = slice_range part at end } ∷ stretches_from place end (drop end part)
+pub taken_next : (place at end n : ℕ) (part : List Stamped) (s : Stamp)
+    → Some s ≡ option_map (λ (x : Stamped). x.stamp) (slice_get part at) → n ≡ following s.0 (drop at part) → end ≡ at + n
+    → stretches_from place at (drop at part) ≡ record {
+      part = place;
+      at = at;
+      stamp = s.0;
+      entries = slice_range part at end;
+    } ∷ stretches_from place end (drop end part)
 taken_next place at end n part s is count ends =
     let x = told (λ (x : Stamped). x.stamp) (slice_get part at) s is in
     let bound = following_bound s.0 (drop at part) in
@@ -276,7 +304,8 @@ long_get (y ∷ xs) zero x is = omega arith
 long_get (y ∷ xs) (suc k) x is = let h = long_get xs k x is in omega (arith, h)
 
 -- one place more of a run of a part
-pub place_more : (old places new : List EntryPlace) (place start at : ℕ) (part : List Stamped) (p : EntryPlace) (b : Bool) → new ≡ places ++ p ∷ [] → places ≡ old ++ numbered (place_at place) start (slice_range part start at) → start ≤ at
+pub place_more : (old places new : List EntryPlace) (place start at : ℕ) (part : List Stamped) (p : EntryPlace)
+    (b : Bool) → new ≡ places ++ p ∷ [] → places ≡ old ++ numbered (place_at place) start (slice_range part start at) → start ≤ at
     → Some b ≡ option_map (λ (x : Stamped). nat_lt 0 (length x.entry.notes)) (slice_get part at) → p ≡ record { part = place; at = at; has_notes = b }
     → new ≡ old ++ numbered (place_at place) start (slice_range part start (at + 1))
 place_more old places new place start at part p b pushed before from is here =
@@ -285,31 +314,39 @@ place_more old places new place start at part p b pushed before from is here =
     let place_is : start + k ≡ at = omega (arith, from) in
     let there : slice_get (drop start part) k ≡ Some x.0 = get_on part start k ∙ ap (slice_get part) place_is ∙ x.1 in
     let next : at + 1 - start ≡ suc k = omega (arith, from) in
-    let longer : slice_range part start (at + 1) ≡ slice_range part start at ++ x.0 ∷ [] = ap (λ n. take n (drop start part)) next ∙ run_more (drop start part) k x.0 there in
+    let longer : slice_range part start (at + 1) ≡ slice_range part start at ++ x.0 ∷ [] =
+    ap (λ n. take n (drop start part)) next ∙ run_more (drop start part) k x.0 there in
     let within = long_get (drop start part) k x.0 there in
     let long : length (slice_range part start at) ≡ k = long_take (drop start part) k (omega (arith, within)) in
     let last : start + length (slice_range part start at) ≡ at = omega (arith, long, from) in
-    let is_place : p ≡ place_at place (start + length (slice_range part start at)) x.0 = here ∙ (λ i. record { part = place; at = sym last i; has_notes = x.2 i }) in
-    pushed ∙ (λ i. before i ++ is_place i ∷ []) ∙ append_assoc old (numbered (place_at place) start (slice_range part start at)) (place_at place (start + length (slice_range part start at)) x.0 ∷ [])
+    let is_place : p ≡ place_at place (start + length (slice_range part start at)) x.0 =
+    here ∙ (λ i. record { part = place; at = sym last i; has_notes = x.2 i }) in
+    pushed ∙ (λ i. before i ++ is_place i ∷ []) ∙ append_assoc old
+    (numbered (place_at place) start (slice_range part start at))
+    (place_at place (start + length (slice_range part start at)) x.0 ∷ [])
     ∙ ap (λ l. old ++ l) (sym (numbered_end (place_at place) start (slice_range part start at) x.0) ∙ ap (numbered (place_at place) start) (sym longer))
 
 -- ---- what is merged
 
 -- a part has at most as many entries as all have
-pub long_part : (parts : List (List Stamped)) (place : ℕ) (part : List Stamped) → place < length parts → part ≡ get_or parts place part → length part ≤ length (all_of parts)
+pub long_part : (parts : List (List Stamped)) (place : ℕ) (part : List Stamped) → place < length parts
+    → part ≡ get_or parts place part → length part ≤ length (all_of parts)
 long_part [] place part lt is = absurd (omega arith)
 long_part (p ∷ ps) zero part lt is = omega (arith, ap length is, length-append p (all_of ps))
 long_part (p ∷ ps) (suc place) part lt is = let le = long_part ps place part (omega (arith, lt)) is in omega (arith, le, length-append p (all_of ps))
 
 -- the stretches of one part more
-pub sources_more : (parts : List (List Stamped)) (place : ℕ) (part : List Stamped) (old new : List (List StretchSeen)) (more : List StretchSeen) → new ≡ old ++ more ∷ [] → old ≡ stretches_of (take place parts)
+pub sources_more : (parts : List (List Stamped)) (place : ℕ) (part : List Stamped) (old new : List (List StretchSeen))
+    (more : List StretchSeen) → new ≡ old ++ more ∷ [] → old ≡ stretches_of (take place parts)
     → place < length parts → part ≡ get_or parts place part → more ≡ stretches_from place 0 part → new ≡ stretches_of (take (place + 1) parts)
 sources_more parts place part old new more pushed before lt is stretches =
     let zeroth : place ≡ 0 + place = omega arith in
     let next : suc place ≡ place + 1 = omega arith in
     let here : more ≡ stretches_from (0 + place) 0 (get_or parts place part) = stretches ∙ (λ i. stretches_from (zeroth i) 0 (is i)) in
-    pushed ∙ (λ i. before i ++ here i ∷ []) ∙ sym (numbered_more (λ n p. stretches_from n 0 p) 0 parts place part lt) ∙ ap (λ k. stretches_of (take k parts)) next
+    pushed ∙ (λ i. before i ++ here i ∷ []) ∙ sym (numbered_more (λ n p. stretches_from n 0 p) 0 parts place part lt)
+    ∙ ap (λ k. stretches_of (take k parts)) next
 
-pub placed_entries : (parts : List (List Stamped)) (places : List EntryPlace) → map (placed parts) places ≡ map (λ (x : Stamped). x.entry) (map (stamped_at parts) places)
+pub placed_entries : (parts : List (List Stamped)) (places : List EntryPlace)
+    → map (placed parts) places ≡ map (λ (x : Stamped). x.entry) (map (stamped_at parts) places)
 placed_entries parts [] = refl
 placed_entries parts (p ∷ ps) = ap (λ es. placed parts p ∷ es) (placed_entries parts ps)

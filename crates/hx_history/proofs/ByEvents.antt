@@ -1,6 +1,7 @@
 -- The history of a key is told by the events of the key alone.
 use Rattle.hx_model.specs.Lines.{upto}
-use Rattle.std.proofs.Common.{◌≡◌, ℕ, ◌-◌, Bool, true, false, not, ◌&&◌, cond, List, [], ◌∷◌, ◌++◌, Option, Some, None, map, reverse, refl, sym, ap, subst, ◌∙◌, append_assoc, ◌+◌, ◌<◌, length, get_or, take}
+use Rattle.std.proofs.Common.{◌≡◌, ℕ, ◌-◌, Bool, true, false, not, ◌&&◌, cond, List, [], ◌∷◌, ◌++◌, Option, Some, None}
+use Rattle.std.proofs.Common.{map, reverse, refl, sym, ap, subst, ◌∙◌, append_assoc, ◌+◌, ◌<◌, length, get_or, take}
 use Rattle.std.proofs.lemmas.List.{reverse-append, append-nil, map-append, reverse-reverse, take_more}
 use Rattle.std.proofs.lemmas.List.Concat.{flat_map-append}
 use Rattle.std.proofs.lemmas.List.Elements.{filter-append}
@@ -11,8 +12,11 @@ use Rattle.hx_model.specs.Types.{Actor, Answer, Caller, Coordinator, Entry, Get,
 use Rattle.hx_types.specs.declared.traces.Note.TheVariants as a_note
 use Rattle.hx_types.specs.Words.{list_of, provided, same_text, when_some}
 use Rattle.hx_types.specs.Fitting.{call_of, is_refused}
-use Rattle.hx_model.specs.Histories.{get_item, get_items, gets_of, history_of, history_on, in_place, is_get_of, line_note, line_notes, line_of, not_refused, write_item}
-use Rattle.hx_history.specs.Events.{KeyEvent, Write, End, ReadEnd, event_of, event_view, events_in, events_of, history_by, is_at, item_on, line_by, lined, placed, read_at, read_by, read_in, reads_by, told}
+use Rattle.hx_model.specs.Histories.{get_item, get_items, gets_of, history_of, history_on, in_place, is_get_of}
+use Rattle.hx_model.specs.Histories.{line_note, line_notes, line_of, not_refused, write_item}
+use Rattle.hx_history.specs.Events.{KeyEvent, Write, End, ReadEnd, event_of, event_view, events_in, events_of}
+use Rattle.hx_history.specs.Events.{history_by, is_at, item_on, line_by, lined, placed, read_at, read_by, read_in}
+use Rattle.hx_history.specs.Events.{reads_by, told}
 use Rattle.hx_history.proofs.Lists.{map_filter, reverse_cons, reverse_pieces}
 use Rattle.hx_history.specs.declared.events.Event.{Event}
 
@@ -169,7 +173,8 @@ even_call : (key : List ℕ) (low : ℕ) (high : Option ℕ) (object : Option (L
     reverse items ≡ items
 even_call key low high object c version answer None = refl
 even_call key low high object c version answer (Some op) =
-    even_provided (is_get_of key op && not (is_refused answer) && in_place low high version.0) (record { version = version; caller = c; op = op; answer = answer; object = object })
+    even_provided (is_get_of key op && not (is_refused answer) && in_place low high version.0)
+    (record { version = version; caller = c; op = op; answer = answer; object = object })
 
 even_item : (script : Script) (key : List ℕ) (low : ℕ) (high : Option ℕ) (object : Option (List Value)) (u : SessionId) (note : Note)
     → reverse (get_item script key low high object u note) ≡ get_item script key low high object u note

@@ -97,7 +97,8 @@ module _ {B : Type 0} (by : CallSpan → List B) (wanted : Caller → List B) (s
       ≡ flat_map wanted (map (λ (n : ℕ). caller u n) (below (length (calls_of script (record { 0 = u + 1 })))))
   row_is u =
       by_row (slice_get table u) (slice_get script.sessions u) refl (sym (lengths table u) ∙ ap (λ ns. slice_get ns u) as_script ∙ lengths script.sessions u)
-      ∙ ap (λ o. flat_map wanted (map (λ (n : ℕ). caller u n) (below (length (when_some o [] (λ (calls : List Op). calls)))))) (sym (numbered_next script.sessions u))
+      ∙ ap (λ o. flat_map wanted (map (λ (n : ℕ). caller u n)
+      (below (length (when_some o [] (λ (calls : List Op). calls)))))) (sym (numbered_next script.sessions u))
     where
       by_row : (row : Option (List CallNotes)) (calls : Option (List Op)) → slice_get table u ≡ row
           → option_map (λ (r : List CallNotes). length r) row ≡ option_map (λ (r : List Op). length r) calls
@@ -121,4 +122,5 @@ module _ {B : Type 0} (by : CallSpan → List B) (wanted : Caller → List B) (s
       ∙ same_pieces (λ u. when_some (slice_get table u) [] (flat_map gathered))
       (λ u. flat_map wanted (map (λ (n : ℕ). caller u n) (below (length (calls_of script (record { 0 = u + 1 })))))) (length table) (λ u within. row_is u)
       ∙ ap (λ (k : ℕ). flat_map (λ u. flat_map wanted (map (λ (n : ℕ). caller u n) (below (length (calls_of script (record { 0 = u + 1 })))))) (below k)) count
-      ∙ sym (flat_map-flat_map wanted (λ u. map (λ (n : ℕ). caller u n) (below (length (calls_of script (record { 0 = u + 1 }))))) (below (length script.sessions)))
+      ∙ sym (flat_map-flat_map wanted (λ u. map (λ (n : ℕ). caller u n)
+      (below (length (calls_of script (record { 0 = u + 1 }))))) (below (length script.sessions)))

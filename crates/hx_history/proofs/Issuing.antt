@@ -1,5 +1,6 @@
 -- The configurations that a trace says were issued, one entry further.
-use Rattle.std.proofs.Common.{◌≡◌, ◌↔◌, ℕ, ◌+◌, ◌<◌, Bool, true, false, ◌||◌, List, [], ◌∷◌, ◌++◌, get_or, length, take, refl, ap, sym, subst, ◌∙◌, append-nil, arith}
+use Rattle.std.proofs.Common.{◌≡◌, ◌↔◌, ℕ, ◌+◌, ◌<◌, Bool, true, false, ◌||◌, List, [], ◌∷◌, ◌++◌, get_or, length}
+use Rattle.std.proofs.Common.{take, refl, ap, sym, subst, ◌∙◌, append-nil, arith}
 use Rattle.std.proofs.lemmas.List.{flat_map_more, take_more}
 use Rattle.std.proofs.lemmas.List.Folds.{length-flat_map-take}
 use Rattle.std.specs.List.{flat_map}
@@ -41,7 +42,8 @@ pub issued_as_before : (trace : List Entry) (i : ℕ) (x : Entry) → i < length
     → (a : Bool) → (a ≡ false) ↔ (issued_in (take i trace) ≡ []) → (a ≡ false) ↔ (issued_in (take (i + 1) trace) ≡ [])
 issued_as_before trace i x within read silent a before =
     let same : issued_in (take (i + 1) trace) ≡ issued_in (take i trace) =
-    issued_next trace i x within read ∙ ap (λ (ns : List Note). issued_in (take i trace) ++ flat_map issued_by ns) silent ∙ append-nil (issued_in (take i trace)) in
+    issued_next trace i x within read ∙ ap (λ (ns : List Note). issued_in (take i trace) ++ flat_map issued_by ns)
+    silent ∙ append-nil (issued_in (take i trace)) in
     subst (λ (cs : List Config). (a ≡ false) ↔ (cs ≡ [])) (sym same) before
 
 -- where a note says that one was issued, not none was

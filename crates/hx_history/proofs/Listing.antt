@@ -1,5 +1,6 @@
 -- The histories of the groups of a map are those of all keys.
-use Rattle.std.proofs.Common.{◌≡◌, ◌≢◌, ℕ, Bool, true, false, ◌&&◌, cond, List, [], ◌∷◌, ◌++◌, Option, Some, None, map, reverse, get_or, refl, sym, ap, subst, ◌∙◌, inl, inr}
+use Rattle.std.proofs.Common.{◌≡◌, ◌≢◌, ℕ, Bool, true, false, ◌&&◌, cond, List, [], ◌∷◌, ◌++◌, Option, Some, None, map}
+use Rattle.std.proofs.Common.{reverse, get_or, refl, sym, ap, subst, ◌∙◌, inl, inr}
 use Rattle.std.proofs.lemmas.List.{append-nil, reverse-reverse}
 use Rattle.std.proofs.lemmas.List.Elements.{All-append, All-cons, All-nil, All-weaker, filter_agree, recursion_from_All}
 use Rattle.std.proofs.lemmas.List.Kept.{IsStrictlySortedBy-dedup}
@@ -105,23 +106,27 @@ module _ {V : Type 0} (script : Script) (group : V → List Event) where
   ascend (e ∷ entries) sorted =
       ascend_more e.0.now (told_by e.1) (histories_of entries) (below_all e.0.now entries sorted.0) (ascend entries sorted.1)
 
-  each_of : (trace : List Entry) (key : List ℕ) (items : List Item) → items ≡ reverse (history_of script key trace) → All (IsHistory script trace) (listed_of key items)
+  each_of : (trace : List Entry) (key : List ℕ) (items : List Item) → items ≡ reverse (history_of script key trace)
+      → All (IsHistory script trace) (listed_of key items)
   each_of trace key [] same = All-nil (IsHistory script trace)
   each_of trace key (x ∷ items) same =
-      All-cons (IsHistory script trace) (record { key = key; items = x ∷ items }) [] (record { items = same; some = λ none. cc }) (All-nil (IsHistory script trace))
+      All-cons (IsHistory script trace) (record { key = key; items = x ∷ items }) []
+      (record { items = same; some = λ none. cc }) (All-nil (IsHistory script trace))
 
   each_all : (trace : List Entry) (entries : List (Bor (List ℕ) × V))
       → AllByRecursion (λ (e : Bor (List ℕ) × V). told_by e.1 ≡ reverse (history_of script e.0.now trace)) entries
       → All (IsHistory script trace) (histories_of entries)
   each_all trace [] same = All-nil (IsHistory script trace)
   each_all trace (e ∷ entries) same =
-      All-append (IsHistory script trace) (listed_of e.0.now (told_by e.1)) (histories_of entries) (each_of trace e.0.now (told_by e.1) same.0) (each_all trace entries same.1)
+      All-append (IsHistory script trace) (listed_of e.0.now (told_by e.1)) (histories_of entries)
+      (each_of trace e.0.now (told_by e.1) same.0) (each_all trace entries same.1)
 
   in_first : (key k : List ℕ) (items : List Item) (rest : List KeyHistory) → key ≡ k → items ≢ [] → IsIn key (keys_of_histories (listed_of k items ++ rest))
   in_first key k [] rest same some = absurd (some refl)
   in_first key k (x ∷ items) rest same some = inl same
 
-  in_rest : (key k : List ℕ) (items : List Item) (rest : List KeyHistory) → IsIn key (keys_of_histories rest) → IsIn key (keys_of_histories (listed_of k items ++ rest))
+  in_rest : (key k : List ℕ) (items : List Item) (rest : List KeyHistory) → IsIn key (keys_of_histories rest)
+      → IsIn key (keys_of_histories (listed_of k items ++ rest))
   in_rest key k [] rest there = there
   in_rest key k (x ∷ items) rest there = inr there
 
@@ -153,7 +158,8 @@ module _ {V : Type 0} (script : Script) (group : V → List Event) where
   are_histories trace events entries view groups sorted distinct =
       record {
         ascending = ascend entries (strictly (keys_of entries) sorted distinct);
-        each = each_all (reverse trace) entries (recursion_from_All _ entries (All-weaker _ _ (λ e at. told_here e.0.now e.1 at) entries (found_all entries distinct)));
+        each = each_all (reverse trace) entries (recursion_from_All _ entries
+            (All-weaker _ _ (λ e at. told_here e.0.now e.1 at) entries (found_all entries distinct)));
         every = λ key some. by_lookup key some (lookup (λ (k : Bor (List ℕ)). bytes_eq key k.now) entries) refl;
       }
     where

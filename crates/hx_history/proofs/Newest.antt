@@ -13,7 +13,8 @@ pub newest_push : (xs : List (Bor Update)) (x : Bor Update) → reverse (updates
 newest_push xs x = rw (map-append, reverse-append) refl
 
 -- the writes of a line that were not refused
-pub standing : (xs : List (Bor Update)) → reverse (updates_at (filter (λ (u : Bor Update). not (is_refused u.now.answer)) xs)) ≡ not_refused (reverse (updates_at xs))
+pub standing : (xs : List (Bor Update)) → reverse
+    (updates_at (filter (λ (u : Bor Update). not (is_refused u.now.answer)) xs)) ≡ not_refused (reverse (updates_at xs))
 standing xs =
     ap reverse (map_filter (λ (u : Bor Update). u.now) (λ (u : Update). not (is_refused u.answer)) xs)
     ∙ sym (filter_reverse (λ (u : Update). not (is_refused u.answer)) (updates_at xs))

@@ -24,7 +24,10 @@ told_of u entry n begun end s =
     }
 
 begin_before : (u : SessionId) (entry m n : ℕ) (b begun : Bool) (end : Option CallEnd) (s : CallSpan) → (b ≡ true → m ≡ n)
-    → cond b (record { begin = Some (record { caller = record { session = u; number = m }; entry = entry }); end = first_some end s.end }) (told_of u entry n begun end s)
+    → cond b (record {
+      begin = Some (record { caller = record { session = u; number = m }; entry = entry });
+      end = first_some end s.end;
+    }) (told_of u entry n begun end s)
     ≡ told_of u entry n (b || begun) end s
 begin_before u entry m n true begun end s same =
     ap (λ (k : ℕ). told_of u entry k true end s) (same refl)
@@ -56,7 +59,8 @@ notes_of_more c x older = by_actor (is_session c.session x.actor)
     begun : ℕ → Begin
     begun entry = record { caller = c; entry = entry }
 
-    by_begun : (b : Bool) → cond b (Some (begun (length older + 1))) (option_map begun (begin_of c older)) ≡ option_map begun (cond b (Some (length older + 1)) (begin_of c older))
+    by_begun : (b : Bool) → cond b (Some (begun (length older + 1))) (option_map begun (begin_of c older))
+        ≡ option_map begun (cond b (Some (length older + 1)) (begin_of c older))
     by_begun true = refl
     by_begun false = refl
 
@@ -68,5 +72,9 @@ notes_of_more c x older = by_actor (is_session c.session x.actor)
         }
     by_actor true =
         after_notes_are c.session (length older + 1) c.number x.notes (notes_of c older)
-        ∙ ap (λ (b : Option Begin). record { begin = b; end = first_some (ends_in (length older + 1) c.number x.notes) (note_of_end c older) }) (by_begun (begins_in c.number x.notes))
+        ∙ ap (λ (b : Option Begin). record {
+          begin = b;
+          end = first_some (ends_in (length older + 1) c.number x.notes) (note_of_end c older);
+        })
+        (by_begun (begins_in c.number x.notes))
     by_actor false = refl

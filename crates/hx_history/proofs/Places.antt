@@ -1,5 +1,7 @@
 -- Among writes whose versions don't fall, a version belongs to the place of its rank alone.
-use Rattle.std.proofs.Common.{◌≡◌, ◌≢◌, ℕ, zero, suc, ◌+◌, ◌<◌, ◌≤◌, Bool, true, false, ◌&&◌, List, [], ◌∷◌, ◌++◌, Option, Some, None, map, length, get_or, set, take, cond, refl, sym, ap, subst, ◌∙◌, arith}
+use Rattle.std.proofs.Common.{◌≡◌, ◌≢◌, ℕ, zero, suc, ◌+◌, ◌<◌, ◌≤◌, Bool, true, false, ◌&&◌, List, [], ◌∷◌, ◌++◌}
+use Rattle.std.proofs.Common.{Option, Some, None, map, length, get_or, set, take, cond, refl, sym, ap, subst, ◌∙◌}
+use Rattle.std.proofs.Common.{arith}
 use Rattle.std.proofs.lemmas.List.{append-nil}
 use Rattle.std.proofs.lemmas.List.Elements.{filter_more}
 use Rattle.std.proofs.Math.Logic.{⊎_elim}
@@ -130,16 +132,19 @@ module _ {V : Type 0} (gets : V → List Read) (places : List V) (writes : List 
       let here : is_in_place writes rank r ≡ true =
       place_is writes no_update r.version.0 rank bound below above rank bound ∙ (Decides-eqb rank rank).1 refl in
       let before : gets old ≡ filter (is_in_place writes rank) (take i reads) =
-      some_same (sym (slice_get-map gets places rank ∙ ap (option_map gets) (slice_get-get_or places rank old inside ∙ ap (λ v. Some v) (sym was))) ∙ each rank at) in
+      some_same (sym (slice_get-map gets places rank
+      ∙ ap (option_map gets) (slice_get-get_or places rank old inside ∙ ap (λ v. Some v) (sym was))) ∙ each rank at) in
       slice_get-map gets (set places rank new) rank ∙ ap (option_map gets) (slice_get-set_same places rank new inside)
       ∙ ap (λ xs. Some xs) (is ∙ ap (λ xs. xs ++ r ∷ []) before ∙ sym (filter_one_more (is_in_place writes rank) reads i r within read true here))
 
-  filed_other : (p : ℕ) → p ≤ length writes → p ≢ rank → slice_get (map gets (set places rank new)) p ≡ Some (filter (is_in_place writes p) (take (i + 1) reads))
+  filed_other : (p : ℕ) → p ≤ length writes → p ≢ rank
+      → slice_get (map gets (set places rank new)) p ≡ Some (filter (is_in_place writes p) (take (i + 1) reads))
   filed_other p at other =
       let there : is_in_place writes p r ≡ false =
       place_is writes no_update r.version.0 rank bound below above p at ∙ false_from_ne_true (p == rank) (λ same. other ((Decides-eqb p rank).0 same)) in
       slice_get-map gets (set places rank new) p ∙ ap (option_map gets) (slice_get-set_other places rank p new other) ∙ sym (slice_get-map gets places p)
-      ∙ each p at ∙ ap (λ xs. Some xs) (sym (append-nil (filter (is_in_place writes p) (take i reads))) ∙ sym (filter_one_more (is_in_place writes p) reads i r within read false there))
+      ∙ each p at ∙ ap (λ xs. Some xs) (sym (append-nil (filter (is_in_place writes p) (take i reads)))
+      ∙ sym (filter_one_more (is_in_place writes p) reads i r within read false there))
 
   pub filed : (p : ℕ) → p ≤ length writes → slice_get (map gets (set places rank new)) p ≡ Some (filter (is_in_place writes p) (take (i + 1) reads))
   filed p at =
@@ -152,7 +157,8 @@ module _ {V : Type 0} (gets : V → List Read) (places : List V) (writes : List 
       (λ (other : p ≢ rank). filed_other p at other) (cases_eq p rank)
 
 -- the items of the gets of a place
-pub placed_from : {V : Type 0} (gets : V → List Read) (places : List V) (writes : List (Bor Update)) (reads : List Read) (p : ℕ) (v : V) (object : Option (List Value))
+pub placed_from : {V : Type 0} (gets : V → List Read) (places : List V) (writes : List (Bor Update))
+    (reads : List Read) (p : ℕ) (v : V) (object : Option (List Value))
     → v ≡ get_or places p v → p < length places → slice_get (map gets places) p ≡ Some (filter (is_in_place writes p) reads)
     → map (item_on object) (map read_view (gets v)) ≡ placed (low_at writes p) (version_in writes p) object (map read_view reads)
 placed_from gets places writes reads p v object read within each =

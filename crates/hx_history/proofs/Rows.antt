@@ -1,5 +1,7 @@
 -- A table of rows of spans, and a change of one row.
-use Rattle.std.proofs.Common.{◌≡◌, ◌≢◌, ◌⊎◌, ℕ, zero, suc, ◌+◌, ◌<◌, Bool, true, false, cond, List, [], ◌∷◌, ◌++◌, Option, Some, None, map, reverse, length, get_or, set, take, replicate, refl, sym, ap, subst, ◌∙◌, inl, inr, arith}
+use Rattle.std.proofs.Common.{◌≡◌, ◌≢◌, ◌⊎◌, ℕ, zero, suc, ◌+◌, ◌<◌, Bool, true, false, cond, List, [], ◌∷◌, ◌++◌}
+use Rattle.std.proofs.Common.{Option, Some, None, map, reverse, length, get_or, set, take, replicate, refl, sym, ap}
+use Rattle.std.proofs.Common.{subst, ◌∙◌, inl, inr, arith}
 use Rattle.std.proofs.lemmas.Bool.{cases_eq}
 use Rattle.std.proofs.Math.Logic.{⊎_elim}
 use Rattle.std.proofs.lemmas.Bool.Decides.{Decides-eqb}
@@ -110,7 +112,8 @@ row_taken rows i old new u place x within read is actor spans c =
         let session : u ≡ c.session = ap (λ (n : ℕ). record { 0 = n }) same in
         ap in_row (numbered-set_same rows i c.session.0 new (is ∙ same) within) ∙ spans c.number
         ∙ ap (λ (v : SessionId). option_map (after_notes v place c.number x.notes) (option_map span_of (numbered old c.number))) session
-        ∙ ap (λ (b : Bool). option_map (λ (s : CallSpan). cond b (after_notes c.session place c.number x.notes s) s) (option_map span_of (numbered old c.number)))
+        ∙ ap (λ (b : Bool). option_map (λ (s : CallSpan). cond b (after_notes c.session place c.number x.notes s) s)
+        (option_map span_of (numbered old c.number)))
         (sym (together u c x.actor actor same))
         ∙ ap (λ o. option_map (after_entry c place x) (in_row o)) (sym (numbered_at rows i c.session.0 old (is ∙ same) within read))
 
@@ -138,10 +141,12 @@ module _ {V : Type 0} (row_of : V → List CallNotes) (table : List V) (i : ℕ)
 
   pub same_shape : length (row_of new) ≡ length (row_of old) → shape (map row_of (set table i new)) ≡ shape (map row_of table)
   same_shape same =
-      ap (λ (rows : List (List CallNotes)). shape rows) (map-set row_of table i new) ∙ shape_kept (map row_of table) i (row_of old) (row_of new) wide old_row same
+      ap (λ (rows : List (List CallNotes)). shape rows) (map-set row_of table i new)
+      ∙ shape_kept (map row_of table) i (row_of old) (row_of new) wide old_row same
 
 pub no_row_of : {V : Type 0} (row_of : V → List CallNotes) (table : List V) (count : ℕ) → count ≡ length table → (u : SessionId) (place : ℕ) (x : Entry)
-    → x.actor ≡ Session u → (u.0 ≡ 0) ⊎ (count < u.0) → (c : Caller) → span_in (map row_of table) c ≡ option_map (after_entry c place x) (span_in (map row_of table) c)
+    → x.actor ≡ Session u → (u.0 ≡ 0) ⊎ (count < u.0) → (c : Caller)
+    → span_in (map row_of table) c ≡ option_map (after_entry c place x) (span_in (map row_of table) c)
 no_row_of row_of table count same u place x is none =
     no_row (map row_of table) u place x is
     (⊎_elim (λ zeroth. inl zeroth) (λ past. inr (subst (λ n. n < u.0) (same ∙ sym (length-map table row_of)) past)) none)
@@ -183,14 +188,16 @@ spans_at_start script c =
     by_call (Some op) = refl
 
     by_session : (o : Option (List Op))
-        → when_some (option_map (λ (calls : List Op). replicate (length calls) no_notes) o) None (λ (row : List CallNotes). option_map span_of (numbered row c.number))
+        → when_some (option_map (λ (calls : List Op). replicate (length calls) no_notes) o) None
+        (λ (row : List CallNotes). option_map span_of (numbered row c.number))
         ≡ option_map (λ (op : Op). notes_of c []) (numbered (when_some o [] (λ (calls : List Op). calls)) c.number)
     by_session None = ap (option_map (λ (op : Op). notes_of c [])) (sym (no_call c.number))
     by_session (Some calls) = ap (option_map span_of) (numbered-replicate no_notes calls c.number) ∙ by_call (numbered calls c.number)
 
 pub shape_at_start : (sessions : List (List Op)) → shape (empty_rows sessions) ≡ shape sessions
 shape_at_start [] = refl
-shape_at_start (calls ∷ sessions) = ap (λ n. n ∷ shape (empty_rows sessions)) (length-replicate (length calls) no_notes) ∙ ap (λ ns. length calls ∷ ns) (shape_at_start sessions)
+shape_at_start (calls ∷ sessions) = ap (λ n. n ∷ shape (empty_rows sessions))
+    (length-replicate (length calls) no_notes) ∙ ap (λ ns. length calls ∷ ns) (shape_at_start sessions)
 
 -- the spans one entry further
 pub spans_more : (trace : List Entry) (i : ℕ) (x : Entry) → i < length trace → x ≡ get_or trace i x → (c : Caller) (call : Option Op)

@@ -77,4 +77,5 @@ pub searches_are : (script : Script) (trace : List Entry) (table : List (List Ca
     → shape table ≡ shape script.sessions
     → flat_map (flat_map (searches_in script)) table ≡ searches_of script trace
 searches_are script trace table spans as_script =
-    gathered_are (searches_by script) (λ (c : Caller). list_of (option_map (searched c) (search_of script trace c))) script trace table (search_of_notes script trace) spans as_script
+    gathered_are (searches_by script) (λ (c : Caller). list_of (option_map (searched c) (search_of script trace c)))
+    script trace table (search_of_notes script trace) spans as_script

@@ -13,5 +13,6 @@ pub unsaid : (c : Caller) (place : ℕ) (x : Entry) → x.notes ≡ [] → (o : 
 unsaid c place x none None = refl
 unsaid c place x none (Some s) =
     let is : s ≡ after_entry c place x s =
-    subst (λ (ns : List Note). s ≡ cond (is_session c.session x.actor) (after_notes c.session place c.number ns s) s) (sym none) (same_either (is_session c.session x.actor) s) in
+    subst (λ (ns : List Note). s ≡ cond (is_session c.session x.actor) (after_notes c.session place c.number ns s) s)
+    (sym none) (same_either (is_session c.session x.actor) s) in
     ap (λ t. Some t) is

@@ -1,5 +1,6 @@
 -- A binary search, and how many looks it takes.
-use Rattle.std.proofs.Common.{◌≡◌, ℕ, zero, suc, ◌+◌, ◌/◌, ◌<◌, ◌≤◌, Bool, true, false, cond, List, length, slice_index_or, refl, ap, sym, ◌∙◌, subst, arith, eqb}
+use Rattle.std.proofs.Common.{◌≡◌, ℕ, zero, suc, ◌+◌, ◌/◌, ◌<◌, ◌≤◌, Bool, true, false, cond, List, length}
+use Rattle.std.proofs.Common.{slice_index_or, refl, ap, sym, ◌∙◌, subst, arith, eqb}
 use Rattle.std.specs.List.Sorted.{IsPartitionedBy}
 use Rattle.std.proofs.lemmas.Bool.{cond_both, cond-false, cond-true, eq-eqb, eqb-true, false_from_ne_true, false≢true}
 use Rattle.hx_index.specs.Looks.{HaveCounted, digits_of, digits_within, raised}
@@ -39,7 +40,9 @@ deep zero (suc g) n l m = sym (cond-true (eqb n 0) 0 (suc (digits_within g (n / 
 deep (suc f) zero n l m = cond-true (eqb n 0) 0 (suc (digits_within f (n / 2))) (eq-eqb n 0 (omega (arith, m)))
 deep (suc f) (suc g) n l m = cond_both (eqb n 0) 0 (suc (digits_within f (n / 2))) (λ x. x ≡ cond (eqb n 0) 0 (suc (digits_within g (n / 2))))
     (λ t. sym (cond-true (eqb n 0) 0 (suc (digits_within g (n / 2))) t))
-    (λ t. let z : n ≡ 0 → ⊥ = λ e. false≢true (sym t ∙ eq-eqb n 0 e) in ap suc (deep f g (n / 2) (half-below n f l z) (half-below n g m z)) ∙ sym (cond-false (eqb n 0) 0 (suc (digits_within g (n / 2))) t))
+    (λ t. let z : n ≡ 0 → ⊥ = λ e. false≢true (sym t ∙ eq-eqb n 0 e) in
+    ap suc (deep f g (n / 2) (half-below n f l z) (half-below n g m z))
+    ∙ sym (cond-false (eqb n 0) 0 (suc (digits_within g (n / 2))) t))
 
 grows : (f m n : ℕ) → m ≤ n → digits_within f m ≤ digits_within f n
 grows zero m n l = omega arith
@@ -47,7 +50,9 @@ grows (suc f) m n l = cond_both (eqb m 0) 0 (suc (digits_within f (m / 2))) (λ 
     (λ t. omega arith)
     (λ t. let z : m ≡ 0 → ⊥ = λ e. false≢true (sym t ∙ eq-eqb m 0 e) in
     let r = grows f (m / 2) (n / 2) (omega (arith, l)) in
-    subst (λ x. suc (digits_within f (m / 2)) ≤ x) (sym (cond-false (eqb n 0) 0 (suc (digits_within f (n / 2))) (false_from_ne_true (eqb n 0) (λ u. z (let e = eqb-true n 0 u in omega (arith, e, l)))))) (omega (arith, r)))
+    subst (λ x. suc (digits_within f (m / 2)) ≤ x)
+    (sym (cond-false (eqb n 0) 0 (suc (digits_within f (n / 2)))
+    (false_from_ne_true (eqb n 0) (λ u. z (let e = eqb-true n 0 u in omega (arith, e, l)))))) (omega (arith, r)))
 
 -- a half has a digit less
 pub half-digits : (h n : ℕ) → 0 < n → h ≤ n / 2 → digits_of h + 1 ≤ digits_of n
@@ -55,7 +60,8 @@ half-digits h zero l m = absurd (omega (arith, l))
 half-digits h (suc n) l m =
     let a = deep h n h (omega arith) (omega (arith, m)) in
     let b = grows n h (suc n / 2) m in
-    let c = cond-false (eqb (suc n) 0) 0 (suc (digits_within n (suc n / 2))) (false_from_ne_true (eqb (suc n) 0) (λ t. let e = eqb-true (suc n) 0 t in omega (arith, e))) in
+    let c = cond-false (eqb (suc n) 0) 0 (suc (digits_within n (suc n / 2)))
+    (false_from_ne_true (eqb (suc n) 0) (λ t. let e = eqb-true (suc n) 0 t in omega (arith, e))) in
     omega (arith, a, b, c)
 
 pub raised-most : (n : ℕ) → raised n ≤ n + 1

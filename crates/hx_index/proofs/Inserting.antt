@@ -1,5 +1,7 @@
 -- A number is put into a sorted list, or taken out, at the place found.
-use Rattle.std.proofs.Common.{◌≡◌, ℕ, zero, suc, ◌<◌, ◌≤◌, Bool, true, false, not, ◌&&◌, ◌||◌, List, [], ◌∷◌, length, insert, remove, slice_get, Some, refl, ap, sym, ◌∙◌, subst, arith, eqb, inl, inr, slice_index_or, cond}
+use Rattle.std.proofs.Common.{◌≡◌, ℕ, zero, suc, ◌<◌, ◌≤◌, Bool, true, false, not, ◌&&◌, ◌||◌, List, [], ◌∷◌, length}
+use Rattle.std.proofs.Common.{insert, remove, slice_get, Some, refl, ap, sym, ◌∙◌, subst, arith, eqb, inl, inr}
+use Rattle.std.proofs.Common.{slice_index_or, cond}
 use Rattle.std.specs.List.{AllByRecursion}
 use Rattle.std.specs.List.Sorted.{IsStrictlySortedBy, IsPartitionedBy}
 use Rattle.std.specs.Cmp.{IsTotalOrder}
@@ -11,7 +13,9 @@ use Rattle.hx_index.specs.Invariant.{IsSplit}
 use Rattle.hx_index.specs.Orders.{stands_in, without}
 
 -- from places to the parts of the list
-pub split-at : (p : ℕ → Bool) (k : ℕ) (xs : List ℕ) → k ≤ length xs → ((i : ℕ) → i < k → p (slice_index_or xs i 0) ≡ true) → ((i : ℕ) → k ≤ i → i < length xs → p (slice_index_or xs i 0) ≡ false) → IsSplit p k xs
+pub split-at : (p : ℕ → Bool) (k : ℕ) (xs : List ℕ) → k ≤ length xs
+    → ((i : ℕ) → i < k → p (slice_index_or xs i 0) ≡ true)
+    → ((i : ℕ) → k ≤ i → i < length xs → p (slice_index_or xs i 0) ≡ false) → IsSplit p k xs
 split-at p zero [] l before from = tt
 split-at p zero (x ∷ xs) l before from = from 0 (omega arith) (omega arith)
 split-at p (suc k) [] l before from = absurd (omega arith)
@@ -73,15 +77,19 @@ module _ (R : ℕ → ℕ → Ordering) (o : IsTotalOrder R) where
     all-insert x id (suc k) [] e h = (e, tt)
     all-insert x id (suc k) (y ∷ ys) e h = (h.0, all-insert x id k ys e h.1)
 
-    pub insert-sorted : (id k : ℕ) (xs : List ℕ) → IsStrictlySortedBy R xs → stands_in xs id ≡ false → IsSplit (λ j. is_lt (R j id)) k xs → IsStrictlySortedBy R (insert xs k id)
+    pub insert-sorted : (id k : ℕ) (xs : List ℕ) → IsStrictlySortedBy R xs → stands_in xs id ≡ false
+        → IsSplit (λ j. is_lt (R j id)) k xs → IsStrictlySortedBy R (insert xs k id)
     unfolding IsStrictlySortedBy
     insert-sorted id zero [] s n p = (tt, tt)
     insert-sorted id zero (x ∷ xs) s n p =
         let e = after x id (λ q. false≢true (sym n ∙ or_left (eqb x id) _ (eq-eqb x id q))) p in
         ((e, all-after id x xs e s.0), s)
     insert-sorted id (suc k) [] s n p = absurd p
-    insert-sorted id (suc k) (x ∷ xs) s n p =
-        (all-insert x id k xs (is-less _ p.0) s.0, insert-sorted id k xs s.1 (false_from_ne_true (stands_in xs id) (λ t. false≢true (sym n ∙ or_right (eqb x id) _ t))) p.1)
+    insert-sorted id (suc k) (x ∷ xs) s n p = (
+      all-insert x id k xs (is-less _ p.0) s.0,
+      insert-sorted id k xs s.1
+          (false_from_ne_true (stands_in xs id) (λ t. false≢true (sym n ∙ or_right (eqb x id) _ t))) p.1,
+    )
 
     -- a number that stands in the list stands at the place found
     pub found-at : (id k : ℕ) (xs : List ℕ) → IsStrictlySortedBy R xs → stands_in xs id ≡ true → IsSplit (λ j. is_lt (R j id)) k xs → slice_get xs k ≡ Some id
@@ -109,13 +117,15 @@ module _ (R : ℕ → ℕ → Ordering) (o : IsTotalOrder R) where
         let differs : eqb y id ≡ false = false_from_ne_true (eqb y id) (λ t. less-differs id y h.0 (sym (eqb-true y id t))) in
         ap (λ (b : Bool). cond (not b) (y ∷ without id ys) (without id ys)) differs ∙ ap (λ (l : List ℕ). y ∷ l) (all-without id ys h.1)
 
-    pub remove-without : (id k : ℕ) (xs : List ℕ) → IsStrictlySortedBy R xs → slice_get xs k ≡ Some id → IsSplit (λ j. is_lt (R j id)) k xs → remove xs k ≡ without id xs
+    pub remove-without : (id k : ℕ) (xs : List ℕ) → IsStrictlySortedBy R xs → slice_get xs k ≡ Some id
+        → IsSplit (λ j. is_lt (R j id)) k xs → remove xs k ≡ without id xs
     unfolding IsStrictlySortedBy
     remove-without id k [] s e p = absurd cc
     remove-without id zero (x ∷ xs) s e p =
         let same : x ≡ id = some-same x id e in
         let is : eqb x id ≡ true = eq-eqb x id same in
-        sym (ap (λ (b : Bool). cond (not b) (x ∷ without id xs) (without id xs)) is ∙ all-without id xs (subst (λ z. AllByRecursion (λ y. R z y ≡ Less) xs) same s.0))
+        sym (ap (λ (b : Bool). cond (not b) (x ∷ without id xs) (without id xs)) is
+        ∙ all-without id xs (subst (λ z. AllByRecursion (λ y. R z y ≡ Less) xs) same s.0))
       where
         some-same : (a b : ℕ) → Some a ≡ Some b → a ≡ b
         some-same a b e = cc
@@ -182,7 +192,8 @@ insert-without id (suc k) [] n l = absurd (omega arith)
 insert-without id (suc k) (x ∷ xs) n l =
     let differs : eqb x id ≡ false = false_from_ne_true (eqb x id) (λ t. false≢true (sym n ∙ or_left (eqb x id) _ t)) in
     ap (λ (b : Bool). cond (not b) (x ∷ without id (insert xs k id)) (without id (insert xs k id))) differs
-    ∙ ap (λ (l' : List ℕ). x ∷ l') (insert-without id k xs (false_from_ne_true (stands_in xs id) (λ t. false≢true (sym n ∙ or_right (eqb x id) _ t))) (omega arith))
+    ∙ ap (λ (l' : List ℕ). x ∷ l') (insert-without id k xs
+    (false_from_ne_true (stands_in xs id) (λ t. false≢true (sym n ∙ or_right (eqb x id) _ t))) (omega arith))
 
 pub within-at : {A : Type 0} (xs : List A) (k : ℕ) (x : A) → slice_get xs k ≡ Some x → k < length xs
 within-at [] k x e = absurd cc

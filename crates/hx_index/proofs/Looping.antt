@@ -1,5 +1,6 @@
 -- A loop over the orders changes one after another.
-use Rattle.std.proofs.Common.{◌≡◌, ℕ, zero, suc, ◌+◌, ◌<◌, ◌≤◌, List, [], ◌∷◌, length, slice_get, slice_set, slice_index_or, Some, Vec, refl, ap, sym, ◌∙◌, subst, arith, inl, inr}
+use Rattle.std.proofs.Common.{◌≡◌, ℕ, zero, suc, ◌+◌, ◌<◌, ◌≤◌, List, [], ◌∷◌, length, slice_get, slice_set}
+use Rattle.std.proofs.Common.{slice_index_or, Some, Vec, refl, ap, sym, ◌∙◌, subst, arith, inl, inr}
 use Rattle.std.proofs.lemmas.Bool.{cases_order}
 use Rattle.std.proofs.lemmas.Option.{same_Some, slice_get-get_or, slice_get_within}
 use Rattle.hx_index.specs.Invariant.{EachMoves}
@@ -68,7 +69,9 @@ module _ {Z : Type 0} (P : ℕ → Vec ℕ Z → Vec ℕ Z → Type 0) (old : Li
         stays k before after b a = subst (P k before) (same_Some before after (sym b ∙ a)) (still k before)
 
 -- what holds of the first orders holds of one more
-pub held-more : {Z : Type 0} (Q : Vec ℕ Z → Type 0) (now : List (Vec ℕ Z)) (i : ℕ) (w : Vec ℕ Z) → i < length now → Q w → ((k : ℕ) (v : Vec ℕ Z) → k < i → slice_get now k ≡ Some v → Q v) → (k : ℕ) (v : Vec ℕ Z) → k < i + 1 → slice_get (slice_set now i w) k ≡ Some v → Q v
+pub held-more : {Z : Type 0} (Q : Vec ℕ Z → Type 0) (now : List (Vec ℕ Z)) (i : ℕ) (w : Vec ℕ Z) → i < length now
+    → Q w → ((k : ℕ) (v : Vec ℕ Z) → k < i → slice_get now k ≡ Some v → Q v) → (k : ℕ) (v : Vec ℕ Z) → k < i + 1
+    → slice_get (slice_set now i w) k ≡ Some v → Q v
 held-more Q now i w l q h k v m e = elim (cases_order k i) [
   | inl s ↦ subst Q (same_Some w v (sym (set-here now i w l) ∙ ap (slice_get (slice_set now i w)) (sym s) ∙ e)) q
   | inr (inl less) ↦ h k v less (sym (set-elsewhere now i k w (λ s. omega (arith, less, s))) ∙ e)

@@ -40,7 +40,8 @@ module _ (rows : ℕ → Option Row) (attribute : ℕ) (terms : List Term) (orde
   pub all-matching : (i : ℕ) → stands_in (filter (matches_at rows terms) order) i ≡ matches_at rows terms i
   all-matching i = stands-filter (matches_at rows terms) i order ∙ ap (λ b. matches_at rows terms i && b) (h.each i) ∙ by (rows i)
     where
-      by : (o : Option Row) → (when_some o false (λ (r : Row). matches terms r.key r.object) && is_some o) ≡ when_some o false (λ (r : Row). matches terms r.key r.object)
+      by : (o : Option Row) → (when_some o false (λ (r : Row). matches terms r.key r.object) && is_some o)
+          ≡ when_some o false (λ (r : Row). matches terms r.key r.object)
       by None = refl
       by (Some r) = own (matches terms r.key r.object)
         where
@@ -55,7 +56,12 @@ module _ (rows : ℕ → Option Row) (attribute : ℕ) (terms : List Term) (orde
     where
       apart : (x : ℕ) (ys : List ℕ) → AllByRecursion (λ y. compare_at rows attribute x y ≡ Less) ys → AllByRecursion (λ y. eqb x y ≡ false) ys
       apart x [] l = tt
-      apart x (y ∷ ys) l = (false_from_ne_true (eqb x y) (λ t. less-differs (compare_at rows attribute) (slots-total rows attribute) (slots-exact rows attribute) x y l.0 (eqb-true x y t)), apart x ys l.1)
+      apart x (y ∷ ys) l = (
+        false_from_ne_true (eqb x y)
+            (λ t. less-differs (compare_at rows attribute) (slots-total rows attribute)
+            (slots-exact rows attribute) x y l.0 (eqb-true x y t)),
+        apart x ys l.1,
+      )
 
       distinct : (xs : List ℕ) → IsStrictlySortedBy (compare_at rows attribute) xs → IsDistinct eqb xs
       distinct [] s = tt

@@ -9,7 +9,8 @@ use Rattle.hx_index.proofs.Standing.{with-other}
 
 -- an index is its orders
 pub same-orders : (rows : ℕ → Option Row) (old new : IndexState) → new.orders ≡ old.orders → IsIndexOf rows old → IsIndexOf rows new
-same-orders rows old new e h = subst (λ (os : List (List ℕ)). (k : ℕ) → k < length os → IsOrder rows k (when_some (slice_get os k) [] (λ (order : List ℕ). order))) (sym e) h
+same-orders rows old new e h = subst (λ (os : List (List ℕ)). (k : ℕ) → k < length os
+    → IsOrder rows k (when_some (slice_get os k) [] (λ (order : List ℕ). order))) (sym e) h
 
 pub without-length : (id : ℕ) (fewer more : IndexState) → IsWithout id fewer more → length fewer.orders ≡ length more.orders
 without-length id fewer more e = subst (λ (os : List (List ℕ)). length os ≡ length more.orders) (sym e) (length-map more.orders (without id))

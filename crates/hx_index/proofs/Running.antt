@@ -1,5 +1,7 @@
 -- The run of a term, and what is found in it.
-use Rattle.std.proofs.Common.{◌≡◌, ℕ, zero, suc, ◌+◌, ◌-◌, ◌<◌, ◌≤◌, Bool, true, false, ◌&&◌, cond, List, [], ◌∷◌, length, take, drop, slice_index_or, slice_range, get_or, ℤ, Option, Some, None, refl, ap, sym, ◌∙◌, arith, leb, ltb}
+use Rattle.std.proofs.Common.{◌≡◌, ℕ, zero, suc, ◌+◌, ◌-◌, ◌<◌, ◌≤◌, Bool, true, false, ◌&&◌, cond, List, [], ◌∷◌}
+use Rattle.std.proofs.Common.{length, take, drop, slice_index_or, slice_range, get_or, ℤ, Option, Some, None, refl, ap}
+use Rattle.std.proofs.Common.{sym, ◌∙◌, arith, leb, ltb}
 use Rattle.std.specs.List.{filter, list_all}
 use Rattle.std.specs.Int.Signed.{le_z}
 use Rattle.std.specs.Cmp.Lexicographic.{nat_list_cmp_total, slice_cmp, texts_ties}
@@ -71,25 +73,31 @@ holds-meets (a_term.Range a lo hi) r = by (value_at r.key r.object a)
 pub meets-side : (rows : ℕ → Option Row) (term : Term) (i : ℕ) → meets_at rows term i ≡ is_meets (side_at rows term i)
 meets-side rows term i = by (rows i)
   where
-    by : (o : Option Row) → when_some o false (λ (r : Row). term_holds r.key r.object term) ≡ is_meets (when_some o Below (λ (r : Row). side_of term (value_of (attribute_of term) r)))
+    by : (o : Option Row) → when_some o false (λ (r : Row). term_holds r.key r.object term)
+        ≡ is_meets (when_some o Below (λ (r : Row). side_of term (value_of (attribute_of term) r)))
     by None = refl
     by (Some r) = holds-meets term r
 
 -- where every term holds each one does
-pub matches-meets : (rows : ℕ → Option Row) (terms : List Term) (k : ℕ) (term : Term) → k < length terms → term ≡ get_or terms k term → (i : ℕ) → matches_at rows terms i ≡ true → meets_at rows term i ≡ true
+pub matches-meets : (rows : ℕ → Option Row) (terms : List Term) (k : ℕ) (term : Term) → k < length terms
+    → term ≡ get_or terms k term → (i : ℕ) → matches_at rows terms i ≡ true → meets_at rows term i ≡ true
 matches-meets rows terms k term l e i m = by (rows i) m
   where
-    each : (r : Row) (ts : List Term) (k : ℕ) (d : Term) → k < length ts → list_all (term_holds r.key r.object) ts ≡ true → term_holds r.key r.object (get_or ts k d) ≡ true
+    each : (r : Row) (ts : List Term) (k : ℕ) (d : Term) → k < length ts
+        → list_all (term_holds r.key r.object) ts ≡ true → term_holds r.key r.object (get_or ts k d) ≡ true
     each r [] k d l h = absurd (omega arith)
     each r (t ∷ ts) zero d l h = (and_parts (term_holds r.key r.object t) _ h).0
     each r (t ∷ ts) (suc k) d l h = each r ts k d (omega arith) (and_parts (term_holds r.key r.object t) _ h).1
 
-    by : (o : Option Row) → when_some o false (λ (r : Row). matches terms r.key r.object) ≡ true → when_some o false (λ (r : Row). term_holds r.key r.object term) ≡ true
+    by : (o : Option Row) → when_some o false (λ (r : Row). matches terms r.key r.object) ≡ true
+        → when_some o false (λ (r : Row). term_holds r.key r.object term) ≡ true
     by None h = h
     by (Some r) h = ap (term_holds r.key r.object) e ∙ each r terms k term l h
 
 -- the two ends of a run
-pub run-ends : (rows : ℕ → Option Row) (term : Term) (order : List ℕ) (first end : ℕ) → IsEnd (λ i. is_part false (side_at rows term i)) order first → IsEnd (λ i. is_part true (side_at rows term i)) order end → IsRun rows term order first end
+pub run-ends : (rows : ℕ → Option Row) (term : Term) (order : List ℕ) (first end : ℕ)
+    → IsEnd (λ i. is_part false (side_at rows term i)) order first
+    → IsEnd (λ i. is_part true (side_at rows term i)) order end → IsRun rows term order first end
 run-ends rows term order first end a b = record {
   within = within;
   ends = b.within;
@@ -102,14 +110,16 @@ run-ends rows term order first end a b = record {
     below-both Above e = e
 
     within : first ≤ end
-    within = cond_both (leb first end) true false (λ b. b ≡ leb first end → first ≤ end) (λ t e. leb-true first end t) (λ f e. absurd (crossed (lt-of f))) refl-of
+    within = cond_both (leb first end) true false (λ b. b ≡ leb first end → first ≤ end) (λ t e. leb-true first end t)
+        (λ f e. absurd (crossed (lt-of f))) refl-of
       where
         lt-of : leb first end ≡ false → end < first
         lt-of f = cases (ltb end first) refl
           where
             cases : (c : Bool) → ltb end first ≡ c → end < first
             cases true q = ltb-true end first q
-            cases false q = absurd (let no : end < first → ⊥ = λ l. false≢true (sym q ∙ lt-ltb end first l) in let no2 : first ≤ end → ⊥ = λ l. false≢true (sym f ∙ le-leb first end l) in omega (arith, no, no2))
+            cases false q = absurd (let no : end < first → ⊥ = λ l. false≢true (sym q ∙ lt-ltb end first l) in
+                let no2 : first ≤ end → ⊥ = λ l. false≢true (sym f ∙ le-leb first end l) in omega (arith, no, no2))
 
         crossed : end < first → ⊥
         crossed l = false≢true (sym (b.from end (omega arith) (let w = a.within in omega (arith, w, l))) ∙ below-both _ (a.before end l))
@@ -138,19 +148,26 @@ run-ends rows term order first end a b = record {
         and-false false y e = refl
 
 -- a run is what the test leaves of its order
-pub filter-part : (p : ℕ → Bool) (xs : List ℕ) (a n : ℕ) → a + n ≤ length xs → ((k : ℕ) → k < a → p (slice_index_or xs k 0) ≡ false) → ((k : ℕ) → a ≤ k → k < a + n → p (slice_index_or xs k 0) ≡ true) → ((k : ℕ) → a + n ≤ k → k < length xs → p (slice_index_or xs k 0) ≡ false) → filter p xs ≡ take n (drop a xs)
+pub filter-part : (p : ℕ → Bool) (xs : List ℕ) (a n : ℕ) → a + n ≤ length xs
+    → ((k : ℕ) → k < a → p (slice_index_or xs k 0) ≡ false)
+    → ((k : ℕ) → a ≤ k → k < a + n → p (slice_index_or xs k 0) ≡ true)
+    → ((k : ℕ) → a + n ≤ k → k < length xs → p (slice_index_or xs k 0) ≡ false) → filter p xs ≡ take n (drop a xs)
 filter-part p [] zero zero l below among above = refl
 filter-part p [] zero (suc n) l below among above = absurd (omega (arith, l))
 filter-part p [] (suc a) n l below among above = absurd (omega (arith, l))
 filter-part p (x ∷ xs) zero zero l below among above =
     cond-false (p x) (x ∷ filter p xs) (filter p xs) (above 0 (omega arith) (omega arith))
-    ∙ filter-part p xs zero zero (omega arith) (λ k m. absurd (omega (arith, m))) (λ k m h. absurd (omega (arith, h))) (λ k m h. above (suc k) (omega arith) (omega arith))
+    ∙ filter-part p xs zero zero (omega arith) (λ k m. absurd (omega (arith, m))) (λ k m h. absurd (omega (arith, h)))
+    (λ k m h. above (suc k) (omega arith) (omega arith))
 filter-part p (x ∷ xs) zero (suc n) l below among above =
     cond-true (p x) (x ∷ filter p xs) (filter p xs) (among 0 (omega arith) (omega arith))
-    ∙ ap (λ (ys : List ℕ). x ∷ ys) (filter-part p xs zero n (omega (arith, l)) (λ k m. absurd (omega (arith, m))) (λ k m h. among (suc k) (omega arith) (omega (arith, h))) (λ k m h. above (suc k) (omega (arith, m)) (omega (arith, h))))
+    ∙ ap (λ (ys : List ℕ). x ∷ ys) (filter-part p xs zero n (omega (arith, l)) (λ k m. absurd (omega (arith, m)))
+    (λ k m h. among (suc k) (omega arith) (omega (arith, h))) (λ k m h. above (suc k) (omega (arith, m)) (omega (arith, h))))
 filter-part p (x ∷ xs) (suc a) n l below among above =
     cond-false (p x) (x ∷ filter p xs) (filter p xs) (below 0 (omega arith))
-    ∙ filter-part p xs a n (omega (arith, l)) (λ k m. below (suc k) (omega (arith, m))) (λ k m h. among (suc k) (omega (arith, m)) (omega (arith, h))) (λ k m h. above (suc k) (omega (arith, m)) (omega (arith, h)))
+    ∙ filter-part p xs a n (omega (arith, l)) (λ k m. below (suc k) (omega (arith, m)))
+    (λ k m h. among (suc k) (omega (arith, m)) (omega (arith, h)))
+    (λ k m h. above (suc k) (omega (arith, m)) (omega (arith, h)))
 
 module _ (rows : ℕ → Option Row) (term : Term) (order : List ℕ) (first end : ℕ) (run : IsRun rows term order first end) where
   pub run-is : filter (meets_at rows term) order ≡ slice_range order first end

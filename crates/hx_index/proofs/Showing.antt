@@ -1,5 +1,6 @@
 -- What an index keeps, and what contracts see of it.
-use Rattle.std.proofs.Common.{◌≡◌, ℕ, zero, suc, ◌+◌, ◌<◌, ◌≤◌, ◌^◌, List, [], ◌∷◌, ◌++◌, length, map, slice_get, Some, Option, Vec, vec_capacity, refl, ap, sym, ◌∙◌, subst, arith}
+use Rattle.std.proofs.Common.{◌≡◌, ℕ, zero, suc, ◌+◌, ◌<◌, ◌≤◌, ◌^◌, List, [], ◌∷◌, ◌++◌, length, map, slice_get, Some}
+use Rattle.std.proofs.Common.{Option, Vec, vec_capacity, refl, ap, sym, ◌∙◌, subst, arith}
 use Rattle.std.specs.List.{repeat}
 use Rattle.std.specs.List.Sorted.{IsStrictlySortedBy}
 use Rattle.std.proofs.lemmas.Option.{same_Some, slice_get_within}
@@ -59,7 +60,8 @@ module _ {Z : Type 0} where
   at-within (x ∷ os) (suc k) l = at-within os k (omega arith)
 
   -- the order of an attribute is the list at its place
-  pub order-at : (os : List (Vec ℕ Z)) (room k : ℕ) (o : Vec ℕ Z) → slice_get os k ≡ Some o → order_of (record { orders = items_of os; room = room }) k ≡ o.items
+  pub order-at : (os : List (Vec ℕ Z)) (room k : ℕ) (o : Vec ℕ Z) → slice_get os k ≡ Some o
+      → order_of (record { orders = items_of os; room = room }) k ≡ o.items
   order-at os room k o e = ap (λ (f : Option (List ℕ)). when_some f [] (λ (numbers : List ℕ). numbers)) (items-at os k o e)
 
   -- what is asked of the lists
@@ -77,7 +79,9 @@ module _ {Z : Type 0} where
   count_in os = length (when_some (slice_get (items_of os) 0) [] (λ (numbers : List ℕ). numbers))
 
   -- each order moved from one that was there
-  moved-from : (P : ℕ → Vec ℕ Z → Vec ℕ Z → Type 0) (old new : List (Vec ℕ Z)) → EachMoves P old new → (k : ℕ) (after : Vec ℕ Z) → slice_get new k ≡ Some after → (before : Vec ℕ Z) × (slice_get old k ≡ Some before) × P k before after
+  moved-from : (P : ℕ → Vec ℕ Z → Vec ℕ Z → Type 0) (old new : List (Vec ℕ Z)) → EachMoves P old new
+      → (k : ℕ) (after : Vec ℕ Z) → slice_get new k ≡ Some after → (before : Vec ℕ Z)
+      × (slice_get old k ≡ Some before) × P k before after
   moved-from P old new m k after e =
       let l = slice_get_within new k after e in
       let n = m.count in
@@ -85,7 +89,9 @@ module _ {Z : Type 0} where
       (b.0, b.1, m.each k b.0 after b.1 e)
 
   -- lists that differ place by place alone
-  mapped : (f : List ℕ → List ℕ) (old new : List (Vec ℕ Z)) → length new ≡ length old → ((k : ℕ) (before after : Vec ℕ Z) → slice_get old k ≡ Some before → slice_get new k ≡ Some after → before.items ≡ f after.items) → items_of old ≡ map f (items_of new)
+  mapped : (f : List ℕ → List ℕ) (old new : List (Vec ℕ Z)) → length new ≡ length old
+      → ((k : ℕ) (before after : Vec ℕ Z) → slice_get old k ≡ Some before → slice_get new k ≡ Some after
+      → before.items ≡ f after.items) → items_of old ≡ map f (items_of new)
   mapped f [] [] n h = refl
   mapped f [] (y ∷ ys) n h = absurd (omega (arith, n))
   mapped f (x ∷ xs) [] n h = absurd (omega (arith, n))
@@ -196,10 +202,12 @@ module _ {Z : Type 0} where
         map-same [] = refl
         map-same (x ∷ xs) = ap (λ (l : List (List ℕ)). x ∷ l) (map-same xs)
 
-    pub widened-orders : (new : List (Vec ℕ Z)) (most : ℕ) → room ≤ most → most < 2 ^ 32 → EachMoves IsWidened os new → ((k : ℕ) (o : Vec ℕ Z) → slice_get new k ≡ Some o → room ≤ vec_capacity o → most ≤ vec_capacity o) → HasOrders new most
+    pub widened-orders : (new : List (Vec ℕ Z)) (most : ℕ) → room ≤ most → most < 2 ^ 32 → EachMoves IsWidened os new
+        → ((k : ℕ) (o : Vec ℕ Z) → slice_get new k ≡ Some o → room ≤ vec_capacity o → most ≤ vec_capacity o) → HasOrders new most
     widened-orders new most least small m more = record {
       small = small;
-      within = (let w = h.within in let c = ap (λ (l : List (List ℕ)). length (when_some (slice_get l 0) [] (λ (numbers : List ℕ). numbers))) (widened-same new m) in omega (arith, c, w, least));
+      within = (let w = h.within in let c = ap (λ (l : List (List ℕ)). length
+          (when_some (slice_get l 0) [] (λ (numbers : List ℕ). numbers))) (widened-same new m) in omega (arith, c, w, least));
       some = (let s = h.some in let n = m.count in omega (arith, s, n));
       few = (let s = h.few in let n = m.count in omega (arith, s, n));
       each = λ k o e.
@@ -218,10 +226,14 @@ empty-orders os n e few =
       small = omega arith;
       some = omega (arith, count);
       few = omega (arith, count, few);
-      within = (let first : length (when_some (slice_get (items_of os) 0) [] (λ (numbers : List ℕ). numbers)) ≡ 0 = ap (λ (l : List (List ℕ)). length (when_some (slice_get l 0) [] (λ (numbers : List ℕ). numbers))) (e ∙ ap (λ m. repeat m ([] ∷ [])) (let s : n + 1 ≡ suc n = omega arith in s)) in omega (arith, first));
+      within = (let first : length (when_some (slice_get (items_of os) 0) [] (λ (numbers : List ℕ). numbers)) ≡ 0 =
+          ap (λ (l : List (List ℕ)). length (when_some (slice_get l 0) [] (λ (numbers : List ℕ). numbers)))
+          (e ∙ ap (λ m. repeat m ([] ∷ [])) (let s : n + 1 ≡ suc n = omega arith in s)) in omega (arith, first));
       each = λ k o at.
           let none : o.items ≡ [] = repeat-at (n + 1) k o.items (sym (ap (λ (l : List (List ℕ)). slice_get l k) e) ∙ items-at os k o at) in
-          let first : length (when_some (slice_get (items_of os) 0) [] (λ (numbers : List ℕ). numbers)) ≡ 0 = ap (λ (l : List (List ℕ)). length (when_some (slice_get l 0) [] (λ (numbers : List ℕ). numbers))) (e ∙ ap (λ m. repeat m ([] ∷ [])) (let s : n + 1 ≡ suc n = omega arith in s)) in
+          let first : length (when_some (slice_get (items_of os) 0) [] (λ (numbers : List ℕ). numbers)) ≡ 0 =
+          ap (λ (l : List (List ℕ)). length (when_some (slice_get l 0) [] (λ (numbers : List ℕ). numbers)))
+          (e ∙ ap (λ m. repeat m ([] ∷ [])) (let s : n + 1 ≡ suc n = omega arith in s)) in
           let zero_len = ap length none in
           record { len = omega (arith, zero_len, first); room = omega arith };
     }

@@ -1,5 +1,6 @@
 -- The sides of values ascend with the order of an attribute.
-use Rattle.std.proofs.Common.{◌≡◌, ℕ, ℤ, ◌<◌, Bool, true, false, cond, List, [], ◌∷◌, length, Option, Some, None, slice_index_or, refl, ap, sym, ◌∙◌, arith, zero, suc}
+use Rattle.std.proofs.Common.{◌≡◌, ℕ, ℤ, ◌<◌, Bool, true, false, cond, List, [], ◌∷◌, length, Option, Some, None}
+use Rattle.std.proofs.Common.{slice_index_or, refl, ap, sym, ◌∙◌, arith, zero, suc}
 use Rattle.std.specs.Int.Signed.{le_z}
 use Rattle.std.proofs.lemmas.Int.{ints}
 use Rattle.std.specs.List.{AllByRecursion}
@@ -31,7 +32,8 @@ not-above : (m n : ℤ) → is_gt (int_cmp m n) ≡ false → le_z m n ≡ true
 not-above m n g = grind (arith, ints)
 
 -- whole numbers
-int-part : (past : Bool) (lo hi m n : ℤ) → is_gt (int_cmp m n) ≡ false → is_part past (side_in lo hi (a_value.Int n)) ≡ true → is_part past (side_in lo hi (a_value.Int m)) ≡ true
+int-part : (past : Bool) (lo hi m n : ℤ) → is_gt (int_cmp m n) ≡ false
+    → is_part past (side_in lo hi (a_value.Int n)) ≡ true → is_part past (side_in lo hi (a_value.Int m)) ≡ true
 int-part past lo hi m n g p =
     let least = not-above m n g in
     cond_both (le_z lo m) (cond (le_z m hi) Meets Above) Below (λ s. is_part past s ≡ true)
@@ -52,10 +54,12 @@ int-part past lo hi m n g p =
     not-high : le_z m hi ≡ false → le_z m n ≡ true → le_z n hi ≡ false
     not-high f l = false_from_ne_true (le_z n hi) (λ t. false≢true (sym f ∙ le-chain m n hi l t))
 
-value-part : (past : Bool) (term : Term) (x y : Value) → is_gt (compare_values x y) ≡ false → is_part past (side_of_value term y) ≡ true → is_part past (side_of_value term x) ≡ true
+value-part : (past : Bool) (term : Term) (x y : Value) → is_gt (compare_values x y) ≡ false
+    → is_part past (side_of_value term y) ≡ true → is_part past (side_of_value term x) ≡ true
 value-part past (a_term.Equal a v) x y g p = by (compare_values x y) (compare_values y v) (compare_values x v) refl refl refl g p
   where
-    by : (a b c : Ordering) → compare_values x y ≡ a → compare_values y v ≡ b → compare_values x v ≡ c → is_gt a ≡ false → is_part past (side_by b) ≡ true → is_part past (side_by c) ≡ true
+    by : (a b c : Ordering) → compare_values x y ≡ a → compare_values y v ≡ b → compare_values x v ≡ c
+        → is_gt a ≡ false → is_part past (side_by b) ≡ true → is_part past (side_by c) ≡ true
     by a b Less q r s g p = refl
     by Less Less Equal q r s g p = absurd (let t = values-total.trans x y v q r in cc)
     by Less Less Greater q r s g p = absurd (let t = values-total.trans x y v q r in cc)
@@ -71,7 +75,8 @@ value-part past (a_term.Range a lo hi) (a_value.Text s) y g p = refl
 value-part past (a_term.Range a lo hi) (a_value.Int m) (a_value.Text t) g p = absurd (false≢true (sym g))
 value-part past (a_term.Range a lo hi) (a_value.Int m) (a_value.Int n) g p = int-part past lo hi m n g p
 
-found-part : (past : Bool) (term : Term) (x y : Option Value) → is_gt (option_cmp compare_values x y) ≡ false → is_part past (side_of term y) ≡ true → is_part past (side_of term x) ≡ true
+found-part : (past : Bool) (term : Term) (x y : Option Value) → is_gt (option_cmp compare_values x y) ≡ false
+    → is_part past (side_of term y) ≡ true → is_part past (side_of term x) ≡ true
 found-part past term None y g p = refl
 found-part past term (Some x) None g p = absurd (false≢true (sym g))
 found-part past term (Some x) (Some y) g p = value-part past term x y g p
@@ -84,19 +89,25 @@ first-not Greater b g = absurd (false≢true (sym g))
 less-not : (o : Ordering) → o ≡ Less → is_gt o ≡ false
 less-not o e = ap is_gt e
 
-row-part : (past : Bool) (term : Term) (x y : Option Row) → is_gt (option_cmp (compare_rows (attribute_of term)) x y) ≡ false → is_part past (row-side term y) ≡ true → is_part past (row-side term x) ≡ true
+row-part : (past : Bool) (term : Term) (x y : Option Row)
+    → is_gt (option_cmp (compare_rows (attribute_of term)) x y) ≡ false → is_part past (row-side term y) ≡ true
+    → is_part past (row-side term x) ≡ true
 row-part past term None y g p = refl
 row-part past term (Some r) None g p = absurd (false≢true (sym g))
 row-part past term (Some r) (Some s) g p = found-part past term (value_of (attribute_of term) r) (value_of (attribute_of term) s) (first-not _ _ g) p
 
 -- what is before a value that stands in the part stands in it
-pub parted : (past : Bool) (term : Term) (rows : ℕ → Option Row) (order : List ℕ) → IsStrictlySortedBy (compare_at rows (attribute_of term)) order → IsPartitionedBy (λ i. is_part past (side_at rows term i)) order
+pub parted : (past : Bool) (term : Term) (rows : ℕ → Option Row) (order : List ℕ)
+    → IsStrictlySortedBy (compare_at rows (attribute_of term)) order
+    → IsPartitionedBy (λ i. is_part past (side_at rows term i)) order
 unfolding IsStrictlySortedBy
 parted past term rows [] s i j d l m e = absurd (omega arith)
 parted past term rows (x ∷ xs) s zero zero d l m e = e
-parted past term rows (x ∷ xs) s zero (suc j) d l m e = row-part past term (rows x) (rows (slice_index_or xs j d)) (first-not _ _ (less-not _ (at xs j d s.0 (omega arith)))) e
+parted past term rows (x ∷ xs) s zero (suc j) d l m e =
+    row-part past term (rows x) (rows (slice_index_or xs j d)) (first-not _ _ (less-not _ (at xs j d s.0 (omega arith)))) e
   where
-    at : (ys : List ℕ) (j d : ℕ) → AllByRecursion (λ y. compare_at rows (attribute_of term) x y ≡ Less) ys → j < length ys → compare_at rows (attribute_of term) x (slice_index_or ys j d) ≡ Less
+    at : (ys : List ℕ) (j d : ℕ) → AllByRecursion (λ y. compare_at rows (attribute_of term) x y ≡ Less) ys
+        → j < length ys → compare_at rows (attribute_of term) x (slice_index_or ys j d) ≡ Less
     at [] j d h l = absurd (omega arith)
     at (y ∷ ys) zero d h l = h.0
     at (y ∷ ys) (suc j) d h l = at ys j d h.1 (omega arith)

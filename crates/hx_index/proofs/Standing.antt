@@ -30,7 +30,8 @@ module _ (rows : ℕ → Option Row) (id : ℕ) (own : Option Row) where
   without-with = λ k i. one i k
     where
       one : (i : ℕ) → rows_without id (rows_with id own rows) i ≡ rows_without id rows i
-      one i = cond_both (eqb i id) None (rows_with id own rows i) (λ (o : Option Row). o ≡ rows_without id rows i) (λ t. sym (cond-true (eqb i id) None (rows i) t)) (λ f. with-other i f ∙ sym (cond-false (eqb i id) None (rows i) f))
+      one i = cond_both (eqb i id) None (rows_with id own rows i) (λ (o : Option Row). o ≡ rows_without id rows i)
+          (λ t. sym (cond-true (eqb i id) None (rows i) t)) (λ f. with-other i f ∙ sym (cond-false (eqb i id) None (rows i) f))
 
 same-some : (attribute : ℕ) (x y : Option Row) → option_cmp (compare_rows attribute) x y ≡ Equal → is_some x ≡ is_some y
 same-some attribute None None e = refl
@@ -39,17 +40,22 @@ same-some attribute (Some r) None e = absurd cc
 same-some attribute (Some r) (Some s) e = refl
 
 -- where objects compare alike, the order is the same
-alike-order : (attribute : ℕ) (old new : ℕ → Option Row) → ((i : ℕ) → option_cmp (compare_rows attribute) (old i) (new i) ≡ Equal) → (order : List ℕ) → IsOrder old attribute order → IsOrder new attribute order
+alike-order : (attribute : ℕ) (old new : ℕ → Option Row)
+    → ((i : ℕ) → option_cmp (compare_rows attribute) (old i) (new i) ≡ Equal) → (order : List ℕ)
+    → IsOrder old attribute order → IsOrder new attribute order
 alike-order attribute old new alike order h = record {
   ascend = subst (λ (R : ℕ → ℕ → Ordering). IsStrictlySortedBy R order) (λ k i j. same i j k) h.ascend;
   each = λ i. h.each i ∙ same-some attribute (old i) (new i) (alike i);
 }
   where
     same : (i j : ℕ) → compare_at old attribute i j ≡ compare_at new attribute i j
-    same i j = ap (λ (o : Ordering). ordering_then o (nat_cmp i j)) (same-both (options_total (rows-total attribute)) (old i) (new i) (old j) (new j) (alike i) (alike j))
+    same i j = ap (λ (o : Ordering). ordering_then o (nat_cmp i j))
+        (same-both (options_total (rows-total attribute)) (old i) (new i) (old j) (new j) (alike i) (alike j))
 
 -- the order of an attribute depends on its values and the keys alone
-pub stays-order : (rows : ℕ → Option Row) (id attribute : ℕ) (own : Option Row) → option_cmp (compare_rows attribute) own (rows id) ≡ Equal → (order : List ℕ) → IsOrder (rows_with id own rows) attribute order → IsOrder rows attribute order
+pub stays-order : (rows : ℕ → Option Row) (id attribute : ℕ) (own : Option Row)
+    → option_cmp (compare_rows attribute) own (rows id) ≡ Equal → (order : List ℕ)
+    → IsOrder (rows_with id own rows) attribute order → IsOrder rows attribute order
 stays-order rows id attribute own e = alike-order attribute (rows_with id own rows) rows alike
   where
     alike : (i : ℕ) → option_cmp (compare_rows attribute) (rows_with id own rows i) (rows i) ≡ Equal

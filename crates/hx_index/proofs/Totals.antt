@@ -62,7 +62,8 @@ pub value-above : (attribute : ℕ) (r : Row) → (attribute ≡ 0 → ⊥) → 
 value-above attribute r n = cond-false (eqb attribute 0) (Some (a_value.Text (key_of r))) (slice_get r.object (attribute - 1)) (ne_eqb attribute 0 n)
 
 -- rows of one key that have the same value of an attribute
-pub rows-equal : (attribute : ℕ) (r s : Row) → key_of r ≡ key_of s → option_cmp compare_values (value_of attribute r) (value_of attribute s) ≡ Equal → compare_rows attribute r s ≡ Equal
+pub rows-equal : (attribute : ℕ) (r s : Row) → key_of r ≡ key_of s
+    → option_cmp compare_values (value_of attribute r) (value_of attribute s) ≡ Equal → compare_rows attribute r s ≡ Equal
 rows-equal attribute r s e f =
     ap (λ (a : Ordering). ordering_then a (slice_cmp nat_cmp (key_of r) (key_of s))) f
     ∙ ap (slice_cmp nat_cmp (key_of r)) (sym e)

@@ -1,5 +1,6 @@
 -- What an index keeps, and what is said of its parts.
-use Rattle.std.specs.Prelude.{◌≡◌, ℕ, zero, suc, ◌<◌, ◌≤◌, ◌+◌, Bool, true, false, ⊤, List, [], ◌∷◌, length, map, ◌^◌, slice_get, slice_index_or, slice_range, Option, Some, Vec, vec_capacity, vec_len}
+use Rattle.std.specs.Prelude.{◌≡◌, ℕ, zero, suc, ◌<◌, ◌≤◌, ◌+◌, Bool, true, false, ⊤, List, [], ◌∷◌, length, map, ◌^◌}
+use Rattle.std.specs.Prelude.{slice_get, slice_index_or, slice_range, Option, Some, Vec, vec_capacity, vec_len}
 use Rattle.std.specs.List.{filter}
 use Rattle.std.specs.Ordering.{is_lt}
 use Rattle.hx_types.specs.Words.{when_some}
@@ -77,7 +78,8 @@ pub record HasOrders {Z : Type 0} (orders : List (Vec ℕ Z)) (most : ℕ) : Typ
   pub few : length orders ≤ 2 ^ 32
   pub within : length (when_some (slice_get (items_of orders) 0) [] (λ (numbers : List ℕ). numbers)) ≤ most
   pub small : most < 2 ^ 32
-  pub each : (k : ℕ) (order : Vec ℕ Z) → slice_get orders k ≡ Some order → HasRoom (length (when_some (slice_get (items_of orders) 0) [] (λ (numbers : List ℕ). numbers))) most order
+  pub each : (k : ℕ) (order : Vec ℕ Z) → slice_get orders k ≡ Some order
+      → HasRoom (length (when_some (slice_get (items_of orders) 0) [] (λ (numbers : List ℕ). numbers))) most order
 
 -- in the order of an attribute all that match stand from the first place to the end
 pub record IsSpan (index : IndexState) (rows : ℕ → Option Row) (terms : List Term) (attribute first end : ℕ) : Type 0 where

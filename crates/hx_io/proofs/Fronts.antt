@@ -6,7 +6,8 @@ use Rattle.std.specs.Prelude.{Option}
 use Rattle.std.specs.Io.KnownBytes.{Consumes}
 
 -- a buffer's front is what was left, and none is read only at the end
-pub read_front : (all left front buf : List ℕ) (given chunk n : ℕ) → drop given all ≡ left → front ≡ take n (drop given all) → n ≡ min (min (length buf) chunk) (length (drop given all)) → 1 ≤ chunk
+pub read_front : (all left front buf : List ℕ) (given chunk n : ℕ) → drop given all ≡ left
+    → front ≡ take n (drop given all) → n ≡ min (min (length buf) chunk) (length (drop given all)) → 1 ≤ chunk
     → (left ≡ take n (front ++ drop n buf) ++ drop (given + n) all) × (n ≡ 0 → 0 < length (front ++ drop n buf) → drop (given + n) all ≡ [])
 read_front all left front buf given chunk n is_left is_front count some =
     let size : length front ≡ n = ap length is_front ∙ omega (arith, length-take n (drop given all)) in
@@ -20,4 +21,8 @@ read_front all left front buf given chunk n is_left is_front count some =
 -- the bytes that were taken so far, and those of one more read
 pub consumes_more : (a b c : Option (List ℕ)) (bytes buf : List ℕ) (n : ℕ) → n ≤ length buf → Consumes a b bytes → Consumes b c (take n buf)
     → (all : List ℕ) × Consumes a c all × (length all ≡ length bytes + n)
-consumes_more a b c bytes buf n room p q = (bytes ++ take n buf, Consumes-trans a b c bytes (take n buf) p q, omega (arith, length-append bytes (take n buf), length-take n buf))
+consumes_more a b c bytes buf n room p q = (
+  bytes ++ take n buf,
+  Consumes-trans a b c bytes (take n buf) p q,
+  omega (arith, length-append bytes (take n buf), length-take n buf),
+)

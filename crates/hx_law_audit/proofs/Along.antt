@@ -13,13 +13,16 @@ onto x xs older = ap (λ (l : List Item). l ++ older) (reverse-append (x ∷ [])
 
 -- from each place of a list of what the items are of
 module _ {A : Type 0} (f : A → Item) (R : List Item → Item → Type 0) where
-  along : (older : List Item) (xs : List A) → Along R older → ((k : ℕ) → IfSome (slice_get xs k) (λ x. R (reverse (map f (take k xs)) ++ older) (f x))) → Along R (reverse (map f xs) ++ older)
+  along : (older : List Item) (xs : List A) → Along R older
+      → ((k : ℕ) → IfSome (slice_get xs k) (λ x. R (reverse (map f (take k xs)) ++ older) (f x)))
+      → Along R (reverse (map f xs) ++ older)
   along older [] before all = before
   along older (x ∷ xs) before all =
       subst (Along R) (sym (onto (f x) (map f xs) older))
       (along (f x ∷ older) xs (all 0, before) (λ k. by (slice_get xs k) k (all (suc k))))
     where
-      by : (o : Option A) (k : ℕ) → IfSome o (λ y. R (reverse (f x ∷ map f (take k xs)) ++ older) (f y)) → IfSome o (λ y. R (reverse (map f (take k xs)) ++ (f x ∷ older)) (f y))
+      by : (o : Option A) (k : ℕ) → IfSome o (λ y. R (reverse (f x ∷ map f (take k xs)) ++ older) (f y))
+          → IfSome o (λ y. R (reverse (map f (take k xs)) ++ (f x ∷ older)) (f y))
       by None k h = tt
       by (Some y) k h = subst (λ (l : List Item). R l (f y)) (onto (f x) (map f (take k xs)) older) h
 
@@ -49,6 +52,7 @@ along_each P (y ∷ older) h x (inl e) = subst P (sym e) h.0
 along_each P (y ∷ older) h x (inr i) = along_each P older h.1 x i
 
 -- a part of what holds along a history
-pub along_part : (R S : List Item → Item → Type 0) → ((older : List Item) (x : Item) → R older x → S older x) → (items : List Item) → Along R items → Along S items
+pub along_part : (R S : List Item → Item → Type 0) → ((older : List Item) (x : Item) → R older x → S older x)
+    → (items : List Item) → Along R items → Along S items
 along_part R S part [] h = tt
 along_part R S part (x ∷ older) h = (part older x h.0, along_part R S part older h.1)

@@ -40,9 +40,12 @@ in_told b y xs i = in-map (item_told b.calls) xs y (of-reverse (map (item_told b
 
 -- each item is the effect of its call
 legal_lines : (b : Block) (h : HistoryLines) → ((k : ℕ) → IsEffectOfCall b h k) → Along (λ older x. IsEffect b.space (object_now older) x) (Told b h.items)
-legal_lines b h all = along_all (item_told b.calls) (λ older x. IsEffect b.space (object_now older) x) h.items (λ k. at k (slice_get h.items k) (slice_get-map (item_told b.calls) h.items k) (all k))
+legal_lines b h all = along_all (item_told b.calls) (λ older x. IsEffect b.space (object_now older) x) h.items
+    (λ k. at k (slice_get h.items k) (slice_get-map (item_told b.calls) h.items k) (all k))
   where
-    at : (k : ℕ) (o : Option ItemLine) → slice_get (map (item_told b.calls) h.items) k ≡ option_map (item_told b.calls) o → IfSome (slice_get (map (item_told b.calls) h.items) k) (IsEffect b.space (object_now (reverse (take k (map (item_told b.calls) h.items)))))
+    at : (k : ℕ) (o : Option ItemLine) → slice_get (map (item_told b.calls) h.items) k
+        ≡ option_map (item_told b.calls) o → IfSome (slice_get (map (item_told b.calls) h.items) k)
+        (IsEffect b.space (object_now (reverse (take k (map (item_told b.calls) h.items)))))
         → IfSome o (λ x. IsEffect b.space (object_now (reverse (map (item_told b.calls) (take k h.items)))) (item_told b.calls x))
     at k None e f = tt
     at k (Some x) e f =
@@ -57,11 +60,15 @@ record KnownBy (b : Block) (key : List ℕ) (older : List Item) (x : Item) : Typ
 refused_told : (l : CallLine) → is_refused_call l ≡ false → when_some (end_told l) false (λ (e : CallEnd). is_refused e.answer) ≡ false
 refused_told l r = by_end l.end
   where
-    by_answer : (n : ℕ) (o : Option Answer) → when_some o false is_refused ≡ false → when_some (when_some o None (λ (a : Answer). Some (record { entry = n; version = l.version; answer = a }))) false (λ (e : CallEnd). is_refused e.answer) ≡ false
+    by_answer : (n : ℕ) (o : Option Answer) → when_some o false is_refused ≡ false
+        → when_some (when_some o None (λ (a : Answer). Some (record { entry = n; version = l.version; answer = a })))
+        false (λ (e : CallEnd). is_refused e.answer) ≡ false
     by_answer n None q = refl
     by_answer n (Some a) q = q
 
-    by_end : (o : Option ℕ) → when_some (when_some o None (λ n. when_some l.answer None (λ (a : Answer). Some (record { entry = n; version = l.version; answer = a })))) false (λ (e : CallEnd). is_refused e.answer) ≡ false
+    by_end : (o : Option ℕ) → when_some (when_some o None
+        (λ n. when_some l.answer None (λ (a : Answer). Some (record { entry = n; version = l.version; answer = a }))))
+        false (λ (e : CallEnd). is_refused e.answer) ≡ false
     by_end None = refl
     by_end (Some n) = by_answer n l.answer r
 
@@ -72,10 +79,14 @@ on_told key op t = by (key_of op) t
     by None q = absurd (false≢true q)
     by (Some k) q = ap Some (one_key k key q)
 
-call_told : (b : Block) (key : List ℕ) (x : ItemLine) → when_some (call_at b.calls x.caller) false (λ (l : CallLine). is_on key l.op && not (is_refused_call l)) ≡ true → IsCallBy (account_of b) key (item_told b.calls x)
+call_told : (b : Block) (key : List ℕ) (x : ItemLine)
+    → when_some (call_at b.calls x.caller) false (λ (l : CallLine). is_on key l.op && not (is_refused_call l)) ≡ true
+    → IsCallBy (account_of b) key (item_told b.calls x)
 call_told b key x t = by (call_at b.calls x.caller) refl t
   where
-    by : (o : Option CallLine) → call_at b.calls x.caller ≡ o → when_some o false (λ (l : CallLine). is_on key l.op && not (is_refused_call l)) ≡ true → IsCallBy (account_of b) key (item_told b.calls x)
+    by : (o : Option CallLine) → call_at b.calls x.caller ≡ o
+        → when_some o false (λ (l : CallLine). is_on key l.op && not (is_refused_call l)) ≡ true
+        → IsCallBy (account_of b) key (item_told b.calls x)
     by None q u = absurd (false≢true u)
     by (Some l) q u =
         let parts = and_parts (is_on key l.op) (not (is_refused_call l)) u in
@@ -83,7 +94,8 @@ call_told b key x t = by (call_at b.calls x.caller) refl t
           begun = ap (λ (o : Option CallLine). is_some (option_map (λ (m : CallLine). m.begin) o)) q;
           called = ap (option_map (λ (m : CallLine). m.op)) q ∙ ap Some (sym (op_is q));
           on_key = ap key_of (op_is q) ∙ on_told key l.op parts.0;
-          not_refused = ap (λ (o : Option CallLine). when_some (when_some o None end_told) false (λ (e : CallEnd). is_refused e.answer)) q ∙ refused_told l (not-true (is_refused_call l) parts.1);
+          not_refused = ap (λ (o : Option CallLine). when_some (when_some o None end_told) false
+              (λ (e : CallEnd). is_refused e.answer)) q ∙ refused_told l (not-true (is_refused_call l) parts.1);
         }
       where
         op_is : call_at b.calls x.caller ≡ Some l → op_told b.calls x.caller ≡ l.op
@@ -94,15 +106,19 @@ known_lines b h all = along_all (item_told b.calls) (KnownBy b h.key) h.items (�
   where
     known : (k : ℕ) (x : ItemLine) → is_known b.calls h.key (take k h.items) x ≡ true → KnownBy b h.key (Told b (take k h.items)) (item_told b.calls x)
     known k x t =
-        let parts = and_parts (when_some (call_at b.calls x.caller) false (λ (l : CallLine). is_on h.key l.op && not (is_refused_call l))) (not (list_any (λ (y : ItemLine). same_caller y.caller x.caller) (take k h.items))) t in
+        let parts = and_parts (when_some (call_at b.calls x.caller) false
+        (λ (l : CallLine). is_on h.key l.op && not (is_refused_call l)))
+        (not (list_any (λ (y : ItemLine). same_caller y.caller x.caller) (take k h.items))) t in
         record {
           call = call_told b h.key x parts.0;
           once = λ y i e. (let z = in_told b y (take k h.items) i in
               false≢true (sym (not-true (list_any (λ (w : ItemLine). same_caller w.caller x.caller) (take k h.items)) parts.1)
-              ∙ any_in (λ (w : ItemLine). same_caller w.caller x.caller) z.0 (take k h.items) z.1 (same_self z.0.caller x.caller (sym (ap (λ (w : Item). w.caller) z.2) ∙ e))));
+              ∙ any_in (λ (w : ItemLine). same_caller w.caller x.caller) z.0 (take k h.items) z.1
+              (same_self z.0.caller x.caller (sym (ap (λ (w : Item). w.caller) z.2) ∙ e))));
         }
 
-    at : (k : ℕ) (o : Option ItemLine) → IfSome o (λ (x : ItemLine). is_known b.calls h.key (take k h.items) x ≡ true) → IfSome o (λ (x : ItemLine). KnownBy b h.key (Told b (take k h.items)) (item_told b.calls x))
+    at : (k : ℕ) (o : Option ItemLine) → IfSome o (λ (x : ItemLine). is_known b.calls h.key (take k h.items) x ≡ true)
+        → IfSome o (λ (x : ItemLine). KnownBy b h.key (Told b (take k h.items)) (item_told b.calls x))
     at k None f = tt
     at k (Some x) f = known k x f
 
@@ -121,39 +137,53 @@ timely_lines b h all = along_all (item_told b.calls) (TimelyBy b) h.items (λ k.
         ∙ any_in (λ (w : ItemLine). ended_before_begin (account_of b) x.caller w.caller) z.0 (take k h.items) z.1
         (ap (λ (o : Option ℕ). when_some o false (ended_before (account_of b) x.caller)) (ap (account_of b).begin_of (sym same) ∙ begin) ∙ ended))
 
-    at : (k : ℕ) (o : Option ItemLine) → IfSome o (λ (x : ItemLine). is_in_time (account_of b) (take k h.items) x ≡ true) → IfSome o (λ (x : ItemLine). TimelyBy b (Told b (take k h.items)) (item_told b.calls x))
+    at : (k : ℕ) (o : Option ItemLine) → IfSome o (λ (x : ItemLine). is_in_time (account_of b) (take k h.items) x
+        ≡ true) → IfSome o (λ (x : ItemLine). TimelyBy b (Told b (take k h.items)) (item_told b.calls x))
     at k None f = tt
     at k (Some x) f = timely k x f
 
 -- calls that ended before others began stand before them
-in_order : (b : Block) (items : List Item) → Along (TimelyBy b) items → (x y : Item) (n : ℕ) → IsIn x items → IsIn y items → x.caller ≢ y.caller → (account_of b).begin_of y.caller ≡ Some n → ended_before (account_of b) x.caller n ≡ true → IsBefore y x items
+in_order : (b : Block) (items : List Item) → Along (TimelyBy b) items → (x y : Item) (n : ℕ) → IsIn x items
+    → IsIn y items → x.caller ≢ y.caller → (account_of b).begin_of y.caller ≡ Some n
+    → ended_before (account_of b) x.caller n ≡ true → IsBefore y x items
 in_order b [] h x y n i j apart begin ended = absurd i
 in_order b (z ∷ older) h x y n (inl e) (inl f) apart begin ended = absurd (apart (ap (λ (w : Item). w.caller) (e ∙ sym f)))
-in_order b (z ∷ older) h x y n (inl e) (inr j) apart begin ended = absurd (h.0 y n j begin (ap (λ (w : Item). ended_before (account_of b) w.caller n) (sym e) ∙ ended))
+in_order b (z ∷ older) h x y n (inl e) (inr j) apart begin ended =
+    absurd (h.0 y n j begin (ap (λ (w : Item). ended_before (account_of b) w.caller n) (sym e) ∙ ended))
 in_order b (z ∷ older) h x y n (inr i) (inl f) apart begin ended = inl (f, i)
 in_order b (z ∷ older) h x y n (inr i) (inr j) apart begin ended = inr (in_order b older h.1 x y n i j apart begin ended)
 
 -- what holds of each history holds of each key's
-pub at_key : (b : Block) (Q : List ℕ → List ItemLine → Type 0) → ((key : List ℕ) → Q key []) → ((h : HistoryLines) → IsIn h b.histories → Q h.key h.items) → (key : List ℕ) → Q key (items_at b.histories key)
+pub at_key : (b : Block) (Q : List ℕ → List ItemLine → Type 0) → ((key : List ℕ) → Q key [])
+    → ((h : HistoryLines) → IsIn h b.histories → Q h.key h.items) → (key : List ℕ) → Q key (items_at b.histories key)
 at_key b Q none each key = by (find (λ (h : HistoryLines). same_text h.key key) b.histories) refl
   where
     by : (o : Option HistoryLines) → find (λ (h : HistoryLines). same_text h.key key) b.histories ≡ o → Q key (when_some o [] (λ (h : HistoryLines). h.items))
     by None q = none key
-    by (Some h) q = let f = found_in (λ (x : HistoryLines). same_text x.key key) b.histories h q in subst (λ k. Q k h.items) (one_key h.key key f.1) (each h f.0)
+    by (Some h) q = let f = found_in (λ (x : HistoryLines). same_text x.key key) b.histories h q in
+        subst (λ k. Q k h.items) (one_key h.key key f.1) (each h f.0)
 
 -- an answered call stands in its history
-pub answered : (b : Block) → ((l : CallLine) → IsIn l b.calls → HasItem b l) → (key : List ℕ) (c : Caller) (answer : Answer) → IsAnsweredBy (account_of b) key c answer
+pub answered : (b : Block) → ((l : CallLine) → IsIn l b.calls → HasItem b l)
+    → (key : List ℕ) (c : Caller) (answer : Answer) → IsAnsweredBy (account_of b) key c answer
     → (x : Item) × IsIn x ((account_of b).history_of key) × (x.caller ≡ c) × (x.answer ≡ answer)
 answered b has key c answer u = by (call_at b.calls c) refl u.called u.ended
   where
-    by : (o : Option CallLine) → call_at b.calls c ≡ o → option_map (λ (l : CallLine). l.op) o ≡ Some u.op → when_some o None end_told ≡ Some (record { entry = u.entry; version = u.version; answer = answer })
+    by : (o : Option CallLine) → call_at b.calls c ≡ o → option_map (λ (l : CallLine). l.op) o ≡ Some u.op
+        → when_some o None end_told ≡ Some (record { entry = u.entry; version = u.version; answer = answer })
         → (x : Item) × IsIn x (Told b (items_at b.histories key)) × (x.caller ≡ c) × (x.answer ≡ answer)
     by None q called ended = absurd (cc)
     by (Some l) q called ended =
         let f = found_in (λ (m : CallLine). same_caller m.caller c) b.calls l q in
         let op : l.op ≡ u.op = cc in
-        let item = has l f.0 key (record { entry = u.entry; version = u.version; answer = answer }) (ap key_of op ∙ u.on_key) ended u.not_refused in
-        (item_told b.calls item.item, in-reverse (map (item_told b.calls) (items_at b.histories key)) (item_told b.calls item.item) (map-in (item_told b.calls) (items_at b.histories key) item.item item.stands), item.of_caller ∙ one_caller l.caller c f.1, item.answered)
+        let item = has l f.0 key (record { entry = u.entry; version = u.version; answer = answer }) (ap key_of op ∙ u.on_key) ended u.not_refused in (
+          item_told b.calls item.item,
+          in-reverse (map (item_told b.calls) (items_at b.histories key))
+              (item_told b.calls item.item) (map-in (item_told b.calls)
+              (items_at b.histories key) item.item item.stands),
+          item.of_caller ∙ one_caller l.caller c f.1,
+          item.answered,
+        )
 
 -- rows ascend where each stands above the one before
 abbrev above_at : Option Row → List Row → ℕ → Option Row
@@ -167,7 +197,8 @@ next_rising : (above : Option Row) (r : Row) (rows : List Row) → Rising above 
 next_rising above r rows h zero = h (suc zero)
 next_rising above r rows h (suc k) = h (suc (suc k))
 
-all_above : (key : List ℕ) (r : Row) (rows : List Row) → (key ≡ r.key) ⊎ (text_below key r.key ≡ true) → Rising (Some r) rows → list_all (text_below key) (map (λ (x : Row). x.key) rows) ≡ true
+all_above : (key : List ℕ) (r : Row) (rows : List Row) → (key ≡ r.key) ⊎ (text_below key r.key ≡ true)
+    → Rising (Some r) rows → list_all (text_below key) (map (λ (x : Row). x.key) rows) ≡ true
 all_above key r [] low h = refl
 all_above key r (x ∷ rows) low h =
     and_from (text_below key x.key) (list_all (text_below key) (map (λ (y : Row). y.key) rows)) (first low)
@@ -213,16 +244,22 @@ pub record LinearLines (b : Block) (key : List ℕ) (xs : List ItemLine) : Type 
   pub legal : IsLegal b.space (Told b xs)
   pub calls : (x : Item) → IsIn x (Told b xs) → IsCallBy (account_of b) key x
   pub once : EachOnce (Told b xs)
-  pub in_order : (x y : Item) (n : ℕ) → IsIn x (Told b xs) → IsIn y (Told b xs) → x.caller ≢ y.caller → (account_of b).begin_of y.caller ≡ Some n → ended_before (account_of b) x.caller n ≡ true → IsBefore y x (Told b xs)
+  pub in_order : (x y : Item) (n : ℕ) → IsIn x (Told b xs) → IsIn y (Told b xs) → x.caller ≢ y.caller
+      → (account_of b).begin_of y.caller ≡ Some n → ended_before (account_of b) x.caller n ≡ true → IsBefore y x (Told b xs)
 
 pub no_lines : (b : Block) (key : List ℕ) → LinearLines b key []
 no_lines b key = record { legal = tt; calls = λ x i. absurd i; once = tt; in_order = λ x y n i j apart begin ended. absurd i }
 
-pub linear_at : (b : Block) (h : HistoryLines) → ((k : ℕ) → IsKnown b h k) → ((k : ℕ) → IsEffectOfCall b h k) → ((k : ℕ) → IsInTime b h k) → LinearLines b h.key h.items
+pub linear_at : (b : Block) (h : HistoryLines) → ((k : ℕ) → IsKnown b h k) → ((k : ℕ) → IsEffectOfCall b h k)
+    → ((k : ℕ) → IsInTime b h k) → LinearLines b h.key h.items
 linear_at b h known legal order =
     record {
       legal = along_legal b.space (Told b h.items) (legal_lines b h legal);
-      calls = along_each (IsCallBy (account_of b) h.key) (Told b h.items) (along_part (KnownBy b h.key) (λ older x. IsCallBy (account_of b) h.key x) (λ older x k. k.call) (Told b h.items) (known_lines b h known));
-      once = along_once (Told b h.items) (along_part (KnownBy b h.key) (λ older x. (y : Item) → IsIn y older → y.caller ≡ x.caller → ⊥) (λ older x k. k.once) (Told b h.items) (known_lines b h known));
+      calls = along_each (IsCallBy (account_of b) h.key) (Told b h.items)
+          (along_part (KnownBy b h.key) (λ older x. IsCallBy (account_of b) h.key x) (λ older x k. k.call)
+          (Told b h.items) (known_lines b h known));
+      once = along_once (Told b h.items) (along_part (KnownBy b h.key)
+          (λ older x. (y : Item) → IsIn y older → y.caller ≡ x.caller → ⊥) (λ older x k. k.once) (Told b h.items)
+          (known_lines b h known));
       in_order = in_order b (Told b h.items) (timely_lines b h order);
     }

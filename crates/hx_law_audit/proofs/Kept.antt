@@ -40,12 +40,14 @@ module _ {A : Type 0} (f : A → Item) (R : List Item → Item → Type 0) where
   older_along [] older h = h
   older_along (x ∷ newer) older h = older_along newer older h.1
 
-  places : (older : List Item) (xs : List A) → Along R (reverse (map f xs) ++ older) → (k : ℕ) → IfSome (slice_get xs k) (λ x. R (reverse (map f (take k xs)) ++ older) (f x))
+  places : (older : List Item) (xs : List A) → Along R (reverse (map f xs) ++ older) → (k : ℕ)
+      → IfSome (slice_get xs k) (λ x. R (reverse (map f (take k xs)) ++ older) (f x))
   places older [] h k = tt
   places older (x ∷ xs) h zero = (older_along (reverse (map f xs)) (f x ∷ older) (subst (Along R) (onto (f x) (map f xs) older) h)).0
   places older (x ∷ xs) h (suc k) = by (slice_get xs k) (places (f x ∷ older) xs (subst (Along R) (onto (f x) (map f xs) older) h) k)
     where
-      by : (o : Option A) → IfSome o (λ y. R (reverse (map f (take k xs)) ++ (f x ∷ older)) (f y)) → IfSome o (λ y. R (reverse (f x ∷ map f (take k xs)) ++ older) (f y))
+      by : (o : Option A) → IfSome o (λ y. R (reverse (map f (take k xs)) ++ (f x ∷ older)) (f y))
+          → IfSome o (λ y. R (reverse (f x ∷ map f (take k xs)) ++ older) (f y))
       by None g = tt
       by (Some y) g = subst (λ (l : List Item). R l (f y)) (sym (onto (f x) (map f (take k xs)) older)) g
 
@@ -94,11 +96,14 @@ doubt_not_refused (an_answer.Doubt region epoch) e = refl
 doubt_not_refused other e = absurd (false≢true e)
 
 -- a call with an end tells whether it was refused
-refused_from : (l : CallLine) → is_some l.end ≡ has_end l.answer → when_some (end_told l) false (λ (e : CallEnd). is_refused e.answer) ≡ false → is_refused_call l ≡ false
+refused_from : (l : CallLine) → is_some l.end ≡ has_end l.answer
+    → when_some (end_told l) false (λ (e : CallEnd). is_refused e.answer) ≡ false → is_refused_call l ≡ false
 refused_from l ended q = by l.answer l.end ended q
   where
     by : (answer : Option Answer) (end : Option ℕ) → is_some end ≡ has_end answer
-        → when_some (when_some end None (λ n. when_some answer None (λ (a : Answer). Some (record { entry = n; version = l.version; answer = a })))) false (λ (e : CallEnd). is_refused e.answer) ≡ false
+        → when_some (when_some end None (λ n. when_some answer None
+        (λ (a : Answer). Some (record { entry = n; version = l.version; answer = a })))) false
+        (λ (e : CallEnd). is_refused e.answer) ≡ false
         → when_some answer false is_refused ≡ false
     by None end e r = refl
     by (Some a) None e r = doubt_not_refused a (not-false (is_doubt a) (sym e))
@@ -107,30 +112,41 @@ refused_from l ended q = by l.answer l.end ended q
 on_from : (key : List ℕ) (op : Op) → key_of op ≡ Some key → is_on key op ≡ true
 on_from key op e = ap (λ (o : Option (List ℕ)). when_some o false (λ k. same_text k key)) e ∙ same_text_self key
 
-call_kept : (b : Block) → IsBlock b → (key : List ℕ) (x : ItemLine) → IsCallBy (account_of b) key (item_told b.calls x) → when_some (call_at b.calls x.caller) false (λ (l : CallLine). is_on key l.op && not (is_refused_call l)) ≡ true
+call_kept : (b : Block) → IsBlock b → (key : List ℕ) (x : ItemLine)
+    → IsCallBy (account_of b) key (item_told b.calls x)
+    → when_some (call_at b.calls x.caller) false (λ (l : CallLine). is_on key l.op && not (is_refused_call l)) ≡ true
 call_kept b valid key x c = by (call_at b.calls x.caller) refl c.begun c.on_key c.not_refused
   where
-    by : (o : Option CallLine) → call_at b.calls x.caller ≡ o → is_some (option_map (λ (l : CallLine). l.begin) o) ≡ true → key_of (when_some o (Search []) (λ (l : CallLine). l.op)) ≡ Some key
-        → when_some (when_some o None end_told) false (λ (e : CallEnd). is_refused e.answer) ≡ false → when_some o false (λ (l : CallLine). is_on key l.op && not (is_refused_call l)) ≡ true
+    by : (o : Option CallLine) → call_at b.calls x.caller ≡ o
+        → is_some (option_map (λ (l : CallLine). l.begin) o) ≡ true
+        → key_of (when_some o (Search []) (λ (l : CallLine). l.op)) ≡ Some key
+        → when_some (when_some o None end_told) false (λ (e : CallEnd). is_refused e.answer) ≡ false
+        → when_some o false (λ (l : CallLine). is_on key l.op && not (is_refused_call l)) ≡ true
     by None q begun on_key not_refused = absurd (false≢true begun)
     by (Some l) q begun on_key not_refused =
         let f = found_in (λ (m : CallLine). same_caller m.caller x.caller) b.calls l q in
         and_from (is_on key l.op) (not (is_refused_call l)) (on_from key l.op on_key)
         (not_from_false (is_refused_call l) (refused_from l (all_in (IsCallOf b.space) b.calls valid.calls l f.0).ended not_refused))
 
-known_kept : (b : Block) → IsBlock b → (h : HistoryLines) → EachOnce (Told b h.items) → ((x : Item) → IsIn x (Told b h.items) → IsCallBy (account_of b) h.key x) → (k : ℕ) → IsKnown b h k
+known_kept : (b : Block) → IsBlock b → (h : HistoryLines) → EachOnce (Told b h.items)
+    → ((x : Item) → IsIn x (Told b h.items) → IsCallBy (account_of b) h.key x) → (k : ℕ) → IsKnown b h k
 known_kept b valid h once calls k =
     by (slice_get h.items k) (at_places (item_told b.calls) OnceBy h.items (once_along (Told b h.items) once) k)
     (at_places (item_told b.calls) (λ older x. IsCallBy (account_of b) h.key x) h.items (each_along (IsCallBy (account_of b) h.key) (Told b h.items) calls) k)
   where
-    by : (o : Option ItemLine) → IfSome o (λ x. OnceBy (Told b (take k h.items)) (item_told b.calls x)) → IfSome o (λ x. IsCallBy (account_of b) h.key (item_told b.calls x)) → IfSome o (λ (x : ItemLine). is_known b.calls h.key (take k h.items) x ≡ true)
+    by : (o : Option ItemLine) → IfSome o (λ x. OnceBy (Told b (take k h.items)) (item_told b.calls x))
+        → IfSome o (λ x. IsCallBy (account_of b) h.key (item_told b.calls x))
+        → IfSome o (λ (x : ItemLine). is_known b.calls h.key (take k h.items) x ≡ true)
     by None f g = tt
     by (Some x) f g =
-        and_from (when_some (call_at b.calls x.caller) false (λ (l : CallLine). is_on h.key l.op && not (is_refused_call l))) (not (list_any (λ (y : ItemLine). same_caller y.caller x.caller) (take k h.items)))
+        and_from (when_some (call_at b.calls x.caller) false
+        (λ (l : CallLine). is_on h.key l.op && not (is_refused_call l)))
+        (not (list_any (λ (y : ItemLine). same_caller y.caller x.caller) (take k h.items)))
         (call_kept b valid h.key x g)
         (not_from_false (list_any (λ (y : ItemLine). same_caller y.caller x.caller) (take k h.items))
         (false_from_ne_true (list_any (λ (y : ItemLine). same_caller y.caller x.caller) (take k h.items))
-        (λ t. let r = any_has (λ (y : ItemLine). same_caller y.caller x.caller) (take k h.items) t in f (item_told b.calls r.0) (to_told b r.0 (take k h.items) r.1) (one_caller r.0.caller x.caller r.2))))
+        (λ t. let r = any_has (λ (y : ItemLine). same_caller y.caller x.caller) (take k h.items) t in
+        f (item_told b.calls r.0) (to_told b r.0 (take k h.items) r.1) (one_caller r.0.caller x.caller r.2))))
 
 -- ---- order
 
@@ -140,7 +156,8 @@ before_second y z (w ∷ xs) (inl p) = inr p.1
 before_second y z (w ∷ xs) (inr b) = inr (before_second y z xs b)
 
 abbrev InOrder : Block → List Item → Type 0
-InOrder b items = (x y : Item) (n : ℕ) → IsIn x items → IsIn y items → x.caller ≢ y.caller → (account_of b).begin_of y.caller ≡ Some n → ended_before (account_of b) x.caller n ≡ true → IsBefore y x items
+InOrder b items = (x y : Item) (n : ℕ) → IsIn x items → IsIn y items → x.caller ≢ y.caller
+    → (account_of b).begin_of y.caller ≡ Some n → ended_before (account_of b) x.caller n ≡ true → IsBefore y x items
 
 timely_along : (b : Block) (items : List Item) → EachOnce items → InOrder b items → Along (TimelyBy b) items
 timely_along b [] o h = tt
@@ -163,14 +180,16 @@ timely_along b (z ∷ older) o h = (here, timely_along b older o.1 rest)
 in_time_kept : (b : Block) (h : HistoryLines) → Along (TimelyBy b) (Told b h.items) → (k : ℕ) → IsInTime b h k
 in_time_kept b h timely k = by (slice_get h.items k) (at_places (item_told b.calls) (TimelyBy b) h.items timely k)
   where
-    late : (x y : ItemLine) → TimelyBy b (Told b (take k h.items)) (item_told b.calls x) → IsIn y (take k h.items) → ended_before_begin (account_of b) x.caller y.caller ≡ true → ⊥
+    late : (x y : ItemLine) → TimelyBy b (Told b (take k h.items)) (item_told b.calls x) → IsIn y (take k h.items)
+        → ended_before_begin (account_of b) x.caller y.caller ≡ true → ⊥
     late x y f i t = at ((account_of b).begin_of y.caller) refl t
       where
         at : (o : Option ℕ) → (account_of b).begin_of y.caller ≡ o → when_some o false (ended_before (account_of b) x.caller) ≡ true → ⊥
         at None q e = false≢true e
         at (Some n) q e = f (item_told b.calls y) n (to_told b y (take k h.items) i) q e
 
-    by : (o : Option ItemLine) → IfSome o (λ x. TimelyBy b (Told b (take k h.items)) (item_told b.calls x)) → IfSome o (λ (x : ItemLine). is_in_time (account_of b) (take k h.items) x ≡ true)
+    by : (o : Option ItemLine) → IfSome o (λ x. TimelyBy b (Told b (take k h.items)) (item_told b.calls x))
+        → IfSome o (λ (x : ItemLine). is_in_time (account_of b) (take k h.items) x ≡ true)
     by None f = tt
     by (Some x) f =
         not_from_false (list_any (λ (y : ItemLine). ended_before_begin (account_of b) x.caller y.caller) (take k h.items))
@@ -197,7 +216,8 @@ missing_kept b valid linear l i key e k q fits =
 
 -- ---- true
 
-above_kept : (rows : List Row) (k : ℕ) (r : Row) → keys_ascend (map (λ (x : Row). x.key) rows) ≡ true → slice_get rows k ≡ Some r → is_above (row_above rows k) r.key ≡ true
+above_kept : (rows : List Row) (k : ℕ) (r : Row) → keys_ascend (map (λ (x : Row). x.key) rows) ≡ true
+    → slice_get rows k ≡ Some r → is_above (row_above rows k) r.key ≡ true
 above_kept rows zero r up e = refl
 above_kept [] (suc k) r up e = absurd (cc)
 above_kept (x ∷ []) (suc k) r up e = absurd (cc)
@@ -235,14 +255,16 @@ calls_keep b valid c clauses.Whole l i (suc k) = tt
 calls_keep b valid c clauses.True l i zero = tt
 calls_keep b valid c clauses.True l i (suc k) = true_kept b l (λ s e. c.true_rows l s i e) k
 
-pub histories_keep : (b : Block) → IsBlock b → IsConsistent b → (clause : Clause) (h : HistoryLines) → IsIn h b.histories → (place : ℕ) → KeepsInHistory clause b h place
+pub histories_keep : (b : Block) → IsBlock b → IsConsistent b → (clause : Clause) (h : HistoryLines)
+    → IsIn h b.histories → (place : ℕ) → KeepsInHistory clause b h place
 histories_keep b valid c clauses.Foreign h i zero = tt
 histories_keep b valid c clauses.Foreign h i (suc k) = let lines = history_is b valid h i (c.linear h.key) in known_kept b valid h lines.once lines.calls k
 histories_keep b valid c clauses.Legal h i zero = tt
 histories_keep b valid c clauses.Legal h i (suc k) = legal_kept b h (history_is b valid h i (c.linear h.key)).legal k
 histories_keep b valid c clauses.Missing h i place = tt
 histories_keep b valid c clauses.Order h i zero = tt
-histories_keep b valid c clauses.Order h i (suc k) = let lines = history_is b valid h i (c.linear h.key) in in_time_kept b h (timely_along b (Told b h.items) lines.once lines.in_order) k
+histories_keep b valid c clauses.Order h i (suc k) = let lines = history_is b valid h i (c.linear h.key) in
+    in_time_kept b h (timely_along b (Told b h.items) lines.once lines.in_order) k
 histories_keep b valid c clauses.Whole h i place = tt
 histories_keep b valid c clauses.True h i place = tt
 
@@ -268,12 +290,15 @@ module _ (clause : Clause) where
       by (inl j) = f p j place
       by (inr j) = g p j place
 
-  for_calls : (b : Block) (line : ℕ) (calls : List CallLine) → ((l : CallLine) → IsIn l calls → (place : ℕ) → KeepsInCall clause b l place) → Holds (calls_from b line calls)
+  for_calls : (b : Block) (line : ℕ) (calls : List CallLine)
+      → ((l : CallLine) → IsIn l calls → (place : ℕ) → KeepsInCall clause b l place) → Holds (calls_from b line calls)
   for_calls b line [] h p i place = absurd i
   for_calls b line (x ∷ rest) h p (inl e) place = subst (λ (q : Placed). KeepsInPiece clause q.block q.piece place) (sym e) (h x (inl refl) place)
   for_calls b line (x ∷ rest) h p (inr i) place = for_calls b (line + call_lines x) rest (λ l j. h l (inr j)) p i place
 
-  for_histories : (b : Block) (line : ℕ) (histories : List HistoryLines) → ((h : HistoryLines) → IsIn h histories → (place : ℕ) → KeepsInHistory clause b h place) → Holds (histories_from b line histories)
+  for_histories : (b : Block) (line : ℕ) (histories : List HistoryLines)
+      → ((h : HistoryLines) → IsIn h histories → (place : ℕ) → KeepsInHistory clause b h place)
+      → Holds (histories_from b line histories)
   for_histories b line [] h p i place = absurd i
   for_histories b line (x ∷ rest) h p (inl e) place = subst (λ (q : Placed). KeepsInPiece clause q.block q.piece place) (sym e) (h x (inl refl) place)
   for_histories b line (x ∷ rest) h p (inr i) place = for_histories b (line + history_lines x) rest (λ l j. h l (inr j)) p i place
@@ -285,7 +310,8 @@ module _ (clause : Clause) where
       let first = line + space_lines b.space in
       both (block_from b line) (blocks_from (line + block_lines b) rest)
       (both (calls_from b first b.calls) (histories_from b (first + lines_of_calls b.calls) b.histories)
-      (for_calls b first b.calls (calls_keep b c.0 c.1 clause)) (for_histories b (first + lines_of_calls b.calls) b.histories (histories_keep b c.0 c.1 clause)))
+      (for_calls b first b.calls (calls_keep b c.0 c.1 clause))
+      (for_histories b (first + lines_of_calls b.calls) b.histories (histories_keep b c.0 c.1 clause)))
       (for_blocks (line + block_lines b) rest (λ x j. h x (inr j)))
 
 pub consistent_keeps : (r : ReportValue) → IsReportValue r → ((b : Block) → IsIn b r.blocks → IsConsistent b) → IsVerdict r verdicts.Yes

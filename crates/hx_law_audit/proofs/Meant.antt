@@ -18,7 +18,8 @@ yes_means r verdict b i =
     let order = kept_in_histories clauses.Order r (verdict clauses.Order) b i in
     let whole = kept_in_calls clauses.Whole r (verdict clauses.Whole) b i in
     let rows = kept_in_calls clauses.True r (verdict clauses.True) b i in
-    let lines = at_key b (LinearLines b) (no_lines b) (λ (h : HistoryLines) j. linear_at b h (λ k. known h j (suc k)) (λ k. legal h j (suc k)) (λ k. order h j (suc k))) in
+    let lines = at_key b (LinearLines b) (no_lines b)
+    (λ (h : HistoryLines) j. linear_at b h (λ k. known h j (suc k)) (λ k. legal h j (suc k)) (λ k. order h j (suc k))) in
     record {
       linear = λ key. record {
         legal = (lines key).legal;

@@ -10,7 +10,16 @@ module _ (script : Script) (trace : List Entry) where
   linear key l =
       record {
         legal = l.legal;
-        answered_once = λ c answer u. l.answered_once c answer (record { op = u.op; called = u.called; on_key = u.on_key; entry = u.entry; version = u.version; ended = u.ended; not_refused = u.not_refused });
+        answered_once = λ c answer u. l.answered_once c answer
+            (record {
+              op = u.op;
+              called = u.called;
+              on_key = u.on_key;
+              entry = u.entry;
+              version = u.version;
+              ended = u.ended;
+              not_refused = u.not_refused;
+            });
         honest = record {
           calls = λ x i. (let c = l.honest.calls x i in record { begun = c.begun; called = c.called; on_key = c.on_key; not_refused = c.not_refused });
           once = l.honest.once;
@@ -36,10 +45,28 @@ module _ (script : Script) (trace : List Entry) where
       )
 
   true_row : (s : FinishedSearch) (r : Row) → IsTrueRow script trace s r → by.IsTrueRowBy (run_account script trace) s r
-  true_row s r t = record { cut = t.cut; stands = t.stands; changes = t.changes; version = t.version; object = t.object; match = t.match; began = t.began; newest = t.newest }
+  true_row s r t = record {
+    cut = t.cut;
+    stands = t.stands;
+    changes = t.changes;
+    version = t.version;
+    object = t.object;
+    match = t.match;
+    began = t.began;
+    newest = t.newest;
+  }
 
   row_true : (s : FinishedSearch) (r : Row) → by.IsTrueRowBy (run_account script trace) s r → IsTrueRow script trace s r
-  row_true s r t = record { cut = t.cut; stands = t.stands; changes = t.changes; version = t.version; object = t.object; match = t.match; began = t.began; newest = t.newest }
+  row_true s r t = record {
+    cut = t.cut;
+    stands = t.stands;
+    changes = t.changes;
+    version = t.version;
+    object = t.object;
+    match = t.match;
+    began = t.began;
+    newest = t.newest;
+  }
 
   true_search : (s : FinishedSearch) → IsSearchTrue script trace s ↔ by.IsSearchTrueBy (run_account script trace) s
   true_search s = (

@@ -15,7 +15,8 @@ use Rattle.hx_law_audit.proofs.Consistent.{in_told}
 use Rattle.hx_law_audit.proofs.Meant.{yes_means}
 
 -- a call that ended before a time is over by then
-is_over : (b : Block) (c : Caller) (e n : ℕ) → option_map (λ (z : CallEnd). z.entry) ((account_of b).end_of c) ≡ Some e → e < n → ended_before (account_of b) c n ≡ true
+is_over : (b : Block) (c : Caller) (e n : ℕ) → option_map (λ (z : CallEnd). z.entry) ((account_of b).end_of c)
+    ≡ Some e → e < n → ended_before (account_of b) c n ≡ true
 is_over b c e n q l = by ((account_of b).end_of c) q
   where
     by : (o : Option CallEnd) → option_map (λ (z : CallEnd). z.entry) o ≡ Some e → when_some o false (λ (z : CallEnd). ltb z.entry n) ≡ true
@@ -26,19 +27,25 @@ is_over b c e n q l = by ((account_of b).end_of c) q
 end_at : (l : CallLine) (e : ℕ) → option_map (λ (z : CallEnd). z.entry) (end_told l) ≡ Some e → l.end ≡ Some e
 end_at l e q = by l.end q
   where
-    by_answer : (n : ℕ) (o : Option Answer) → option_map (λ (z : CallEnd). z.entry) (when_some o None (λ (a : Answer). Some (record { entry = n; version = l.version; answer = a }))) ≡ Some e → Some n ≡ Some e
+    by_answer : (n : ℕ) (o : Option Answer) → option_map (λ (z : CallEnd). z.entry)
+        (when_some o None (λ (a : Answer). Some (record { entry = n; version = l.version; answer = a }))) ≡ Some e
+        → Some n ≡ Some e
     by_answer n None r = absurd (cc)
     by_answer n (Some a) r = r
 
-    by : (o : Option ℕ) → option_map (λ (z : CallEnd). z.entry) (when_some o None (λ n. when_some l.answer None (λ (a : Answer). Some (record { entry = n; version = l.version; answer = a })))) ≡ Some e → o ≡ Some e
+    by : (o : Option ℕ) → option_map (λ (z : CallEnd). z.entry)
+        (when_some o None (λ n. when_some l.answer None
+        (λ (a : Answer). Some (record { entry = n; version = l.version; answer = a })))) ≡ Some e → o ≡ Some e
     by None r = absurd (cc)
     by (Some n) r = by_answer n l.answer r
 
 -- no call ended before it began
-sound : (b : Block) → EndsFollow b → (c : Caller) (m e : ℕ) → (account_of b).begin_of c ≡ Some m → option_map (λ (z : CallEnd). z.entry) ((account_of b).end_of c) ≡ Some e → m ≤ e
+sound : (b : Block) → EndsFollow b → (c : Caller) (m e : ℕ) → (account_of b).begin_of c ≡ Some m
+    → option_map (λ (z : CallEnd). z.entry) ((account_of b).end_of c) ≡ Some e → m ≤ e
 sound b follow c m e begin end = by (call_at b.calls c) refl begin end
   where
-    by : (o : Option CallLine) → call_at b.calls c ≡ o → option_map (λ (l : CallLine). l.begin) o ≡ Some m → option_map (λ (z : CallEnd). z.entry) (when_some o None end_told) ≡ Some e → m ≤ e
+    by : (o : Option CallLine) → call_at b.calls c ≡ o → option_map (λ (l : CallLine). l.begin) o ≡ Some m
+        → option_map (λ (z : CallEnd). z.entry) (when_some o None end_told) ≡ Some e → m ≤ e
     by None q s t = absurd (cc)
     by (Some l) q s t =
         let f = found_in (λ (x : CallLine). same_caller x.caller c) b.calls l q in
@@ -49,13 +56,16 @@ sound b follow c m e begin end = by (call_at b.calls c) refl begin end
 key_told : (b : Block) (key : List ℕ) (x : Item) → IsIn x ((account_of b).history_of key) → IsIn key (map (λ (h : HistoryLines). h.key) b.histories)
 key_told b key x i = by (find (λ (h : HistoryLines). same_text h.key key) b.histories) refl i
   where
-    by : (o : Option HistoryLines) → find (λ (h : HistoryLines). same_text h.key key) b.histories ≡ o → IsIn x (reverse (map (item_told b.calls) (when_some o [] (λ (h : HistoryLines). h.items)))) → IsIn key (map (λ (h : HistoryLines). h.key) b.histories)
+    by : (o : Option HistoryLines) → find (λ (h : HistoryLines). same_text h.key key) b.histories ≡ o
+        → IsIn x (reverse (map (item_told b.calls) (when_some o [] (λ (h : HistoryLines). h.items))))
+        → IsIn key (map (λ (h : HistoryLines). h.key) b.histories)
     by None q j = absurd (in_told b x [] j).1
     by (Some h) q j =
         let f = found_in (λ (y : HistoryLines). same_text y.key key) b.histories h q in
         subst (λ k. IsIn k (map (λ (y : HistoryLines). y.key) b.histories)) (one_key h.key key f.1) (map-in (λ (y : HistoryLines). y.key) b.histories h f.0)
 
-in_time : (b : Block) → EndsFollow b → ((key : List ℕ) → IsLinearBy (account_of b) b.space key) → AreInTime (times_told b) (λ key. (account_of b).history_of key)
+in_time : (b : Block) → EndsFollow b → ((key : List ℕ) → IsLinearBy (account_of b) b.space key)
+    → AreInTime (times_told b) (λ key. (account_of b).history_of key)
 in_time b follow linear =
     record {
       once = λ key. none_twice ((account_of b).history_of key) (linear key).honest.once;

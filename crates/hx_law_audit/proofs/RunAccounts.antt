@@ -17,7 +17,8 @@ use Rattle.hx_law_audit.proofs.RunNotes.{began_called, ended_began}
 use Rattle.hx_law_audit.proofs.RunTold.{IsTold}
 use Rattle.hx_law_audit.proofs.SameAccounts.{SameAccounts, stop_of}
 
-module _ (script : Script) (trace : List Entry) (fits : TraceFits script trace) (listed : List KeyHistory) (histories : AreHistories script trace listed) (linear : (key : List ℕ) → IsLinear script trace key)
+module _ (script : Script) (trace : List Entry) (fits : TraceFits script trace) (listed : List KeyHistory)
+    (histories : AreHistories script trace listed) (linear : (key : List ℕ) → IsLinear script trace key)
     (told : (key : List ℕ) (x : Item) → IsIn x (history_of script key trace) → IsTold x) where
   module _ (b : Block) (calls_are : b.calls ≡ call_lines script trace) (histories_are : b.histories ≡ map history_lines listed) where
     -- the line of a caller
@@ -50,7 +51,9 @@ module _ (script : Script) (trace : List Entry) (fits : TraceFits script trace) 
     op_back c op e = by (begin_of c trace) refl
       where
         by : (o : Option ℕ) → begin_of c trace ≡ o → call_of script c ≡ Some op
-        by None q = absurd (let z : None ≡ Some op = sym (ap (option_map (λ (l : CallLine). l.op)) (at c ∙ ap (option_map (λ m. call_line script (record_at c trace m))) q)) ∙ e in cc)
+        by None q = absurd (let z : None ≡ Some op = sym
+            (ap (option_map (λ (l : CallLine). l.op)) (at c
+            ∙ ap (option_map (λ m. call_line script (record_at c trace m))) q)) ∙ e in cc)
         by (Some n) q = sym (op_is c n q) ∙ e
 
     -- ---- ends
@@ -69,8 +72,10 @@ module _ (script : Script) (trace : List Entry) (fits : TraceFits script trace) 
     end c = sym (by (begin_of c trace) refl)
       where
         by : (o : Option ℕ) → begin_of c trace ≡ o → option_map stop_of ((account_of b).end_of c) ≡ option_map stop_of (end_of c trace)
-        by None q = ap (λ o. option_map stop_of (when_some o None end_told)) (at c ∙ ap (option_map (λ m. call_line script (record_at c trace m))) q) ∙ sym (ap (option_map stop_of) (no_end c q))
-        by (Some n) q = ap (λ o. option_map stop_of (when_some o None end_told)) (at c ∙ ap (option_map (λ m. call_line script (record_at c trace m))) q) ∙ line_end script trace c n
+        by None q = ap (λ o. option_map stop_of (when_some o None end_told))
+            (at c ∙ ap (option_map (λ m. call_line script (record_at c trace m))) q) ∙ sym (ap (option_map stop_of) (no_end c q))
+        by (Some n) q = ap (λ o. option_map stop_of (when_some o None end_told))
+            (at c ∙ ap (option_map (λ m. call_line script (record_at c trace m))) q) ∙ line_end script trace c n
 
     -- ---- histories
 
@@ -89,7 +94,8 @@ module _ (script : Script) (trace : List Entry) (fits : TraceFits script trace) 
             ∙ ap (λ o. when_some o (Search []) (λ (op : Op). op)) call.called in
             λ j. record { version = x.version; caller = x.caller; op = op_same j; answer = told key x i j; object = x.object }
 
-    items_are : (key : List ℕ) (xs : List Item) → ((x : Item) → IsIn x xs → IsIn x (history_of script key trace)) → map (item_told b.calls) (map item_line xs) ≡ xs
+    items_are : (key : List ℕ) (xs : List Item) → ((x : Item) → IsIn x xs → IsIn x (history_of script key trace))
+        → map (item_told b.calls) (map item_line xs) ≡ xs
     items_are key [] h = refl
     items_are key (x ∷ xs) h = λ j. item_is key x (h x (inl refl)) j ∷ items_are key xs (λ y i. h y (inr i)) j
 
@@ -102,23 +108,30 @@ module _ (script : Script) (trace : List Entry) (fits : TraceFits script trace) 
         ∙ reverse-reverse (history_of script h.key trace)
 
     -- what isn't found isn't listed
-    found_key : (key : List ℕ) (hs : List KeyHistory) → find (λ (h : HistoryLines). same_text h.key key) (map history_lines hs) ≡ None → IsIn key (keys_of_histories hs) → ⊥
+    found_key : (key : List ℕ) (hs : List KeyHistory)
+        → find (λ (h : HistoryLines). same_text h.key key) (map history_lines hs) ≡ None → IsIn key (keys_of_histories hs) → ⊥
     found_key key [] e i = i
     found_key key (h ∷ hs) e i = by (found_key key hs) (same_text h.key key) refl e i
       where
-        by : (find (λ (g : HistoryLines). same_text g.key key) (map history_lines hs) ≡ None → IsIn key (keys_of_histories hs) → ⊥) → (t : Bool) → same_text h.key key ≡ t
-            → cond t (Some (history_lines h)) (find (λ (g : HistoryLines). same_text g.key key) (map history_lines hs)) ≡ None → IsIn key (keys_of_histories (h ∷ hs)) → ⊥
+        by : (find (λ (g : HistoryLines). same_text g.key key) (map history_lines hs) ≡ None
+            → IsIn key (keys_of_histories hs) → ⊥) → (t : Bool) → same_text h.key key ≡ t
+            → cond t (Some (history_lines h)) (find (λ (g : HistoryLines). same_text g.key key)
+            (map history_lines hs)) ≡ None → IsIn key (keys_of_histories (h ∷ hs)) → ⊥
         by later true t q j = absurd (cc)
         by later false t q (inl z) = false≢true (sym t ∙ ap (λ k. same_text k key) (sym z) ∙ same_text_self key)
         by later false t q (inr j) = later q j
 
     -- what is found is listed
-    found_line : (key : List ℕ) (hs : List KeyHistory) (l : HistoryLines) → find (λ (h : HistoryLines). same_text h.key key) (map history_lines hs) ≡ Some l → (h : KeyHistory) × IsIn h hs × (l ≡ history_lines h) × (h.key ≡ key)
+    found_line : (key : List ℕ) (hs : List KeyHistory) (l : HistoryLines)
+        → find (λ (h : HistoryLines). same_text h.key key) (map history_lines hs) ≡ Some l → (h : KeyHistory)
+        × IsIn h hs × (l ≡ history_lines h) × (h.key ≡ key)
     found_line key [] l e = absurd (cc)
     found_line key (h ∷ hs) l e = by (found_line key hs l) (same_text h.key key) refl e
       where
-        by : (find (λ (g : HistoryLines). same_text g.key key) (map history_lines hs) ≡ Some l → (h : KeyHistory) × IsIn h hs × (l ≡ history_lines h) × (h.key ≡ key)) → (t : Bool) → same_text h.key key ≡ t
-            → cond t (Some (history_lines h)) (find (λ (g : HistoryLines). same_text g.key key) (map history_lines hs)) ≡ Some l → (g : KeyHistory) × IsIn g (h ∷ hs) × (l ≡ history_lines g) × (g.key ≡ key)
+        by : (find (λ (g : HistoryLines). same_text g.key key) (map history_lines hs) ≡ Some l → (h : KeyHistory)
+            × IsIn h hs × (l ≡ history_lines h) × (h.key ≡ key)) → (t : Bool) → same_text h.key key ≡ t
+            → cond t (Some (history_lines h)) (find (λ (g : HistoryLines). same_text g.key key)
+            (map history_lines hs)) ≡ Some l → (g : KeyHistory) × IsIn g (h ∷ hs) × (l ≡ history_lines g) × (g.key ≡ key)
         by later true t q = let z : l ≡ history_lines h = cc in (h, inl refl, z, one_key h.key key t)
         by later false t q = let r = later q in (r.0, inr r.1, r.2, r.3)
 
@@ -127,7 +140,8 @@ module _ (script : Script) (trace : List Entry) (fits : TraceFits script trace) 
     none_of (x ∷ xs) f = absurd (f (λ e. absurd (cc)))
 
     history : (key : List ℕ) → history_of script key trace ≡ (account_of b).history_of key
-    history key = sym (ap (λ hs. reverse (map (item_told b.calls) (items_at hs key))) histories_are ∙ by (find (λ (h : HistoryLines). same_text h.key key) (map history_lines listed)) refl)
+    history key = sym (ap (λ hs. reverse (map (item_told b.calls) (items_at hs key))) histories_are
+        ∙ by (find (λ (h : HistoryLines). same_text h.key key) (map history_lines listed)) refl)
       where
         by : (o : Option HistoryLines) → find (λ (h : HistoryLines). same_text h.key key) (map history_lines listed) ≡ o
             → reverse (map (item_told b.calls) (when_some o [] (λ (h : HistoryLines). h.items))) ≡ history_of script key trace

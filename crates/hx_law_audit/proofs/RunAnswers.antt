@@ -53,7 +53,8 @@ few_keys (k ∷ rest) K up has =
     let e = ap (λ (l : List (List ℕ)). length l) s.2 in
     omega (arith, r, l, e)
   where
-    without : (j : List ℕ) → IsIn j rest → (front back : List (List ℕ)) → IsIn j (front ++ k ∷ back) → list_all (text_below k) rest ≡ true → IsIn j (front ++ back)
+    without : (j : List ℕ) → IsIn j rest → (front back : List (List ℕ)) → IsIn j (front ++ k ∷ back)
+        → list_all (text_below k) rest ≡ true → IsIn j (front ++ back)
     without j i front back h below = elim (in-append front (k ∷ back) j h) [
       | inl a ↦ in_left front back j a
       | inr (inl e) ↦ absurd (text_below-apart k j (all_below k rest below j i) (sym e))
@@ -70,12 +71,16 @@ op_in_session script c op e = by (numbered script.sessions c.session.0) refl e
     none zero w = cc
     none (suc n) w = cc
 
-    by : (o : Option (List Op)) → numbered script.sessions c.session.0 ≡ o → numbered (when_some o [] (λ (calls : List Op). calls)) c.number ≡ Some op → (calls : List Op) × IsIn calls script.sessions × IsIn op calls
+    by : (o : Option (List Op)) → numbered script.sessions c.session.0 ≡ o
+        → numbered (when_some o [] (λ (calls : List Op). calls)) c.number ≡ Some op → (calls : List Op)
+        × IsIn calls script.sessions × IsIn op calls
     by None q z = absurd (none c.number z)
     by (Some calls) q z = (calls, in-numbered script.sessions c.session.0 calls q, in-numbered calls c.number op z)
 
-call_has : (P : Op → Type 0) (script : Script) → All (λ (calls : List Op). All P calls) script.sessions → (c : Caller) (op : Op) → call_of script c ≡ Some op → P op
-call_has P script all c op e = let r = op_in_session script c op e in all-in P r.0 op (all-in (λ (calls : List Op). All P calls) script.sessions r.0 all r.1) r.2
+call_has : (P : Op → Type 0) (script : Script) → All (λ (calls : List Op). All P calls) script.sessions
+    → (c : Caller) (op : Op) → call_of script c ≡ Some op → P op
+call_has P script all c op e = let r = op_in_session script c op e in
+    all-in P r.0 op (all-in (λ (calls : List Op). All P calls) script.sessions r.0 all r.1) r.2
 
 -- the keys of a session's calls, and of all
 abbrev keys_of_calls : List Op → List (List ℕ)
@@ -131,7 +136,9 @@ in_items cut newer (x ∷ items) (inl e) = inl (ap (λ (c : ItemWithNewer). c.it
 in_items cut newer (x ∷ items) (inr i) = inr (in_items cut (x ∷ newer) items i)
 
 -- where a call ended
-ended_split : (t : List Entry) (c : Caller) (v : Version) (a : Answer) (n : ℕ) → EndedAt t c v a n → (newer : List Entry) × (older : List Entry) × (x : Entry) × (t ≡ newer ++ x ∷ older) × (x.actor ≡ Session c.session) × IsIn (a_note.Ended c.number v a) x.notes
+ended_split : (t : List Entry) (c : Caller) (v : Version) (a : Answer) (n : ℕ) → EndedAt t c v a n
+    → (newer : List Entry) × (older : List Entry) × (x : Entry) × (t ≡ newer ++ x ∷ older)
+    × (x.actor ≡ Session c.session) × IsIn (a_note.Ended c.number v a) x.notes
 ended_split [] c v a n h = absurd h
 ended_split (x ∷ older) c v a n (inl h) = ([], older, x, refl, h.0, h.1)
 ended_split (x ∷ older) c v a n (inr h) = let r = ended_split older c v a n h in (x ∷ r.0, r.1, r.2, ap (λ l. x ∷ l) r.3, r.4, r.5)
@@ -163,7 +170,8 @@ module _ (script : Script) (valid : IsScript script) (said : IsSayableScript scr
 
   module _ (few : length trace + 1 < 2 ^ 64) where
     -- the object that an operation on a key was answered
-    found_said : (call : AnsweredCall) → call.script ≡ script → call.trace ≡ trace → CallIsSayable call.op → (object : List Value) → IsGiven call (an_answer.Found object) → All IsSayable object
+    found_said : (call : AnsweredCall) → call.script ≡ script → call.trace ≡ trace → CallIsSayable call.op
+        → (object : List Value) → IsGiven call (an_answer.Found object) → All IsSayable object
     found_said call s t sayable object g =
         let stands : history_of script g.key trace ≡ g.newer ++ g.item ∷ g.older = (λ i. history_of (sym s i) g.key (sym t i)) ∙ g.stands in
         let legal = legal_from script.space g.newer g.item g.older (subst (IsLegal script.space) stands (runs_are_linear script valid trace run g.key).legal) in
@@ -171,7 +179,9 @@ module _ (script : Script) (valid : IsScript script) (said : IsSayableScript scr
         (λ y j. ops_good g.key y (subst (λ l. IsIn y l) (sym stands) (in_right g.newer (g.item ∷ g.older) y (inr j)))) in
         let e = effect_of script.space (object_now g.older) call.op in
         let given : an_answer.Found object ≡ e.answer = g.given ∙ (λ i. (effect_of ((s i).space) (object_now g.older) call.op).answer) in
-        let told : answer_told (word_for (an_answer.Found object)) e.object ≡ an_answer.Found object = (λ i. answer_told (word_for (given i)) e.object) ∙ told_effect script.space (object_now g.older) call.op ∙ sym given in
+        let told : answer_told (word_for (an_answer.Found object)) e.object ≡ an_answer.Found object =
+        (λ i. answer_told (word_for (given i)) e.object) ∙ told_effect script.space (object_now g.older) call.op
+        ∙ sym given in
         let same : values_of e.object ≡ object = cc in
         subst (All IsSayable) same (values e.object (effect_said script.space said.bounds (object_now g.older) call.op good.0 sayable))
       where
@@ -180,7 +190,9 @@ module _ (script : Script) (valid : IsScript script) (said : IsSayableScript scr
         values (Some object) h = h
 
     -- a row of a finished search
-    row_good : (call : AnsweredCall) → call.script ≡ script → call.trace ≡ trace → (rows : List Row) → IsFound call rows → (r : Row) → IsIn r rows → IsRowOf script.space r × RowIsSayable r × IsIn r.key (keys_of_script script)
+    row_good : (call : AnsweredCall) → call.script ≡ script → call.trace ≡ trace → (rows : List Row)
+        → IsFound call rows → (r : Row) → IsIn r rows → IsRowOf script.space r × RowIsSayable r
+        × IsIn r.key (keys_of_script script)
     row_good call s t rows f r i =
         let row = f.true_rows.rows r (subst (λ l. IsIn r l) (sym f.answered) i) in
         let h : history_of call.script r.key call.trace ≡ history_of script r.key trace = (λ j. history_of (s j) r.key (t j)) in
@@ -196,7 +208,8 @@ module _ (script : Script) (valid : IsScript script) (said : IsSayableScript scr
           key_in_script script x.caller x.op r.key honest.called honest.on_key,
         )
 
-    keys_from : (rows : List Row) → ((r : Row) → IsIn r rows → IsIn r.key (keys_of_script script)) → (k : List ℕ) → IsIn k (map (λ (r : Row). r.key) rows) → IsIn k (keys_of_script script)
+    keys_from : (rows : List Row) → ((r : Row) → IsIn r rows → IsIn r.key (keys_of_script script)) → (k : List ℕ)
+        → IsIn k (map (λ (r : Row). r.key) rows) → IsIn k (keys_of_script script)
     keys_from [] h k i = absurd i
     keys_from (r ∷ rows) h k (inl e) = subst (λ j. IsIn j (keys_of_script script)) (sym e) (h r (inl refl))
     keys_from (r ∷ rows) h k (inr i) = keys_from rows (λ x j. h x (inr j)) k i
@@ -205,7 +218,8 @@ module _ (script : Script) (valid : IsScript script) (said : IsSayableScript scr
     length_keys [] = refl
     length_keys (r ∷ rows) = let l = length_keys rows in omega (arith, l)
 
-    rows_good : (call : AnsweredCall) → call.script ≡ script → call.trace ≡ trace → (rows : List Row) → IsFound call rows → All (IsRowOf script.space) rows × (Is64 (length rows) × All RowIsSayable rows)
+    rows_good : (call : AnsweredCall) → call.script ≡ script → call.trace ≡ trace → (rows : List Row)
+        → IsFound call rows → All (IsRowOf script.space) rows × (Is64 (length rows) × All RowIsSayable rows)
     rows_good call s t rows f =
         let up = subst (λ l. keys_ascend (map (λ (r : Row). r.key) l) ≡ true) f.answered f.true_rows.in_order in
         let a = few_keys (map (λ (r : Row). r.key) rows) (keys_of_script script) up (keys_from rows (λ r i. (row_good call s t rows f r i).2)) in
@@ -213,7 +227,10 @@ module _ (script : Script) (valid : IsScript script) (said : IsSayableScript scr
         let c = few_of_sessions script.sessions in
         let d = valid.few_calls in (
           all-of (IsRowOf script.space) rows (λ r i. (row_good call s t rows f r i).0),
-          ((let l : length rows ≤ 16384 = omega (arith, a, b, c, d) in small (length rows) l), all-of RowIsSayable rows (λ r i. (row_good call s t rows f r i).1)),
+          (
+            (let l : length rows ≤ 16384 = omega (arith, a, b, c, d) in small (length rows) l),
+            all-of RowIsSayable rows (λ r i. (row_good call s t rows f r i).1),
+          ),
         )
       where
         small : (n : ℕ) → n ≤ 16384 → n < 2 ^ 64
@@ -229,15 +246,47 @@ module _ (script : Script) (valid : IsScript script) (said : IsSayableScript scr
         let call : AnsweredCall = record { script = script; trace = trace; older = at.1; caller = c; op = s.0; begin = b.0; version = v } in
         by at.1 s.0 b.0 a s.2.1 (runs_have_causes script valid trace run at.0 at.1 at.2 c s.0 b.0 v a at.3 at.4 at.5 s.1 b.1) (op_good c s.0 s.1).1
       where
-        plain : (op : Op) (x : Answer) → is_rows x ≡ false → ((is_search op ≡ true) × (is_rows x ≡ true)) ⊎ IsSoundAnswer (bounds script.space (length script.sessions) (length trace)) x → IsSoundAnswer (bounds script.space (length script.sessions) (length trace)) x
+        plain : (op : Op) (x : Answer) → is_rows x ≡ false → ((is_search op ≡ true) × (is_rows x ≡ true))
+            ⊎ IsSoundAnswer (bounds script.space (length script.sessions) (length trace)) x
+            → IsSoundAnswer (bounds script.space (length script.sessions) (length trace)) x
         plain op x f (inl q) = absurd (false≢true (sym f ∙ q.1))
         plain op x f (inr q) = q
 
-        by : (older : List Entry) (op : Op) (begin : ℕ) (x : Answer) → ((is_search op ≡ true) × (is_rows x ≡ true)) ⊎ IsSoundAnswer (bounds script.space (length script.sessions) (length trace)) x
-            → HasCause (record { script = script; trace = trace; older = older; caller = c; op = op; begin = begin; version = v }) x → CallIsSayable op → IsAnswerOf script.space x × AnswerIsSayable x
-        by older op begin (an_answer.Found object) q cause sayable = ((plain op (an_answer.Found object) refl q).0, found_said (record { script = script; trace = trace; older = older; caller = c; op = op; begin = begin; version = v }) refl refl sayable object cause)
-        by older op begin (an_answer.Rows rows) q cause sayable = rows_good (record { script = script; trace = trace; older = older; caller = c; op = op; begin = begin; version = v }) refl refl rows cause
-        by older op begin (an_answer.Refused g e) q cause sayable = let p = plain op (an_answer.Refused g e) refl q in (p.0, (let l = p.1 in omega (arith, l, few)))
+        by : (older : List Entry) (op : Op) (begin : ℕ) (x : Answer) → ((is_search op ≡ true) × (is_rows x ≡ true))
+            ⊎ IsSoundAnswer (bounds script.space (length script.sessions) (length trace)) x
+            → HasCause (record {
+              script = script;
+              trace = trace;
+              older = older;
+              caller = c;
+              op = op;
+              begin = begin;
+              version = v;
+            }) x → CallIsSayable op → IsAnswerOf script.space x × AnswerIsSayable x
+        by older op begin (an_answer.Found object) q cause sayable = (
+          (plain op (an_answer.Found object) refl q).0,
+          found_said (record {
+            script = script;
+            trace = trace;
+            older = older;
+            caller = c;
+            op = op;
+            begin = begin;
+            version = v;
+          }) refl refl sayable object cause,
+        )
+        by older op begin (an_answer.Rows rows) q cause sayable =
+            rows_good (record {
+              script = script;
+              trace = trace;
+              older = older;
+              caller = c;
+              op = op;
+              begin = begin;
+              version = v;
+            }) refl refl rows cause
+        by older op begin (an_answer.Refused g e) q cause sayable = let p = plain op (an_answer.Refused g e) refl q in
+            (p.0, (let l = p.1 in omega (arith, l, few)))
         by older op begin (an_answer.Doubt g e) q cause sayable = let p = plain op (an_answer.Doubt g e) refl q in (p.0, (let l = p.1 in omega (arith, l, few)))
         by older op begin (an_answer.Issued e) q cause sayable = let p = plain op (an_answer.Issued e) refl q in (tt, (let l = p.1 in omega (arith, l, few)))
         by older op begin (an_answer.Stopped e) q cause sayable = let p = plain op (an_answer.Stopped e) refl q in (tt, (let l = p.1 in omega (arith, l, few)))

@@ -46,13 +46,17 @@ same_keys : (listed : List KeyHistory) → map (λ (h : HistoryLines). h.key) (m
 same_keys [] = refl
 same_keys (h ∷ listed) = ap (λ l. h.key ∷ l) (same_keys listed)
 
-histories_ascend : (listed : List KeyHistory) → keys_ascend (map (λ (h : KeyHistory). h.key) listed) ≡ true → Ascends text_below (map (λ (h : HistoryLines). h.key) (map history_lines listed))
+histories_ascend : (listed : List KeyHistory) → keys_ascend (map (λ (h : KeyHistory). h.key) listed) ≡ true
+    → Ascends text_below (map (λ (h : HistoryLines). h.key) (map history_lines listed))
 histories_ascend listed h =
-    subst (Ascends text_below) (sym (same_keys listed)) (ascends_from text_below None (map (λ (h : KeyHistory). h.key) listed) (λ m e. absurd (cc)) (keys_pairwise (map (λ (h : KeyHistory). h.key) listed) h))
+    subst (Ascends text_below) (sym (same_keys listed))
+    (ascends_from text_below None (map (λ (h : KeyHistory). h.key) listed) (λ m e. absurd (cc))
+    (keys_pairwise (map (λ (h : KeyHistory). h.key) listed) h))
 
 -- ---- drivers
 
-drivers_good : (number : ℕ) (totals : List Totals) → number + length totals < 2 ^ 32 → All (λ (t : Totals). Is64 t.posts) totals → All (λ (t : Totals). Is64 t.deliver) totals
+drivers_good : (number : ℕ) (totals : List Totals) → number + length totals < 2 ^ 32
+    → All (λ (t : Totals). Is64 t.posts) totals → All (λ (t : Totals). Is64 t.deliver) totals
     → All (λ (t : Totals). Is64 t.lose) totals → All (λ (t : Totals). Is64 t.twice) totals → All IsDriverLine (drivers_from number totals)
 drivers_good number [] few posts deliver lose twice = All-nil IsDriverLine
 drivers_good number (t ∷ rest) few posts deliver lose twice =
@@ -66,14 +70,21 @@ drivers_good number (t ∷ rest) few posts deliver lose twice =
       twice = All-head (λ (t : Totals). Is64 t.twice) t rest twice;
     }
     )
-    (drivers_good (number + 1) rest (omega (arith, few)) (All-tail (λ (t : Totals). Is64 t.posts) t rest posts) (All-tail (λ (t : Totals). Is64 t.deliver) t rest deliver) (All-tail (λ (t : Totals). Is64 t.lose) t rest lose) (All-tail (λ (t : Totals). Is64 t.twice) t rest twice))
+    (drivers_good (number + 1) rest (omega (arith, few)) (All-tail (λ (t : Totals). Is64 t.posts) t rest posts)
+    (All-tail (λ (t : Totals). Is64 t.deliver) t rest deliver)
+    (All-tail (λ (t : Totals). Is64 t.lose) t rest lose) (All-tail (λ (t : Totals). Is64 t.twice) t rest twice))
 
 -- ---- the lines of the trace
 
 raw_good : (l : List ℕ) → IsRaw l → IsRawLine l
-raw_good l r = record { begins = elim r.begins [ inl e ↦ inl (r.rest, e) | inr e ↦ inr (r.rest, e) ]; one_line = one_line l r.plain; utf8 = text_of_line l r.plain }
+raw_good l r = record {
+  begins = elim r.begins [ inl e ↦ inl (r.rest, e) | inr e ↦ inr (r.rest, e) ];
+  one_line = one_line l r.plain;
+  utf8 = text_of_line l r.plain;
+}
 
-module _ (script : Script) (valid : IsScript script) (said : IsSayableScript script) (trace : List Entry) (run : IsRun script trace) (few : length trace + 1 < 2 ^ 64) where
+module _ (script : Script) (valid : IsScript script) (said : IsSayableScript script) (trace : List Entry)
+    (run : IsRun script trace) (few : length trace + 1 < 2 ^ 64) where
   -- ---- histories
 
   said_is : (o : Option (List Value)) → CanBeSaid o → MaybeObjectIsSayable o
@@ -99,7 +110,8 @@ module _ (script : Script) (valid : IsScript script) (said : IsSayableScript scr
         key = key.0;
         said = key.1;
         some = some h.items is.some;
-        items = all-of (IsItemOf script.space) (map item_line h.items) (λ l i. let m = in-map item_line h.items l i in subst (IsItemOf script.space) (sym m.2) (item_of h.key m.0 (known m.0 m.1)));
+        items = all-of (IsItemOf script.space) (map item_line h.items) (λ l i. let m = in-map item_line h.items l i in
+            subst (IsItemOf script.space) (sym m.2) (item_of h.key m.0 (known m.0 m.1)));
       }
     where
       known : (x : Item) → IsIn x h.items → IsIn x (history_of script h.key trace)
@@ -129,17 +141,24 @@ module _ (script : Script) (valid : IsScript script) (said : IsSayableScript scr
 
   -- ---- the block
 
-  pub block_good : (listed : List KeyHistory) → AreHistories script trace listed → (totals : List Totals) → TotalsAreSayable totals → (with_trace : Bool) → IsBlock (block_of script trace listed totals with_trace)
+  pub block_good : (listed : List KeyHistory) → AreHistories script trace listed → (totals : List Totals)
+      → TotalsAreSayable totals → (with_trace : Bool) → IsBlock (block_of script trace listed totals with_trace)
   block_good listed histories totals t with_trace =
       let hold = configs_hold script valid trace run in
       record {
         space = record { valid = valid.space; bounds = said.bounds };
         calls = calls_good script valid said trace run few;
         calls_ascend = calls_ascend script trace;
-        histories = all-of (IsHistoryOf script.space) (map history_lines listed) (λ l i. let m = in-map history_lines listed l i in subst (IsHistoryOf script.space) (sym m.2) (history_of_run m.0 (all-in (IsHistory script trace) listed m.0 histories.each m.1)));
+        histories = all-of (IsHistoryOf script.space) (map history_lines listed)
+            (λ l i. let m = in-map history_lines listed l i in
+            subst (IsHistoryOf script.space) (sym m.2) (history_of_run m.0
+            (all-in (IsHistory script trace) listed m.0 histories.each m.1)));
         histories_ascend = histories_ascend listed histories.ascending;
-        epochs = all-of (IsEpochOf script.space) (map config_line (configs_of script trace)) (λ l i. let m = in-map config_line (configs_of script trace) l i in subst (IsEpochOf script.space) (sym m.2) (config_of m.0 (hold.each m.0 m.1)));
-        epochs_ascend = subst (Ascends nat_lt) (sym (same_epochs (configs_of script trace))) (rises_ascends None (map (λ (c : Config). c.epoch.0) (configs_of script trace)) hold.rise);
+        epochs = all-of (IsEpochOf script.space) (map config_line (configs_of script trace))
+            (λ l i. let m = in-map config_line (configs_of script trace) l i in
+            subst (IsEpochOf script.space) (sym m.2) (config_of m.0 (hold.each m.0 m.1)));
+        epochs_ascend = subst (Ascends nat_lt) (sym (same_epochs (configs_of script trace)))
+            (rises_ascends None (map (λ (c : Config). c.epoch.0) (configs_of script trace)) hold.rise);
         raw = all-of IsRawLine (trace_raw with_trace trace) (λ l i. raw_good l (trace_is with_trace trace l i));
         drivers = (let n = t.few in drivers_good 1 totals (omega (arith, n)) t.posts t.deliver t.lose t.twice);
       }

@@ -11,10 +11,21 @@ use Rattle.hx_law_audit.proofs.RunText.{block_of, report_of, text_same}
 pub runs_break : RunsBreakNothing
 runs_break script valid said trace run few totals t bytes with_trace is =
     let b = block_of script trace is.listed totals with_trace in
-    let good : IsReportValue (report_of script trace is.listed totals with_trace) = record { count = inl (refl, refl); blocks = All-cons IsBlock b [] (block_good script valid said trace run few is.listed is.histories totals t with_trace) (All-nil IsBlock) } in
+    let good : IsReportValue (report_of script trace is.listed totals with_trace) =
+    record {
+      count = inl (refl, refl);
+      blocks = All-cons IsBlock b []
+          (block_good script valid said trace run few is.listed is.histories totals t with_trace) (All-nil IsBlock);
+    } in
     record {
       report = report_of script trace is.listed totals with_trace;
       valid = good;
-      text = text_same script trace (fits script valid trace run is.listed is.histories) is.listed (told_listed script valid trace run is.listed is.histories) totals with_trace ∙ sym is.text;
-      verdict = consistent_keeps (report_of script trace is.listed totals with_trace) good (λ c i. elim i [ inl e ↦ subst IsConsistent (sym e) (consistent script valid trace run is.listed is.histories b refl refl refl) | inr j ↦ absurd j ]);
+      text = text_same script trace (fits script valid trace run is.listed is.histories) is.listed
+          (told_listed script valid trace run is.listed is.histories) totals with_trace ∙ sym is.text;
+      verdict = consistent_keeps (report_of script trace is.listed totals with_trace) good
+          (λ c i. elim i [
+            | inl e ↦ subst IsConsistent (sym e)
+                (consistent script valid trace run is.listed is.histories b refl refl refl)
+            | inr j ↦ absurd j
+          ]);
     }

@@ -30,7 +30,8 @@ ended_low (x ∷ older) c v a n (inr h) = let l = ended_low older c v a n h in o
 
 in_sum : (sessions : List (List Op)) (calls : List Op) → IsIn calls sessions → length calls ≤ sum_by (λ (l : List Op). length l) sessions
 in_sum [] calls i = absurd i
-in_sum (x ∷ sessions) calls (inl e) = let q = ap (λ (l : List Op). length l) e in let d = sum_by-cons (λ (l : List Op). length l) x sessions in omega (arith, q, d)
+in_sum (x ∷ sessions) calls (inl e) = let q = ap (λ (l : List Op). length l) e in
+    let d = sum_by-cons (λ (l : List Op). length l) x sessions in omega (arith, q, d)
 in_sum (x ∷ sessions) calls (inr i) = let r = in_sum sessions calls i in let d = sum_by-cons (λ (l : List Op). length l) x sessions in omega (arith, r, d)
 
 -- the callers of a session
@@ -100,7 +101,8 @@ all_ascend : (script : Script) (k : ℕ) → Pairwise IsBelow (flat_map (of_sess
 all_ascend script zero = tt
 all_ascend script (suc k) =
     subst (Pairwise IsBelow) (sym (flat_more (of_session script) (below k) k))
-    (pairwise-append IsBelow (flat_map (of_session script) (below k)) (of_session script k) (all_ascend script k) (session_ascends k (length (calls_of script (record { 0 = k + 1 }))))
+    (pairwise-append IsBelow (flat_map (of_session script) (below k)) (of_session script k) (all_ascend script k)
+    (session_ascends k (length (calls_of script (record { 0 = k + 1 }))))
     (λ z x i j. (let f = in-flat_map (of_session script) (below k) z i in
     let m = in-map (λ n. record { session = record { 0 = f.0 + 1 }; number = n + 1 }) (below (length (calls_of script (record { 0 = f.0 + 1 })))) z f.2 in
     let n = in-map (λ n. record { session = record { 0 = k + 1 }; number = n + 1 }) (below (length (calls_of script (record { 0 = k + 1 })))) x j in
@@ -136,31 +138,46 @@ lines_ascend script trace (d ∷ cs) h = by (lines_ascend script trace cs h.1) (
     by later (Some n) = ((λ x i. h.0 x (caller_among script trace cs x i)), later)
 
 -- who stands below all that follow stands below the next
-pub ascends_from : {A : Type 0} (below : A → A → Bool) (last : Option A) (xs : List A) → ((m : A) → last ≡ Some m → (x : A) → IsIn x xs → below m x ≡ true) → Pairwise (λ a b. below a b ≡ true) xs → AscendsFrom below last xs
+pub ascends_from : {A : Type 0} (below : A → A → Bool) (last : Option A) (xs : List A)
+    → ((m : A) → last ≡ Some m → (x : A) → IsIn x xs → below m x ≡ true) → Pairwise (λ a b. below a b ≡ true) xs
+    → AscendsFrom below last xs
 ascends_from below last [] from h = tt
-ascends_from below None (x ∷ xs) from h = (refl, ascends_from below (Some x) xs (λ m e y i. let q : x ≡ m = cc in subst (λ k. below k y ≡ true) q (h.0 y i)) h.1)
-ascends_from below (Some m) (x ∷ xs) from h = (from m refl x (inl refl), ascends_from below (Some x) xs (λ k e y i. let q : x ≡ k = cc in subst (λ j. below j y ≡ true) q (h.0 y i)) h.1)
+ascends_from below None (x ∷ xs) from h = (
+  refl,
+  ascends_from below (Some x) xs (λ m e y i. let q : x ≡ m = cc in subst (λ k. below k y ≡ true) q (h.0 y i)) h.1,
+)
+ascends_from below (Some m) (x ∷ xs) from h = (
+  from m refl x (inl refl),
+  ascends_from below (Some x) xs (λ k e y i. let q : x ≡ k = cc in subst (λ j. below j y ≡ true) q (h.0 y i)) h.1,
+)
 
 pub calls_ascend : (script : Script) (trace : List Entry) → Ascends caller_below (map (λ (l : CallLine). l.caller) (call_lines script trace))
 calls_ascend script trace =
-    ascends_from caller_below None (map caller_of (call_lines script trace)) (λ m e. absurd (cc)) (lines_ascend script trace (callers_of script) (all_ascend script (length script.sessions)))
+    ascends_from caller_below None (map caller_of (call_lines script trace)) (λ m e. absurd (cc))
+    (lines_ascend script trace (callers_of script) (all_ascend script (length script.sessions)))
 
 -- ---- each line
 
-module _ (script : Script) (valid : IsScript script) (said : IsSayableScript script) (trace : List Entry) (run : IsRun script trace) (few : length trace + 1 < 2 ^ 64) where
+module _ (script : Script) (valid : IsScript script) (said : IsSayableScript script) (trace : List Entry)
+    (run : IsRun script trace) (few : length trace + 1 < 2 ^ 64) where
   -- what stands of an end
   ended_is : (c : Caller) (o : Option CallEnd) → note_of_end c trace ≡ o
       → MaybeIs64 (option_map (λ (e : CallEnd). e.entry) (when_some o None sure))
       × (is_some (option_map (λ (e : CallEnd). e.entry) (when_some o None sure)) ≡ has_end (option_map (λ (e : CallEnd). e.answer) o))
-      × VersionFits (option_map (λ (e : CallEnd). e.answer) o) (version_of (option_map (λ (e : CallEnd). e.answer) o) (when_some o no_version (λ (e : CallEnd). e.version)))
+      × VersionFits (option_map (λ (e : CallEnd). e.answer) o)
+      (version_of (option_map (λ (e : CallEnd). e.answer) o) (when_some o no_version (λ (e : CallEnd). e.version)))
       × MaybeAnswerOf script.space (option_map (λ (e : CallEnd). e.answer) o)
   ended_is c None q = (tt, refl, refl, tt)
   ended_is c (Some e) q =
       let h = ended_at c trace e q in
       let s = ends_sound script valid trace run c e.version e.answer e.entry h in
       let v = s.2.0 in
-      let n = ended_low trace c e.version e.answer e.entry h in
-      (small e (is_doubt e.answer) (omega (arith, n, few)), ends e (is_doubt e.answer), version e (names_version e.answer) (omega (arith, v, few)), answer_good script valid said trace run few c e.version e.answer e.entry h)
+      let n = ended_low trace c e.version e.answer e.entry h in (
+        small e (is_doubt e.answer) (omega (arith, n, few)),
+        ends e (is_doubt e.answer),
+        version e (names_version e.answer) (omega (arith, v, few)),
+        answer_good script valid said trace run few c e.version e.answer e.entry h,
+      )
     where
       small : (e : CallEnd) (b : Bool) → e.entry < 2 ^ 64 → MaybeIs64 (option_map (λ (x : CallEnd). x.entry) (cond b None (Some e)))
       small e true l = tt

@@ -32,7 +32,8 @@ configs_more script x older =
 -- where no configuration is noted none is issued
 none_issued : (notes : List Note) → ((epoch : Epoch) → config_noted epoch notes ≡ None) → flat_map issued_by notes ≡ []
 none_issued [] h = refl
-none_issued (a_note.Issued c ∷ rest) h = absurd (let z : Some c ≡ None = sym (cond-true _ (Some c) (config_noted c.epoch rest) (eq-eqb c.epoch.0 c.epoch.0 refl)) ∙ h c.epoch in cc)
+none_issued (a_note.Issued c ∷ rest) h = absurd (let z : Some c ≡ None =
+    sym (cond-true _ (Some c) (config_noted c.epoch rest) (eq-eqb c.epoch.0 c.epoch.0 refl)) ∙ h c.epoch in cc)
 none_issued (a_note.Began n ∷ rest) h = none_issued rest h
 none_issued (a_note.Ended n v a ∷ rest) h = none_issued rest h
 none_issued (a_note.Assigned u ∷ rest) h = none_issued rest h
@@ -55,30 +56,44 @@ pub record ConfigsHold (script : Script) (trace : List Entry) : Type 0 where
   pub low : (c : Config) → IsIn c (configs_of script trace) → c.epoch.0 ≤ (coordinator_of script trace).config.epoch.0
   pub rise : RisesFrom None (map epoch_number (configs_of script trace))
 
-newest_good : (script : Script) → IsScript script → (trace : List Entry) → IsRun script trace → IsGoodConfig script (length trace) (coordinator_of script trace).config
-newest_good script valid trace run = let s = (epochs_stay_small script valid trace run).2 in record { of_space = s.0; epoch = s.1; rise = servers_rise script trace }
+newest_good : (script : Script) → IsScript script → (trace : List Entry) → IsRun script trace
+    → IsGoodConfig script (length trace) (coordinator_of script trace).config
+newest_good script valid trace run = let s = (epochs_stay_small script valid trace run).2 in
+    record { of_space = s.0; epoch = s.1; rise = servers_rise script trace }
 
 pub configs_hold : (script : Script) → IsScript script → (trace : List Entry) → IsRun script trace → ConfigsHold script trace
 configs_hold script valid [] run = record {
-  each = λ c i. elim i [ inl e ↦ subst (IsGoodConfig script 0) (sym e) (record { of_space = first-of_space script.space valid.space; epoch = omega arith; rise = first_servers_rise script.space }) | inr j ↦ absurd j ];
+  each = λ c i. elim i [
+    | inl e ↦ subst (IsGoodConfig script 0) (sym e)
+        (record {
+          of_space = first-of_space script.space valid.space;
+          epoch = omega arith;
+          rise = first_servers_rise script.space;
+        })
+    | inr j ↦ absurd j
+  ];
   low = λ c i. elim i [ inl e ↦ (let q = ap epoch_number e in omega (arith, q)) | inr j ↦ absurd j ];
   rise = tt;
 }
-configs_hold script valid (x ∷ older) run = by (configs_hold script valid older run.1) (keeps-entry script valid older (epochs-run script valid older run.1) x run.0).notes
+configs_hold script valid (x ∷ older) run = by (configs_hold script valid older run.1)
+    (keeps-entry script valid older (epochs-run script valid older run.1) x run.0).notes
   where
     now : Config
     now = (coordinator_of script (x ∷ older)).config
 
     by : ConfigsHold script older → Notes script valid older (epochs-run script valid older run.1) now x.notes → ConfigsHold script (x ∷ older)
     by h (inl k) =
-        let same : configs_of script (x ∷ older) ≡ configs_of script older = configs_more script x older ∙ ap (λ l. configs_of script older ++ l) (none_issued x.notes k.1) ∙ append-nil (configs_of script older) in
+        let same : configs_of script (x ∷ older) ≡ configs_of script older =
+        configs_more script x older ∙ ap (λ l. configs_of script older ++ l) (none_issued x.notes k.1)
+        ∙ append-nil (configs_of script older) in
         record {
           each = λ c i. good_up script (length older) (length (x ∷ older)) (omega arith) c (h.each c (subst (λ l. IsIn c l) same i));
           low = λ c i. (let l = h.low c (subst (λ l. IsIn c l) same i) in let e = ap epoch_number k.0 in omega (arith, l, e));
           rise = subst (λ l. RisesFrom None (map epoch_number l)) (sym same) h.rise;
         }
     by h (inr k) =
-        let same : configs_of script (x ∷ older) ≡ configs_of script older ++ now ∷ [] = configs_more script x older ∙ ap (λ ns. configs_of script older ++ flat_map issued_by ns) k.notes in
+        let same : configs_of script (x ∷ older) ≡ configs_of script older ++ now ∷ [] =
+        configs_more script x older ∙ ap (λ ns. configs_of script older ++ flat_map issued_by ns) k.notes in
         let next = k.follows.epoch in
         record {
           each = λ c i. elim (in-append (configs_of script older) (now ∷ []) c (subst (λ l. IsIn c l) same i)) [

@@ -17,7 +17,8 @@ use Rattle.hx_law_searches.proofs.Lemmas.{step_is}
 
 -- ---- the region that a search isn't planned for
 
-lowest_region : (space : Space) → IsSpace space → (config : Config) (terms : List Term) → IsRegionOf space (lowest_lost config (query_regions space terms 0).regions)
+lowest_region : (space : Space) → IsSpace space → (config : Config) (terms : List Term)
+    → IsRegionOf space (lowest_lost config (query_regions space terms 0).regions)
 lowest_region space valid config terms =
     let rs = (query_regions space terms 0).regions in
     when_some_both (find (is_lost config) rs) (record { 0 = 0 }) (λ (g : RegionId). g) (IsRegionOf space)
@@ -30,7 +31,8 @@ LostIsOf space (a_plan.Lost g) = IsRegionOf space g
 
 plan_lost : (space : Space) → IsSpace space → (config : Config) (terms : List Term) → LostIsOf space (plan_of space config terms)
 plan_lost space valid config terms =
-    when_some_both (chosen config None (map (query_regions space terms) (below (length (subspaces_of space))))) (a_plan.Lost (lowest_lost config (query_regions space terms 0).regions))
+    when_some_both (chosen config None (map (query_regions space terms) (below (length (subspaces_of space)))))
+    (a_plan.Lost (lowest_lost config (query_regions space terms 0).regions))
     (λ (q : QueryRegions). a_plan.Regions q.subspace q.regions) (LostIsOf space)
     (λ e. lowest_region space valid config terms)
     (λ q e. tt)
@@ -44,13 +46,16 @@ EndIsSound space sessions n op v a = (v.0 ≤ n + 1) × (((is_search op ≡ true
 module _ (space : Space) (valid : IsSpace space) (sessions n : ℕ) where
   -- each end that is noted is of a call, and sound
   record EndsSound (s : SessionState) (step : SessionStep) : Type 0 where
-    pub ends : (k : ℕ) (v : Version) (a : Answer) → IsIn (a_note.Ended k v a) step.notes → (op : Op) × (numbered s.calls k ≡ Some op) × EndIsSound space sessions n op v a
+    pub ends : (k : ℕ) (v : Version) (a : Answer) → IsIn (a_note.Ended k v a) step.notes → (op : Op)
+        × (numbered s.calls k ≡ Some op) × EndIsSound space sessions n op v a
 
   -- a lost region is told with the epoch
-  lost-sound : (s : SessionState) → IsSoundConfig space n s.config → (op : Op) (g : RegionId) → IsRegionOf space g → EndIsSound space sessions n op no_version (lost_answer s op g)
+  lost-sound : (s : SessionState) → IsSoundConfig space n s.config → (op : Op) (g : RegionId) → IsRegionOf space g
+      → EndIsSound space sessions n op no_version (lost_answer s op g)
   lost-sound s config op g region = (
     omega arith,
-    cond_both (is_write op && s.sent) (an_answer.Doubt g s.config.epoch) (an_answer.Refused g s.config.epoch) (λ (a : Answer). ((is_search op ≡ true) × (is_rows a ≡ true)) ⊎ IsSoundAnswer (bounds space sessions n) a)
+    cond_both (is_write op && s.sent) (an_answer.Doubt g s.config.epoch) (an_answer.Refused g s.config.epoch)
+        (λ (a : Answer). ((is_search op ≡ true) × (is_rows a ≡ true)) ⊎ IsSoundAnswer (bounds space sessions n) a)
         (λ t. inr (region, config.epoch))
         (λ t. inr (region, config.epoch)),
   )
@@ -60,7 +65,13 @@ module _ (space : Space) (valid : IsSpace space) (sessions n : ℕ) where
       → ((id : PostId) (from : Actor) (m : Message) → input ≡ Deliver id from m → (k : ℕ) × (k ≤ n) × IsSoundMessage (bounds space sessions k) m)
       → EndsSound s (session_step space s input)
   step-sound s config input arrives = record {
-    ends = λ number v a i. (let e = does.goes.ends number v a (there number v a does.starts i) in let r = how v a e.1 in (r.0, ap (λ (ops : List Op). numbered ops number) (sym does.calls) ∙ ap (numbered does.mid.calls) e.0 ∙ r.1, r.2));
+    ends = λ number v a i. (let e = does.goes.ends number v a (there number v a does.starts i) in
+        let r = how v a e.1 in (
+          r.0,
+          ap (λ (ops : List Op). numbered ops number) (sym does.calls)
+              ∙ ap (numbered does.mid.calls) e.0 ∙ r.1,
+          r.2,
+        ));
   }
     where
       does : SessionDoes space input s (session_step space s input)
@@ -80,18 +91,25 @@ module _ (space : Space) (valid : IsSpace space) (sessions n : ℕ) where
 
       how : (v : Version) (a : Answer) → EndsBy space input does.mid v a
           → (op : Op) × (numbered does.mid.calls does.mid.begun ≡ Some op) × EndIsSound space sessions n op v a
-      how v a (inl r) = let h = arrives r.id r.from (a_message.Reply does.mid.begun v a) r.input_is in let w = h.2.0 in let l = h.1 in (r.op, r.called, (omega (arith, w, l), inr (sound_answer-up space sessions h.0 n l a h.2.1)))
+      how v a (inl r) = let h = arrives r.id r.from (a_message.Reply does.mid.begun v a) r.input_is in
+          let w = h.2.0 in let l = h.1 in (
+            r.op,
+            r.called,
+            (omega (arith, w, l), inr (sound_answer-up space sessions h.0 n l a h.2.1)),
+          )
       how v a (inr (inl r)) = (
         r.op,
         r.called,
         subst (λ (w : Version). EndIsSound space sessions n r.op w a) (sym r.version)
-            (subst (EndIsSound space sessions n r.op no_version) (sym r.answer) (lost-sound does.mid known r.op (key_region space r.key) (place-region space valid 0 r.key [] (omega arith)))),
+            (subst (EndIsSound space sessions n r.op no_version) (sym r.answer)
+            (lost-sound does.mid known r.op (key_region space r.key) (place-region space valid 0 r.key [] (omega arith)))),
       )
       how v a (inr (inr (inl r))) = (
         Search r.terms,
         r.called,
         subst (λ (w : Version). EndIsSound space sessions n (Search r.terms) w a) (sym r.version)
-            (subst (EndIsSound space sessions n (Search r.terms) no_version) (sym r.answer) (omega arith, inr (subst (LostIsOf space) r.plan (plan_lost space valid does.mid.config r.terms), known.epoch))),
+            (subst (EndIsSound space sessions n (Search r.terms) no_version) (sym r.answer)
+            (omega arith, inr (subst (LostIsOf space) r.plan (plan_lost space valid does.mid.config r.terms), known.epoch))),
       )
       how v a (inr (inr (inr (inl r)))) = (
         Search r.terms,
@@ -99,8 +117,12 @@ module _ (space : Space) (valid : IsSpace space) (sessions n : ℕ) where
         subst (λ (w : Version). EndIsSound space sessions n (Search r.terms) w a) (sym r.version) (omega arith, inl (refl, ap is_rows r.answer)),
       )
       how v a (inr (inr (inr (inr r)))) =
-          let h = arrives r.id r.from (a_message.Outcome does.mid.begun a) r.input_is in
-          (r.op, r.called, subst (λ (w : Version). EndIsSound space sessions n r.op w a) (sym r.version) (omega arith, inr (sound_answer-up space sessions h.0 n h.1 a h.2)))
+          let h = arrives r.id r.from (a_message.Outcome does.mid.begun a) r.input_is in (
+            r.op,
+            r.called,
+            subst (λ (w : Version). EndIsSound space sessions n r.op w a) (sym r.version)
+                (omega arith, inr (sound_answer-up space sessions h.0 n h.1 a h.2)),
+          )
 
 -- ---- runs
 
@@ -121,10 +143,17 @@ named_low id trace p = by (entry_at id.entry trace) refl
 
 module _ (script : Script) (valid : IsScript script) where
   -- the input of a session's entry
-  step_ends : (older : List Entry) → IsRun script older → (u : SessionId) (input : Input) → MayTake older (Session u) input → EndsSound script.space valid.space (length script.sessions) (length older) (session_of script u older) (session_step script.space (session_of script u older) input)
+  step_ends : (older : List Entry) → IsRun script older → (u : SessionId) (input : Input)
+      → MayTake older (Session u) input → EndsSound script.space valid.space (length script.sessions) (length older)
+      (session_of script u older) (session_step script.space (session_of script u older) input)
   step_ends older run u input take =
-      step-sound script.space valid.space (length script.sessions) (length older) (session_of script u older) ((kept-run script valid older run).own u).config input
-      (λ id from m e. let t = subst (MayTake older (Session u)) e take in (id.entry, named_low id older (post from (Session u) m) t, (posts_stay_sound script valid older run id (post from (Session u) m) t).message))
+      step-sound script.space valid.space (length script.sessions) (length older) (session_of script u older)
+      ((kept-run script valid older run).own u).config input
+      (λ id from m e. let t = subst (MayTake older (Session u)) e take in (
+        id.entry,
+        named_low id older (post from (Session u) m) t,
+        (posts_stay_sound script valid older run id (post from (Session u) m) t).message,
+      ))
 
   -- a call that ended is the script's, and its end sound
   pub ends_sound : (trace : List Entry) → IsRun script trace → (c : Caller) (v : Version) (a : Answer) (k : ℕ) → EndedAt trace c v a k
@@ -137,8 +166,12 @@ module _ (script : Script) (valid : IsScript script) where
   ends_sound (x ∷ older) run c v a k (inl h) =
       let u = c.session in
       let said = step_ends older run.1 u x.input (subst (λ (a : Actor). MayTake older a x.input) h.0 run.0.input) in
-      let now = subst (λ (step : SessionStep). EndsSound script.space valid.space (length script.sessions) (length older) (session_of script u older) step) (step_is script older x u run.0 h.0) said in
+      let now = subst (λ (step : SessionStep). EndsSound script.space valid.space (length script.sessions)
+      (length older) (session_of script u older) step) (step_is script older x u run.0 h.0) said in
       let r = now.ends c.number v a h.1 in
       let up = sound_answer-up script.space (length script.sessions) (length older) (length (x ∷ older)) (omega arith) a in
-      let calls = ((kept-run script valid older run.1).own u).calls in
-      (r.0, ap (λ (l : List Op). numbered l c.number) (sym calls) ∙ r.1, ((let l = r.2.0 in omega (arith, l)), elim r.2.1 [ inl q ↦ inl q | inr q ↦ inr (up q) ]))
+      let calls = ((kept-run script valid older run.1).own u).calls in (
+        r.0,
+        ap (λ (l : List Op). numbered l c.number) (sym calls) ∙ r.1,
+        ((let l = r.2.0 in omega (arith, l)), elim r.2.1 [ inl q ↦ inl q | inr q ↦ inr (up q) ]),
+      )

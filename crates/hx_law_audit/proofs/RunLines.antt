@@ -32,7 +32,14 @@ abbrev pub version_of : Option Answer → Version → Version
 version_of answer version = version_by (when_some answer false names_version) version
 
 abbrev pub call_line : Script → Record → CallLine
-call_line script r = record { caller = r.caller; begin = r.begin; end = r.end; op = op_in script r.caller; version = version_of r.answer r.version; answer = r.answer }
+call_line script r = record {
+  caller = r.caller;
+  begin = r.begin;
+  end = r.end;
+  op = op_in script r.caller;
+  version = version_of r.answer r.version;
+  answer = r.answer;
+}
 
 abbrev pub call_lines : Script → List Entry → List CallLine
 call_lines script trace = map (call_line script) (records_of script trace)
@@ -61,7 +68,8 @@ module _ (script : Script) (trace : List Entry) where
   lines_of cs = map (call_line script) (flat_map (record_of trace) cs)
 
   -- one who began has the line of its record
-  found_among : (c : Caller) (n : ℕ) → begin_of c trace ≡ Some n → (cs : List Caller) → IsIn c cs → call_at (lines_of cs) c ≡ Some (call_line script (record_at c trace n))
+  found_among : (c : Caller) (n : ℕ) → begin_of c trace ≡ Some n → (cs : List Caller) → IsIn c cs
+      → call_at (lines_of cs) c ≡ Some (call_line script (record_at c trace n))
   found_among c n e [] i = absurd i
   found_among c n e (d ∷ cs) i = by (λ j. found_among c n e cs j) i (begin_of d trace) refl
     where
@@ -70,11 +78,13 @@ module _ (script : Script) (trace : List Entry) where
       rest (inr j) apart = j
 
       by : (IsIn c cs → call_at (lines_of cs) c ≡ Some (call_line script (record_at c trace n))) → IsIn c (d ∷ cs) → (o : Option ℕ) → begin_of d trace ≡ o
-          → call_at (map (call_line script) (list_of (option_map (record_at d trace) o) ++ flat_map (record_of trace) cs)) c ≡ Some (call_line script (record_at c trace n))
+          → call_at (map (call_line script) (list_of (option_map (record_at d trace) o)
+          ++ flat_map (record_of trace) cs)) c ≡ Some (call_line script (record_at c trace n))
       by later i None q = later (rest i (λ z. let w : None ≡ Some n = sym q ∙ sym (ap (λ b. begin_of b trace) z) ∙ e in absurd (cc)))
       by later i (Some m) q = here (same_caller d c) refl
         where
-          here : (b : Bool) → same_caller d c ≡ b → cond b (Some (call_line script (record_at d trace m))) (call_at (lines_of cs) c) ≡ Some (call_line script (record_at c trace n))
+          here : (b : Bool) → same_caller d c ≡ b → cond b (Some (call_line script (record_at d trace m)))
+              (call_at (lines_of cs) c) ≡ Some (call_line script (record_at c trace n))
           here true t =
               let z = one_caller d c t in
               let w : Some m ≡ Some n = sym q ∙ ap (λ b. begin_of b trace) z ∙ e in
@@ -100,7 +110,8 @@ module _ (script : Script) (trace : List Entry) where
           here false t = later
 
   -- the line of a caller is that of its record, if it began
-  pub line_is : TraceFits script trace → (c : Caller) → call_at (call_lines script trace) c ≡ option_map (λ n. call_line script (record_at c trace n)) (begin_of c trace)
+  pub line_is : TraceFits script trace → (c : Caller)
+      → call_at (call_lines script trace) c ≡ option_map (λ n. call_line script (record_at c trace n)) (begin_of c trace)
   line_is fits c = by (begin_of c trace) refl
     where
       by : (o : Option ℕ) → begin_of c trace ≡ o → call_at (call_lines script trace) c ≡ option_map (λ n. call_line script (record_at c trace n)) o
@@ -116,15 +127,26 @@ abbrev pub sure : CallEnd → Option CallEnd
 sure e = cond (is_doubt e.answer) None (Some e)
 
 -- what the line of a record tells of its end
-pub line_end : (script : Script) (trace : List Entry) (c : Caller) (n : ℕ) → option_map stop_of (end_told (call_line script (record_at c trace n))) ≡ option_map stop_of (end_of c trace)
+pub line_end : (script : Script) (trace : List Entry) (c : Caller) (n : ℕ)
+    → option_map stop_of (end_told (call_line script (record_at c trace n))) ≡ option_map stop_of (end_of c trace)
 line_end script trace c n = by (note_of_end c trace)
   where
     Told : Option CallEnd → Option CallEnd
     Told o =
         when_some (option_map (λ (e : CallEnd). e.entry) (when_some o None sure)) None
-        (λ m. when_some (option_map (λ (e : CallEnd). e.answer) o) None (λ (a : Answer). Some (record { entry = m; version = version_of (option_map (λ (e : CallEnd). e.answer) o) (when_some o (record { 0 = 0 }) (λ (e : CallEnd). e.version)); answer = a })))
+        (λ m. when_some (option_map (λ (e : CallEnd). e.answer) o) None
+        (λ (a : Answer). Some (record {
+          entry = m;
+          version =
+              version_of (option_map (λ (e : CallEnd). e.answer) o)
+              (when_some o (record { 0 = 0 }) (λ (e : CallEnd). e.version));
+          answer = a;
+        })))
 
-    doubt : (e : CallEnd) (d : Bool) → option_map stop_of (when_some (option_map (λ (x : CallEnd). x.entry) (cond d None (Some e))) None (λ m. Some (record { entry = m; version = version_of (Some e.answer) e.version; answer = e.answer }))) ≡ option_map stop_of (cond d None (Some e))
+    doubt : (e : CallEnd) (d : Bool) → option_map stop_of
+        (when_some (option_map (λ (x : CallEnd). x.entry) (cond d None (Some e))) None
+        (λ m. Some (record { entry = m; version = version_of (Some e.answer) e.version; answer = e.answer })))
+        ≡ option_map stop_of (cond d None (Some e))
     doubt e true = refl
     doubt e false = refl
 
@@ -142,11 +164,14 @@ pub record IsLineOf (script : Script) (trace : List Entry) (l : CallLine) : Type
   pub began : begin_of caller trace ≡ Some entry
   pub is : l ≡ call_line script (record_at caller trace entry)
 
-pub record_in : (script : Script) (trace : List Entry) (r : Record) → IsIn r (records_of script trace) → (c : Caller) × (n : ℕ) × IsIn c (callers_of script) × (begin_of c trace ≡ Some n) × (r ≡ record_at c trace n)
+pub record_in : (script : Script) (trace : List Entry) (r : Record) → IsIn r (records_of script trace) → (c : Caller)
+    × (n : ℕ) × IsIn c (callers_of script) × (begin_of c trace ≡ Some n) × (r ≡ record_at c trace n)
 record_in script trace r i =
     let f = in-flat_map (record_of trace) (callers_of script) r i in by f.0 f.1 (begin_of f.0 trace) refl f.2
   where
-    by : (c : Caller) → IsIn c (callers_of script) → (o : Option ℕ) → begin_of c trace ≡ o → IsIn r (list_of (option_map (record_at c trace) o)) → (d : Caller) × (n : ℕ) × IsIn d (callers_of script) × (begin_of d trace ≡ Some n) × (r ≡ record_at d trace n)
+    by : (c : Caller) → IsIn c (callers_of script) → (o : Option ℕ) → begin_of c trace ≡ o
+        → IsIn r (list_of (option_map (record_at c trace) o)) → (d : Caller) × (n : ℕ) × IsIn d (callers_of script)
+        × (begin_of d trace ≡ Some n) × (r ≡ record_at d trace n)
     by c j None q k = absurd k
     by c j (Some n) q (inl e) = (c, n, j, q, e)
     by c j (Some n) q (inr k) = absurd k

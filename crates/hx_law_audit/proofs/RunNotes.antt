@@ -32,7 +32,8 @@ began_noted (x ∷ older) c n (inl b) =
     in_left (now x) (noted_in older) (said (Session c.session) (a_note.Began c.number))
     (subst (λ (a : Actor). IsIn (said a (a_note.Began c.number)) (now x)) b.0 (in_now x (a_note.Began c.number) b.1))
 
-ended_noted : (t : List Entry) (c : Caller) (v : Version) (a : Answer) (n : ℕ) → EndedAt t c v a n → IsIn (said (Session c.session) (a_note.Ended c.number v a)) (noted_in t)
+ended_noted : (t : List Entry) (c : Caller) (v : Version) (a : Answer) (n : ℕ) → EndedAt t c v a n
+    → IsIn (said (Session c.session) (a_note.Ended c.number v a)) (noted_in t)
 ended_noted [] c v a n b = absurd b
 ended_noted (x ∷ older) c v a n (inr b) = in_right (now x) (noted_in older) (said (Session c.session) (a_note.Ended c.number v a)) (ended_noted older c v a n b)
 ended_noted (x ∷ older) c v a n (inl b) =
@@ -43,7 +44,8 @@ ended_noted (x ∷ older) c v a n (inl b) =
 noted_began : (t : List Entry) (c : Caller) → has_begun c (noted_in t) ≡ true → (n : ℕ) × BeganAt t c n
 noted_began t c e = let r = any-in (λ (x : Noted). same_actor x.actor (Session c.session) && is_begin_of c.number x.note) (noted_in t) e in by t r.0 r.1 r.2
   where
-    by : (t : List Entry) (m : Noted) → IsIn m (noted_in t) → same_actor m.actor (Session c.session) && is_begin_of c.number m.note ≡ true → (n : ℕ) × BeganAt t c n
+    by : (t : List Entry) (m : Noted) → IsIn m (noted_in t)
+        → same_actor m.actor (Session c.session) && is_begin_of c.number m.note ≡ true → (n : ℕ) × BeganAt t c n
     by [] m i e = absurd i
     by (x ∷ older) m i e = elim (in-append (now x) (noted_in older) m i) [
       | inr j ↦ (let r = by older m j e in (r.0, inr r.1))
@@ -101,38 +103,50 @@ below_in (suc n) k l = by (λ m. below_in n k m) (eqb k n) refl
   where
     by : (k < n → IsIn k (below n)) → (b : Bool) → eqb k n ≡ b → IsIn k (below n ++ n ∷ [])
     by lower true e = in_right (below n) (n ∷ []) k (inl (eqb-true k n e))
-    by lower false e = in_left (below n) (n ∷ []) k (lower (let z : (k ≡ n) → ⊥ = λ q. false≢true (sym e ∙ eq-eqb k n q) in elim (cases_eq k n) [ inl q ↦ absurd (z q) | inr q ↦ omega (arith, l, q) ]))
+    by lower false e = in_left (below n) (n ∷ []) k
+        (lower (let z : (k ≡ n) → ⊥ = λ q. false≢true (sym e ∙ eq-eqb k n q) in
+        elim (cases_eq k n) [ inl q ↦ absurd (z q) | inr q ↦ omega (arith, l, q) ]))
 
 -- who has a call is a caller
 pub caller_in : (script : Script) (c : Caller) (op : Op) → call_of script c ≡ Some op → IsIn c (callers_of script)
 caller_in script c op e = by c.session.0 refl c.number refl e
   where
-    calls_some : (u : ℕ) (n : ℕ) → numbered (when_some (slice_get script.sessions u) [] (λ (calls : List Op). calls)) (suc n) ≡ Some op → u < length script.sessions
+    calls_some : (u : ℕ) (n : ℕ) → numbered (when_some (slice_get script.sessions u) [] (λ (calls : List Op). calls))
+        (suc n) ≡ Some op → u < length script.sessions
     calls_some u n q = at (slice_get script.sessions u) refl q
       where
-        at : (o : Option (List Op)) → slice_get script.sessions u ≡ o → slice_get (when_some o [] (λ (calls : List Op). calls)) n ≡ Some op → u < length script.sessions
+        at : (o : Option (List Op)) → slice_get script.sessions u ≡ o
+            → slice_get (when_some o [] (λ (calls : List Op). calls)) n ≡ Some op → u < length script.sessions
         at None z w = absurd (cc)
         at (Some l) z w = get-below script.sessions u l z
 
     by : (u : ℕ) → u ≡ c.session.0 → (n : ℕ) → n ≡ c.number → numbered (calls_of script c.session) c.number ≡ Some op → IsIn c (callers_of script)
-    by zero p n q z = absurd (let w : numbered (when_some (numbered script.sessions 0) [] (λ (calls : List Op). calls)) n ≡ Some op = subst (λ m. numbered (when_some (numbered script.sessions 0) [] (λ (calls : List Op). calls)) m ≡ Some op) (sym q) (subst (λ m. numbered (when_some (numbered script.sessions m) [] (λ (calls : List Op). calls)) c.number ≡ Some op) (sym p) z) in none n w)
+    by zero p n q z = absurd (let w : numbered (when_some (numbered script.sessions 0) []
+        (λ (calls : List Op). calls)) n ≡ Some op = subst
+        (λ m. numbered (when_some (numbered script.sessions 0) [] (λ (calls : List Op). calls)) m ≡ Some op) (sym q)
+        (subst (λ m. numbered (when_some (numbered script.sessions m) [] (λ (calls : List Op). calls)) c.number
+        ≡ Some op) (sym p) z) in none n w)
       where
         none : (n : ℕ) → numbered {A = Op} [] n ≡ Some op → ⊥
         none zero w = cc
         none (suc n) w = cc
-    by (suc u) p zero q z = absurd (let w : numbered (calls_of script c.session) 0 ≡ Some op = subst (λ m. numbered (calls_of script c.session) m ≡ Some op) (sym q) z in let y : None ≡ Some op = w in cc)
+    by (suc u) p zero q z = absurd (let w : numbered (calls_of script c.session) 0 ≡ Some op =
+        subst (λ m. numbered (calls_of script c.session) m ≡ Some op) (sym q) z in let y : None ≡ Some op = w in cc)
     by (suc u) p (suc n) q z =
         let pu : u + 1 ≡ c.session.0 = omega (arith, p) in
         let qn : n + 1 ≡ c.number = omega (arith, q) in
         let same : record { session = record { 0 = u + 1 }; number = n + 1 } ≡ c = (λ i. record { session = record { 0 = pu i }; number = qn i }) in
         let F : List Op → List Op = λ calls. calls in
         let w : numbered (when_some (numbered script.sessions (suc u)) [] F) (suc n) ≡ Some op =
-        subst (λ m. numbered (when_some (numbered script.sessions m) [] F) (suc n) ≡ Some op) (sym p) (subst (λ m. numbered (calls_of script c.session) m ≡ Some op) (sym q) z) in
+        subst (λ m. numbered (when_some (numbered script.sessions m) [] F) (suc n) ≡ Some op) (sym p)
+        (subst (λ m. numbered (calls_of script c.session) m ≡ Some op) (sym q) z) in
         let su : suc u ≡ u + 1 = omega arith in
         let few : n < length (when_some (numbered script.sessions (u + 1)) [] F) =
         subst (λ m. n < length (when_some (numbered script.sessions m) [] F)) su (get-below (when_some (slice_get script.sessions u) [] F) n op w) in
         subst (λ (d : Caller). IsIn d (callers_of script)) same
-        (in-flat (λ u. map (λ n. record { session = record { 0 = u + 1 }; number = n + 1 }) (below (length (calls_of script (record { 0 = u + 1 }))))) (below (length script.sessions)) u (record { session = record { 0 = u + 1 }; number = n + 1 })
+        (in-flat (λ u. map (λ n. record { session = record { 0 = u + 1 }; number = n + 1 })
+        (below (length (calls_of script (record { 0 = u + 1 }))))) (below (length script.sessions)) u
+        (record { session = record { 0 = u + 1 }; number = n + 1 })
         (below_in (length script.sessions) u (calls_some u n w))
         (map-in (λ (m : ℕ). record { session = record { 0 = u + 1 }; number = m + 1 }) (below (length (calls_of script (record { 0 = u + 1 })))) n
         (below_in (length (calls_of script (record { 0 = u + 1 }))) n few)))

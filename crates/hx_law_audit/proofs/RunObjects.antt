@@ -38,11 +38,14 @@ defaults_said space h =
     subst IsSayable (sym m.2) (default_said m.0.kind (all-in (λ (a : Attribute). BoundsAreSayable a.kind) space.attributes m.0 h m.1)))
 
 set_said : (object : List Value) (i : ℕ) (v : Value) → All IsSayable object → IsSayable v → All IsSayable (slice_set object i v)
-set_said object i v h k = all-of IsSayable (slice_set object i v) (λ x j. elim (in-slice_set object i v x j) [ inl e ↦ subst IsSayable (sym e) k | inr l ↦ all-in IsSayable object x h l ])
+set_said object i v h k = all-of IsSayable (slice_set object i v)
+    (λ x j. elim (in-slice_set object i v x j) [ inl e ↦ subst IsSayable (sym e) k | inr l ↦ all-in IsSayable object x h l ])
 
-written_said : (object : List Value) (sets : List Assign) → All IsSayable object → ((a : Assign) → IsIn a sets → IsSayable a.value) → All IsSayable (written object sets)
+written_said : (object : List Value) (sets : List Assign) → All IsSayable object
+    → ((a : Assign) → IsIn a sets → IsSayable a.value) → All IsSayable (written object sets)
 written_said object [] h k = h
-written_said object (a ∷ rest) h k = written_said (slice_set object (a.attribute - 1) a.value) rest (set_said object (a.attribute - 1) a.value h (k a (inl refl))) (λ b i. k b (inr i))
+written_said object (a ∷ rest) h k = written_said (slice_set object (a.attribute - 1) a.value) rest
+    (set_said object (a.attribute - 1) a.value h (k a (inl refl))) (λ b i. k b (inr i))
 
 fits : (z : ℤ) → fits_64 z ≡ true → FitsSigned w64 z
 fits (pos n) e = record { sfits = ltb-true _ _ e }
@@ -52,7 +55,8 @@ value_said : (what : EditKind) (old by : Value) → IsSayable old → IsSayable 
 value_said an_edit.Add (a_value.Int v) (a_value.Int i) h k =
     cond_both (fits_64 (v +ℤ i)) (Ok (a_value.Int (v +ℤ i))) (Err an_answer.Overflow) (MadeWith IsSayable) (λ t. fits (v +ℤ i) t) (λ t. tt)
 value_said an_edit.Append (a_value.Text old) (a_value.Text new) h k =
-    cond_both (nat_le (length old + length new) LONGEST_TEXT) (Ok (a_value.Text (old ++ new))) (Err an_answer.TooLong) (MadeWith IsSayable) (λ t. text_both old new h k) (λ t. tt)
+    cond_both (nat_le (length old + length new) LONGEST_TEXT) (Ok (a_value.Text (old ++ new))) (Err an_answer.TooLong)
+    (MadeWith IsSayable) (λ t. text_both old new h k) (λ t. tt)
 value_said an_edit.Add (a_value.Int v) (a_value.Text new) h k = h
 value_said an_edit.Add (a_value.Text old) by h k = h
 value_said an_edit.Append (a_value.Text old) (a_value.Int i) h k = h
@@ -64,7 +68,8 @@ value_said an_edit.Max (a_value.Int v) (a_value.Int i) h k = cond_both (int_le v
 value_said an_edit.Max (a_value.Int v) (a_value.Text new) h k = h
 value_said an_edit.Max (a_value.Text old) by h k = h
 
-edits_said : (old object : List Value) (edits : List Edit) → All IsSayable old → All IsSayable object → ((e : Edit) → IsIn e edits → IsSayable e.value) → MadeWith (All IsSayable) (edited_from old object edits)
+edits_said : (old object : List Value) (edits : List Edit) → All IsSayable old → All IsSayable object
+    → ((e : Edit) → IsIn e edits → IsSayable e.value) → MadeWith (All IsSayable) (edited_from old object edits)
 edits_said old object [] h k f = k
 edits_said old object (e ∷ rest) h k f =
     and_then-made IsSayable (All IsSayable) (edit_of old e) (λ (v : Value). edited_from old (slice_set object (e.attribute - 1) v) rest)
@@ -77,7 +82,8 @@ edits_said old object (e ∷ rest) h k f =
 assigns_in : (assigns : List Assign) → All (λ (a : Assign). IsSayable a.value) assigns → (a : Assign) → IsIn a assigns → IsSayable a.value
 assigns_in assigns h a i = all-in (λ (b : Assign). IsSayable b.value) assigns a h i
 
-pub effect_said : (space : Space) → All (λ (a : Attribute). BoundsAreSayable a.kind) space.attributes → (old : Option (List Value)) (op : Op) → CanBeSaid old → CallIsSayable op → CanBeSaid (effect_of space old op).object
+pub effect_said : (space : Space) → All (λ (a : Attribute). BoundsAreSayable a.kind) space.attributes
+    → (old : Option (List Value)) (op : Op) → CanBeSaid old → CallIsSayable op → CanBeSaid (effect_of space old op).object
 effect_said space bounds None (Put key sets) h k = written_said (defaults space) sets (defaults_said space bounds) (assigns_in sets k.1)
 effect_said space bounds (Some old) (Put key sets) h k = written_said old sets h (assigns_in sets k.1)
 effect_said space bounds None (Get key) h k = tt
@@ -91,7 +97,8 @@ effect_said space bounds (Some old) (Cput key tests sets) h k =
     (λ t. h)
 effect_said space bounds None (Atomic key edits) h k = tt
 effect_said space bounds (Some old) (Atomic key edits) h k =
-    edited-both (λ (e : Effect). CanBeSaid e.object) (All IsSayable) old (edited_from old old edits) (edits_said old old edits h h (λ e i. all-in (λ (d : Edit). IsSayable d.value) edits e k.1 i))
+    edited-both (λ (e : Effect). CanBeSaid e.object) (All IsSayable) old (edited_from old old edits)
+    (edits_said old old edits h h (λ e i. all-in (λ (d : Edit). IsSayable d.value) edits e k.1 i))
     (λ object m. m) h h
 effect_said space bounds old other h k = h
 
@@ -111,7 +118,8 @@ module _ (space : Space) (bounds : All (λ (a : Attribute). BoundsAreSayable a.k
       let o = ops x (inl refl) in
       subst IsGood (sym legal.0.object) (effect_good (object_now older) x.op (now_good older legal.1 (λ y i. ops y (inr i))) o.0 o.1)
 
-  pub objects_good : (items : List Item) → IsLegal space items → ((x : Item) → IsIn x items → Fits space x.op × CallIsSayable x.op) → (x : Item) → IsIn x items → IsGood x.object
+  pub objects_good : (items : List Item) → IsLegal space items
+      → ((x : Item) → IsIn x items → Fits space x.op × CallIsSayable x.op) → (x : Item) → IsIn x items → IsGood x.object
   objects_good [] legal ops x i = absurd i
   objects_good (y ∷ older) legal ops x (inl e) = subst (λ (z : Item). IsGood z.object) (sym e) (now_good (y ∷ older) legal ops)
   objects_good (y ∷ older) legal ops x (inr i) = objects_good older legal.1 (λ z j. ops z (inr j)) x i

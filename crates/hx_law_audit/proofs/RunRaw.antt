@@ -42,7 +42,8 @@ IsLine bytes = list_all is_line_byte bytes ≡ true
 
 both : (xs ys : List ℕ) → IsLine xs → IsLine ys → IsLine (xs ++ ys)
 both [] ys a b = b
-both (x ∷ xs) ys a b = let q = and_parts (is_line_byte x) (list_all is_line_byte xs) a in and_from (is_line_byte x) (list_all is_line_byte (xs ++ ys)) q.0 (both xs ys q.1 b)
+both (x ∷ xs) ys a b = let q = and_parts (is_line_byte x) (list_all is_line_byte xs) a in
+    and_from (is_line_byte x) (list_all is_line_byte (xs ++ ys)) q.0 (both xs ys q.1 b)
 
 glyph_ok : (n : ℕ) → is_line_byte (digit_glyph false (n % 10)) ≡ true
 glyph_ok n = at (n % 10) (omega arith)
@@ -103,7 +104,8 @@ reconfiguration_ok (a_message.Install config) = one_ok (codes "install") (codes 
 reconfiguration_ok a_message.Die = refl
 reconfiguration_ok a_message.Gone = refl
 reconfiguration_ok (a_message.StopServer number server) = two_ok (codes "stop") (codes "number") (codes "server") number server.0 refl refl refl
-reconfiguration_ok (a_message.AddReplica number server region) = three_ok (codes "add") (codes "number") (codes "server") (codes "region") number server.0 region.0 refl refl refl refl
+reconfiguration_ok (a_message.AddReplica number server region) =
+    three_ok (codes "add") (codes "number") (codes "server") (codes "region") number server.0 region.0 refl refl refl refl
 reconfiguration_ok (a_message.Outcome number answer) = one_ok (codes "answer") (codes "number") number refl refl
 reconfiguration_ok (a_message.Snap epoch region snapshot pending) = two_ok (codes "snap") (codes "epoch") (codes "region") epoch.0 region.0 refl refl refl
 reconfiguration_ok (a_message.Ready epoch region) = two_ok (codes "ready") (codes "epoch") (codes "region") epoch.0 region.0 refl refl refl
@@ -114,11 +116,15 @@ message_ok : (m : Message) → IsLine (message_text m)
 unfolding message_text
 message_ok (a_message.Call epoch number op) = two_ok (codes "call") (codes "epoch") (codes "number") epoch.0 number refl refl refl
 message_ok (a_message.Reply number version answer) = two_ok (codes "reply") (codes "number") (codes "version") number version.0 refl refl refl
-message_ok (a_message.Update epoch region update) = three_ok (codes "update") (codes "epoch") (codes "region") (codes "version") epoch.0 region.0 update.version.0 refl refl refl refl
+message_ok (a_message.Update epoch region update) =
+    three_ok (codes "update") (codes "epoch") (codes "region")
+    (codes "version") epoch.0 region.0 update.version.0 refl refl refl refl
 message_ok (a_message.Ack epoch region by key version) =
     three_ok (codes "ack") (codes "epoch") (codes "region") (codes "version") epoch.0 region.0 version.0 refl refl refl refl
-message_ok (a_message.Ask epoch number region terms) = three_ok (codes "ask") (codes "epoch") (codes "number") (codes "region") epoch.0 number region.0 refl refl refl refl
-message_ok (a_message.Found epoch number region rows) = three_ok (codes "found") (codes "epoch") (codes "number") (codes "region") epoch.0 number region.0 refl refl refl refl
+message_ok (a_message.Ask epoch number region terms) =
+    three_ok (codes "ask") (codes "epoch") (codes "number") (codes "region") epoch.0 number region.0 refl refl refl refl
+message_ok (a_message.Found epoch number region rows) =
+    three_ok (codes "found") (codes "epoch") (codes "number") (codes "region") epoch.0 number region.0 refl refl refl refl
 message_ok other = reconfiguration_ok other
 
 input_ok : (input : Input) → IsLine (input_text input)
@@ -146,8 +152,11 @@ post_is : (entry place : ℕ) (p : Post) → IsRaw (post_raw entry place p)
 unfolding post_head
 post_is entry place p = record {
   rest = head_rest ++ codes " " ++ message_text p.message;
-  begins = inr (ap (λ h. h ++ codes " " ++ message_text p.message) begins ∙ ap (λ l. l ++ message_text p.message) (append_assoc (codes "post ") head_rest (codes " ")) ∙ append_assoc (codes "post ") (head_rest ++ codes " ") (message_text p.message));
-  plain = both (post_head entry place p ++ codes " ") (message_text p.message) (both (post_head entry place p) (codes " ") (head_ok entry place p) refl) (message_ok p.message);
+  begins = inr (ap (λ h. h ++ codes " " ++ message_text p.message) begins
+      ∙ ap (λ l. l ++ message_text p.message) (append_assoc (codes "post ") head_rest (codes " "))
+      ∙ append_assoc (codes "post ") (head_rest ++ codes " ") (message_text p.message));
+  plain = both (post_head entry place p ++ codes " ") (message_text p.message)
+      (both (post_head entry place p) (codes " ") (head_ok entry place p) refl) (message_ok p.message);
 }
   where
     head_rest : List ℕ
@@ -196,7 +205,8 @@ trace_is true trace l i = entries_are 1 (reverse trace) l i
 -- ---- plain bytes are a text of one line
 
 pub one_line : (bytes : List ℕ) → IsLine bytes → All (λ b. b ≢ 10) bytes
-one_line bytes h = all-of (λ b. b ≢ 10) bytes (λ b i e. let t = line_byte bytes h b i in false≢true (sym (ap not (eq-eqb b 10 e)) ∙ (and_parts (ltb b 128) (not (eqb b 10)) t).1))
+one_line bytes h = all-of (λ b. b ≢ 10) bytes (λ b i e. let t = line_byte bytes h b i in
+    false≢true (sym (ap not (eq-eqb b 10 e)) ∙ (and_parts (ltb b 128) (not (eqb b 10)) t).1))
   where
     line_byte : (bs : List ℕ) → IsLine bs → (b : ℕ) → IsIn b bs → is_line_byte b ≡ true
     line_byte [] h b i = absurd i

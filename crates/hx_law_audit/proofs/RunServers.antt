@@ -28,11 +28,15 @@ free n [] h = tt
 free n (x ∷ xs) h = h.1
 
 -- one more behind them
-pub rises_more : (last : Option ℕ) (xs : List ℕ) (y : ℕ) → RisesFrom last xs → ((x : ℕ) → IsIn x xs → x < y) → ((m : ℕ) → last ≡ Some m → m < y) → RisesFrom last (xs ++ y ∷ [])
+pub rises_more : (last : Option ℕ) (xs : List ℕ) (y : ℕ) → RisesFrom last xs → ((x : ℕ) → IsIn x xs → x < y)
+    → ((m : ℕ) → last ≡ Some m → m < y) → RisesFrom last (xs ++ y ∷ [])
 rises_more None [] y h all from = tt
 rises_more (Some m) [] y h all from = (from m refl, tt)
 rises_more None (x ∷ xs) y h all from = rises_more (Some x) xs y h (λ z i. all z (inr i)) (λ m e. let q : x ≡ m = cc in subst (λ k. k < y) q (all x (inl refl)))
-rises_more (Some m) (x ∷ xs) y h all from = (h.0, rises_more (Some x) xs y h.1 (λ z i. all z (inr i)) (λ k e. let q : x ≡ k = cc in subst (λ j. j < y) q (all x (inl refl))))
+rises_more (Some m) (x ∷ xs) y h all from = (
+  h.0,
+  rises_more (Some x) xs y h.1 (λ z i. all z (inr i)) (λ k e. let q : x ≡ k = cc in subst (λ j. j < y) q (all x (inl refl))),
+)
 
 abbrev number_of : ServerId → ℕ
 number_of s = s.0
@@ -65,7 +69,8 @@ first_rise (suc n) =
     subst (λ l. RisesFrom None (map number_of l)) (sym (map-append server_at (below n) (n ∷ [])))
     (subst (RisesFrom None) (sym (map-append number_of (map server_at (below n)) (server_at n ∷ [])))
     (rises_more None (map number_of (map server_at (below n))) (n + 1) (first_rise n)
-    (λ x i. let m = in-map number_of (map server_at (below n)) x i in let k = in-map server_at (below n) m.0 m.1 in let b = in-below n k.0 k.1 in let e : x ≡ k.0 + 1 = m.2 ∙ ap number_of k.2 in omega (arith, b, e))
+    (λ x i. let m = in-map number_of (map server_at (below n)) x i in let k = in-map server_at (below n) m.0 m.1 in
+    let b = in-below n k.0 k.1 in let e : x ≡ k.0 + 1 = m.2 ∙ ap number_of k.2 in omega (arith, b, e))
     (λ m e. absurd (cc))))
 
 -- ---- the steps of the coordinator
@@ -79,7 +84,8 @@ After step = Rise step.state
 by-number : (c : CoordinatorState) → Rise c → (caller : Caller) (o : Option Newest) (new : CoordinatorStep) → After new → After (by_number c caller o new)
 by-number c h caller None new k = k
 by-number c h caller (Some n) new k =
-    cond_both (ltb caller.number n.number) (resting c) (cond (eqb caller.number n.number) (again c caller n.answer) new) (λ (step : CoordinatorStep). After step)
+    cond_both (ltb caller.number n.number) (resting c)
+    (cond (eqb caller.number n.number) (again c caller n.answer) new) (λ (step : CoordinatorStep). After step)
     (λ t. h)
     (λ t. cond_both (eqb caller.number n.number) (again c caller n.answer) new (λ (step : CoordinatorStep). After step) (λ q. repeated n.answer) (λ q. k))
   where
@@ -90,7 +96,8 @@ by-number c h caller (Some n) new k =
 stopping : (c : CoordinatorState) → Rise c → (caller : Caller) (s : ServerId) → After (stops c caller s)
 stopping c h caller s =
     cond_both (server_in s c.config.servers) (telling (with_task c caller (Stop s)) (to_server a_message.Die s ∷ []))
-    (telling (with_number c caller (Some (an_answer.Stopped c.config.epoch))) (outcome caller (an_answer.Stopped c.config.epoch) ∷ [])) (λ (step : CoordinatorStep). After step)
+    (telling (with_number c caller (Some (an_answer.Stopped c.config.epoch)))
+    (outcome caller (an_answer.Stopped c.config.epoch) ∷ [])) (λ (step : CoordinatorStep). After step)
     (λ t. h)
     (λ t. h)
 
@@ -98,7 +105,8 @@ adding : (c : CoordinatorState) → Rise c → (caller : Caller) (s : ServerId) 
 adding c h caller s g None = h
 adding c h caller s g (Some a) = h
 
-administered : (c : CoordinatorState) → Rise c → (from : Actor) (act : SessionId → CoordinatorStep) → ((u : SessionId) → After (act u)) → After (administers c from act)
+administered : (c : CoordinatorState) → Rise c → (from : Actor) (act : SessionId → CoordinatorStep)
+    → ((u : SessionId) → After (act u)) → After (administers c from act)
 administered c h Coordinator act k = h
 administered c h (Server s) act k = h
 administered c h (Session u) act k = k u
@@ -118,14 +126,18 @@ readied c h g other = h
 
 polled : (c : CoordinatorState) → Rise c → (epoch : Epoch) (from : Actor) → After (poll_step c epoch from)
 polled c h epoch from =
-    cond_both (ltb epoch.0 c.config.epoch.0) (telling c (post Coordinator from (a_message.Install c.config) ∷ [])) (resting c) (λ (step : CoordinatorStep). After step)
+    cond_both (ltb epoch.0 c.config.epoch.0) (telling c (post Coordinator from (a_message.Install c.config) ∷ []))
+    (resting c) (λ (step : CoordinatorStep). After step)
     (λ t. h)
     (λ t. h)
 
 messages : (c : CoordinatorState) → Rise c → (from : Actor) (m : Message) → After (coordinator_message c from m)
 messages c h from a_message.Gone = going c h from
 messages c h from (a_message.StopServer number server) =
-    administered c h from (stop_step c number server) (λ u. by-number c h (record { session = u; number = number }) (newest_of u c.newest) (stops c (record { session = u; number = number }) server) (stopping c h (record { session = u; number = number }) server))
+    administered c h from (stop_step c number server)
+    (λ u. by-number c h (record { session = u; number = number }) (newest_of u c.newest)
+    (stops c (record { session = u; number = number }) server)
+    (stopping c h (record { session = u; number = number }) server))
 messages c h from (a_message.AddReplica number server g) =
     let judgement = judged c.config server g in
     administered c h from (add_step c number server g)

@@ -52,12 +52,14 @@ report_of script trace listed totals with_trace = record { version = 1; blocks =
 
 -- ---- texts
 
-flat_same : {A B C : Type 0} (f : A → B) (g : B → List C) (h : A → List C) (xs : List A) → ((x : A) → IsIn x xs → g (f x) ≡ h x) → flat_map g (map f xs) ≡ flat_map h xs
+flat_same : {A B C : Type 0} (f : A → B) (g : B → List C) (h : A → List C) (xs : List A)
+    → ((x : A) → IsIn x xs → g (f x) ≡ h x) → flat_map g (map f xs) ≡ flat_map h xs
 flat_same f g h [] same = refl
 flat_same f g h (x ∷ xs) same = λ i. same x (inl refl) i ++ flat_same f g h xs (λ y j. same y (inr j)) i
 
 -- the answer of a call is printed without regard to a version that it doesn't name
-answer_same : (space : Space) (version : Version) (answer : Option Answer) → maybe_answer_lines space (version_of answer version) answer ≡ maybe_answer_lines space version answer
+answer_same : (space : Space) (version : Version) (answer : Option Answer)
+    → maybe_answer_lines space (version_of answer version) answer ≡ maybe_answer_lines space version answer
 unfolding maybe_answer_lines answer_lines
 answer_same space version None = refl
 answer_same space version (Some an_answer.Done) = refl
@@ -80,7 +82,8 @@ call_same : (script : Script) (r : Record) (op : Op) → call_of script r.caller
 unfolding call_text record_lines
 call_same script r op e = λ i. call_front script r op e i ++ answer_same script.space r.version r.answer i
 
-calls_same : (script : Script) (trace : List Entry) → TraceFits script trace → flat_map (call_text script.space) (call_lines script trace) ≡ flat_map (record_lines script) (records_of script trace)
+calls_same : (script : Script) (trace : List Entry) → TraceFits script trace
+    → flat_map (call_text script.space) (call_lines script trace) ≡ flat_map (record_lines script) (records_of script trace)
 calls_same script trace fits =
     flat_same (call_line script) (call_text script.space) (record_lines script) (records_of script trace)
     (λ r i. let f = record_in script trace r i in let called = began_called script trace fits f.0 f.1 (began_at f.0 trace f.1 f.3) in
@@ -93,7 +96,8 @@ item_same space x t = ap (λ w. report.item_text x ++ codes " " ++ w ++ codes " 
 
 history_same : (space : Space) (h : KeyHistory) → ((x : Item) → IsIn x h.items → IsTold x) → history_text space (history_lines h) ≡ report.history_lines space h
 unfolding history_text key_text report.history_lines
-history_same space h told = ap (λ w. key_text h.key ++ w) (flat_same item_line (line.item_text space) (report.item_line space) h.items (λ x i. item_same space x (told x i)))
+history_same space h told = ap (λ w. key_text h.key ++ w)
+    (flat_same item_line (line.item_text space) (report.item_line space) h.items (λ x i. item_same space x (told x i)))
 
 histories_same : (space : Space) (listed : List KeyHistory) → ((h : KeyHistory) → IsIn h listed → (x : Item) → IsIn x h.items → IsTold x)
     → flat_map (history_text space) (map history_lines listed) ≡ flat_map (report.history_lines space) listed
@@ -116,15 +120,19 @@ map_both f [] ys = refl
 map_both f (x ∷ xs) ys = ap (λ l. f x ∷ l) (map_both f xs ys)
 
 -- what lists of lists have
-flat_flat : {A B C D : Type 0} (f : B → C) (g : C → List D) (h : A → List B) (k : A → List D) (xs : List A) → ((x : A) → flat_map g (map f (h x)) ≡ k x) → flat_map g (map f (flat_map h xs)) ≡ flat_map k xs
+flat_flat : {A B C D : Type 0} (f : B → C) (g : C → List D) (h : A → List B) (k : A → List D) (xs : List A)
+    → ((x : A) → flat_map g (map f (h x)) ≡ k x) → flat_map g (map f (flat_map h xs)) ≡ flat_map k xs
 flat_flat f g h k [] same = refl
 flat_flat f g h k (x ∷ xs) same =
-    ap (flat_map g) (map_both f (h x) (flat_map h xs)) ∙ flat_map-append g (map f (h x)) (map f (flat_map h xs)) ∙ (λ i. same x i ++ flat_flat f g h k xs same i)
+    ap (flat_map g) (map_both f (h x) (flat_map h xs)) ∙ flat_map-append g (map f (h x)) (map f (flat_map h xs))
+    ∙ (λ i. same x i ++ flat_flat f g h k xs same i)
 
 epochs_same : (script : Script) (trace : List Entry) → flat_map epoch_text (map config_line (configs_of script trace)) ≡ epochs_text script trace
 unfolding epochs_text
 epochs_same script trace =
-    λ i. config_same (first_config script.space) i ++ flat_flat config_line epoch_text (λ (x : Entry). flat_map issued_by x.notes) entry_lines (reverse trace) (λ x. flat_flat config_line epoch_text issued_by note_lines x.notes note_same) i
+    λ i. config_same (first_config script.space) i
+    ++ flat_flat config_line epoch_text (λ (x : Entry). flat_map issued_by x.notes) entry_lines (reverse trace)
+    (λ x. flat_flat config_line epoch_text issued_by note_lines x.notes note_same) i
 
 -- the trace
 post_same : (entry place : ℕ) (p : Post) → raw_text (post_raw entry place p) ≡ post_line entry place p
@@ -167,10 +175,15 @@ first_same = refl
 parts : (f s a h e r d n : List ℕ) → f ++ ((s ++ a ++ h ++ e ++ r ++ d) ++ []) ++ n ≡ f ++ s ++ a ++ h ++ e ++ r ++ d ++ n
 parts f s a h e r d n = simp (append_assoc, append-nil)
 
-pub text_same : (script : Script) (trace : List Entry) → TraceFits script trace → (listed : List KeyHistory) → ((h : KeyHistory) → IsIn h listed → (x : Item) → IsIn x h.items → IsTold x)
+pub text_same : (script : Script) (trace : List Entry) → TraceFits script trace → (listed : List KeyHistory)
+    → ((h : KeyHistory) → IsIn h listed → (x : Item) → IsIn x h.items → IsTold x)
     → (totals : List Totals) (with_trace : Bool) → text_of (report_of script trace listed totals with_trace) ≡ report_text script trace listed totals with_trace
 unfolding text_of block_text report_text head_text
 text_same script trace fits listed told totals with_trace =
-    parts (first_text 1) (space_text script.space) (flat_map (call_text script.space) (call_lines script trace)) (flat_map (history_text script.space) (map history_lines listed))
-    (flat_map epoch_text (map config_line (configs_of script trace))) (flat_map raw_text (trace_raw with_trace trace)) (flat_map driver_text (drivers_from 1 totals)) (codes "end\n")
-    ∙ (λ i. first_same i ++ space_text script.space ++ calls_same script trace fits i ++ histories_same script.space listed told i ++ epochs_same script trace i ++ trace_same with_trace trace i ++ drivers_same 1 totals i ++ codes "end\n")
+    parts (first_text 1) (space_text script.space) (flat_map (call_text script.space) (call_lines script trace))
+    (flat_map (history_text script.space) (map history_lines listed))
+    (flat_map epoch_text (map config_line (configs_of script trace))) (flat_map raw_text (trace_raw with_trace trace))
+    (flat_map driver_text (drivers_from 1 totals)) (codes "end\n")
+    ∙ (λ i. first_same i ++ space_text script.space ++ calls_same script trace fits i
+    ++ histories_same script.space listed told i ++ epochs_same script trace i ++ trace_same with_trace trace i
+    ++ drivers_same 1 totals i ++ codes "end\n")

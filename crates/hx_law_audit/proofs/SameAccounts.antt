@@ -27,7 +27,8 @@ told_end d f None = refl
 told_end d f (Some e) = refl
 
 module _ (a b : Account) (same : SameAccounts a b) where
-  same_told : {B : Type 0} (d : B) (f : Stop → B) (c : Caller) → when_some (a.end_of c) d (λ (e : CallEnd). f (stop_of e)) ≡ when_some (b.end_of c) d (λ (e : CallEnd). f (stop_of e))
+  same_told : {B : Type 0} (d : B) (f : Stop → B) (c : Caller)
+      → when_some (a.end_of c) d (λ (e : CallEnd). f (stop_of e)) ≡ when_some (b.end_of c) d (λ (e : CallEnd). f (stop_of e))
   same_told d f c = told_end d f (a.end_of c) ∙ ap (λ o. when_some o d f) (same.end c) ∙ sym (told_end d f (b.end_of c))
 
   same_ended : (c : Caller) (n : ℕ) → ended_before a c n ≡ ended_before b c n
@@ -40,10 +41,13 @@ module _ (a b : Account) (same : SameAccounts a b) where
   same_refused c = same_told false (λ (s : Stop). is_refused s.answer) c
 
   -- an end by the one is one by the other, of some version
-  end_back : (c : Caller) (n : ℕ) (v : Version) (answer : Answer) → b.end_of c ≡ Some (record { entry = n; version = v; answer = answer }) → (w : Version) × (a.end_of c ≡ Some (record { entry = n; version = w; answer = answer }))
+  end_back : (c : Caller) (n : ℕ) (v : Version) (answer : Answer)
+      → b.end_of c ≡ Some (record { entry = n; version = v; answer = answer }) → (w : Version)
+      × (a.end_of c ≡ Some (record { entry = n; version = w; answer = answer }))
   end_back c n v answer e = by (a.end_of c) refl (same.end c ∙ ap (option_map stop_of) e)
     where
-      by : (o : Option CallEnd) → a.end_of c ≡ o → option_map stop_of o ≡ Some (record { entry = n; answer = answer }) → (w : Version) × (a.end_of c ≡ Some (record { entry = n; version = w; answer = answer }))
+      by : (o : Option CallEnd) → a.end_of c ≡ o → option_map stop_of o ≡ Some (record { entry = n; answer = answer })
+          → (w : Version) × (a.end_of c ≡ Some (record { entry = n; version = w; answer = answer }))
       by None q s = absurd (cc)
       by (Some d) q s =
           let z : stop_of d ≡ record { entry = n; answer = answer } = cc in
@@ -71,7 +75,8 @@ module _ (a b : Account) (same : SameAccounts a b) where
         legal = subst (IsLegal space) here h.legal;
         answered_once = λ c answer u. (let r = h.answered_once c answer (answered_by key c answer u) in (r.0, subst (IsIn r.0) here r.1, r.2, r.3));
         honest = record { calls = λ x i. call_by key x (h.honest.calls x (back x i)); once = subst EachOnce here h.honest.once };
-        in_order = λ x y n i j apart begin ended. subst (StandsBefore x y) here (h.in_order x y n (back x i) (back y j) apart (same.begin y.caller ∙ begin) (same_ended x.caller n ∙ ended));
+        in_order = λ x y n i j apart begin ended. subst (StandsBefore x y) here
+            (h.in_order x y n (back x i) (back y j) apart (same.begin y.caller ∙ begin) (same_ended x.caller n ∙ ended));
       }
 
   same_change : (n : ℕ) (newer items : List Item) → last_change a n newer items ≡ last_change b n newer items

@@ -26,7 +26,8 @@ pub record BreaksNothing (bytes : List ℕ) : Type 0 where
   pub text : text_of report ≡ bytes
   pub verdict : IsVerdict report verdicts.Yes
 
--- the report of a run of a valid script that the language can say breaks nothing, with and without the lines of its trace, where its entries are numbered with 64 bits
+-- the report of a run of a valid script that the language can say breaks nothing, with and without
+-- the lines of its trace, where its entries are numbered with 64 bits
 abbrev pub RunsBreakNothing : Type 0
 RunsBreakNothing =
     (script : Script) → IsScript script → IsSayableScript script

@@ -17,7 +17,8 @@ module _ (script : Script) (valid : IsScript script) (trace : List Entry) (run :
   -- ---- outcomes of administrative calls
 
   -- a known configuration is that of its epoch
-  of-epoch : (older : List Entry) (config : Config) (epoch : Epoch) → IsKnown script older config → epoch ≡ config.epoch → config_of script epoch older ≡ Some config
+  of-epoch : (older : List Entry) (config : Config) (epoch : Epoch) → IsKnown script older config
+      → epoch ≡ config.epoch → config_of script epoch older ≡ Some config
   of-epoch older config epoch k e = subst (λ (y : Epoch). config_of script y older ≡ Some config) (sym e) k
 
   -- operations of one call are one
@@ -31,7 +32,8 @@ module _ (script : Script) (valid : IsScript script) (trace : List Entry) (run :
   stopped-named other config t = absurd (false≢true t)
 
   -- a call that adds passes the test
-  adds-named : (test : ServerId → RegionId → Bool) (op : Op) → administers_to test (λ s. false) op ≡ true → (s : ServerId) × ((g : RegionId) × (op ≡ Add s g) × (test s g ≡ true))
+  adds-named : (test : ServerId → RegionId → Bool) (op : Op) → administers_to test (λ s. false) op ≡ true
+      → (s : ServerId) × ((g : RegionId) × (op ≡ Add s g) × (test s g ≡ true))
   adds-named test (Add s g) t = (s, (g, refl, t))
   adds-named test other t = absurd (false≢true t)
 
@@ -45,9 +47,11 @@ module _ (script : Script) (valid : IsScript script) (trace : List Entry) (run :
         let s = stopped-named op h.config (subst (λ (o : Op). not_listed o h.config ≡ true) (same-op c h.op op h.called called) h.holds) in
         record { config = h.config; of_epoch = of-epoch older h.config epoch h.known h.epoch_is; server = s.0; named = s.1; stopped = s.2 }
 
-    add-refused : (epoch : Epoch) (test : Config → ServerId → RegionId → Bool) → Passes script older c epoch (λ op config. administers_to (test config) (λ s. false) op) → IsAddRefused call epoch test
+    add-refused : (epoch : Epoch) (test : Config → ServerId → RegionId → Bool)
+        → Passes script older c epoch (λ op config. administers_to (test config) (λ s. false) op) → IsAddRefused call epoch test
     add-refused epoch test h =
-        let s = adds-named (test h.config) op (subst (λ (o : Op). administers_to (test h.config) (λ s. false) o ≡ true) (same-op c h.op op h.called called) h.holds) in
+        let s = adds-named (test h.config) op (subst (λ (o : Op). administers_to (test h.config) (λ s. false) o
+        ≡ true) (same-op c h.op op h.called called) h.holds) in
         record { config = h.config; of_epoch = of-epoch older h.config epoch h.known h.epoch_is; server = s.0; region = s.1.0; adds = s.1.1; holds = s.1.2 }
 
     issued : (epoch : Epoch) → WasFulfilled script older c epoch → ((m : ℕ) → BeganAt older c m → m ≡ n) → IsIssued call epoch
@@ -68,11 +72,14 @@ module _ (script : Script) (valid : IsScript script) (trace : List Entry) (run :
     -- ---- a lost region of the session's configuration
 
     -- a write that wasn't counted as sent was never sent
-    key-refused : (config : Config) (key : List ℕ) → key_of op ≡ Some key → v ≡ no_version → (is_write op ≡ true → was_sent c older ≡ false) → IsRefusedFor call config (key_region script.space key) op
+    key-refused : (config : Config) (key : List ℕ) → key_of op ≡ Some key → v ≡ no_version
+        → (is_write op ≡ true → was_sent c older ≡ false) → IsRefusedFor call config (key_region script.space key) op
     key-refused config key on_key ver never = by op on_key never
       where
         write : (k : List ℕ) → Some k ≡ Some key → was_sent c older ≡ false
-            → ((v.0 ≡ 0) × (key_region script.space k ≡ key_region script.space key) × (was_sent c older ≡ false)) ⊎ ((v.0 ≢ 0) × (refused_place script.space config k op (upto (v.0 - 1) (line_of k older)) ≡ Some (key_region script.space key)))
+            → ((v.0 ≡ 0) × (key_region script.space k ≡ key_region script.space key) × (was_sent c older ≡ false))
+            ⊎ ((v.0 ≢ 0) × (refused_place script.space config k op (upto (v.0 - 1) (line_of k older))
+            ≡ Some (key_region script.space key)))
         write k e h = let q : k ≡ key = cc in inl (ap (λ (x : Version). x.0) ver, ap (key_region script.space) q, h)
 
         by : (o : Op) → key_of o ≡ Some key → (is_write o ≡ true → was_sent c older ≡ false) → IsRefusedFor call config (key_region script.space key) o
@@ -87,12 +94,16 @@ module _ (script : Script) (valid : IsScript script) (trace : List Entry) (run :
     lost-in : (config : Config) (g : RegionId) → IsKnown script older config → is_lost config g ≡ true → IsLostIn call config g config.epoch
     lost-in config g k l = record { of_epoch = k; lost = l }
 
-    pub key-lost : (s : SessionState) (o : Op) (key : List ℕ) → o ≡ op → key_of op ≡ Some key → IsKnown script older s.config → is_lost s.config (key_region script.space key) ≡ true → v ≡ no_version
-        → (is_write op ≡ true → s.sent ≡ true → was_sent c older ≡ true) → (is_write op ≡ true → s.sent ≡ false → was_sent c older ≡ false) → HasCause call (lost_answer s o (key_region script.space key))
+    pub key-lost : (s : SessionState) (o : Op) (key : List ℕ) → o ≡ op → key_of op ≡ Some key
+        → IsKnown script older s.config → is_lost s.config (key_region script.space key) ≡ true → v ≡ no_version
+        → (is_write op ≡ true → s.sent ≡ true → was_sent c older ≡ true)
+        → (is_write op ≡ true → s.sent ≡ false → was_sent c older ≡ false)
+        → HasCause call (lost_answer s o (key_region script.space key))
     key-lost s o key e on_key k l ver was never =
         subst (λ (x : Op). HasCause call (lost_answer s x (key_region script.space key))) (sym e)
         (
-        cond_both (is_write op && s.sent) (an_answer.Doubt (key_region script.space key) s.config.epoch) (an_answer.Refused (key_region script.space key) s.config.epoch) (HasCause call)
+        cond_both (is_write op && s.sent) (an_answer.Doubt (key_region script.space key) s.config.epoch)
+        (an_answer.Refused (key_region script.space key) s.config.epoch) (HasCause call)
         (λ t. (let a = and_parts (is_write op) s.sent t in record {
           config = s.config;
           lost = lost-in s.config (key_region script.space key) k l;
@@ -112,7 +123,8 @@ module _ (script : Script) (valid : IsScript script) (trace : List Entry) (run :
         unsent b e = e
 
   -- a plan that is lost names a lost region
-  pub plan-lost : (older : List Entry) (c : Caller) (terms : List Term) (n : ℕ) (v : Version) (config : Config) (g : RegionId) → IsKnown script older config → plan_of script.space config terms ≡ a_plan.Lost g
+  pub plan-lost : (older : List Entry) (c : Caller) (terms : List Term) (n : ℕ) (v : Version) (config : Config)
+      (g : RegionId) → IsKnown script older config → plan_of script.space config terms ≡ a_plan.Lost g
       → IsRefused (the_call script valid trace run older c (Search terms) n v) g config.epoch
   plan-lost older c terms n v config g k e = record {
     config = config;

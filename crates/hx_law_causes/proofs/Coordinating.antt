@@ -30,7 +30,9 @@ to-session (Server s) P Q f h = tt
 to-session (Session u) P Q f h = f u h
 
 pub spoken-map : (G H : Caller → Answer → Type 0) → ((c : Caller) (a : Answer) → G c a → H c a) → (to : Actor) (m : Message) → Spoken G to m → Spoken H to m
-spoken-map G H f to (a_message.Outcome number a) h = to-session to (λ u. G (record { session = u; number = number }) a) (λ u. H (record { session = u; number = number }) a) (λ u. f (record { session = u; number = number }) a) h
+spoken-map G H f to (a_message.Outcome number a) h =
+    to-session to (λ u. G (record { session = u; number = number }) a)
+    (λ u. H (record { session = u; number = number }) a) (λ u. f (record { session = u; number = number }) a) h
 spoken-map G H f to other h = tt
 
 -- the caller of a newest call
@@ -62,7 +64,8 @@ module _ (Asked : Caller → Op → Type 0) (Old : Caller → Answer → Type 0)
   Now d = Given (λ op a. Judged ⊥ d.config op a)
 
   -- posts alone, with what has been answered
-  tells : (d d' : CoordinatorState) → d'.config ≡ d.config → ((t : Task) → IsIn t d'.todo → Asked t.caller t.op) → ((x : Newest) → IsIn x d'.newest → (a : Answer) → x.answer ≡ Some a → Now d (caller_of x) a)
+  tells : (d d' : CoordinatorState) → d'.config ≡ d.config → ((t : Task) → IsIn t d'.todo → Asked t.caller t.op)
+      → ((x : Newest) → IsIn x d'.newest → (a : Answer) → x.answer ≡ Some a → Now d (caller_of x) a)
       → (new : List Post) → ((p : Post) → IsIn p new → Spoken (Now d) p.to p.message) → Coordinated d (telling d' new)
   tells d d' e todo newest new f = record {
     todo = todo;
@@ -96,7 +99,9 @@ module _ (Asked : Caller → Op → Type 0) (Old : Caller → Answer → Type 0)
   -- ---- an issue
 
   -- the answers of those that are answered
-  answered-newest : (G : Caller → Answer → Type 0) (xs : List Answered) → ((a : Answered) → IsIn a xs → G a.caller a.answer) → (ns : List Newest) → ((x : Newest) → IsIn x ns → (a : Answer) → x.answer ≡ Some a → G (caller_of x) a)
+  answered-newest : (G : Caller → Answer → Type 0) (xs : List Answered)
+      → ((a : Answered) → IsIn a xs → G a.caller a.answer) → (ns : List Newest)
+      → ((x : Newest) → IsIn x ns → (a : Answer) → x.answer ≡ Some a → G (caller_of x) a)
       → (x : Newest) → IsIn x (newest_answered xs ns) → (a : Answer) → x.answer ≡ Some a → G (caller_of x) a
   answered-newest G [] f ns h = h
   answered-newest G (y ∷ ys) f ns h =
@@ -123,9 +128,12 @@ module _ (Asked : Caller → Op → Type 0) (Old : Caller → Answer → Type 0)
     todo = todo;
     newest = answered-newest (Given (ByStep d (issue d' c answered left))) answered (λ a i. told a (well a i)) d'.newest
         (λ x i a q. up (caller_of x) a (newest x i a q));
-    posts = each-append Told (map (to_server (a_message.Install c)) c.servers ++ session_posts d'.sessions (a_message.Install c)) (map (λ (a : Answered). outcome a.caller a.answer) answered)
+    posts = each-append Told (map (to_server (a_message.Install c)) c.servers
+        ++ session_posts d'.sessions (a_message.Install c)) (map (λ (a : Answered). outcome a.caller a.answer) answered)
         (
-        each-append Told (map (to_server (a_message.Install c)) c.servers) (session_posts d'.sessions (a_message.Install c)) (to-each (Given (ByStep d (issue d' c answered left))) (a_message.Install c) c.servers)
+        each-append Told (map (to_server (a_message.Install c)) c.servers)
+        (session_posts d'.sessions (a_message.Install c))
+        (to-each (Given (ByStep d (issue d' c answered left))) (a_message.Install c) c.servers)
         (each-map Told (λ n. post Coordinator (Session (record { 0 = n + 1 })) (a_message.Install c)) (below d'.sessions) (λ n i. tt))
         )
         (each-map Told (λ (a : Answered). outcome a.caller a.answer) answered (λ a i. told a (well a i)));
@@ -158,15 +166,20 @@ module _ (Asked : Caller → Op → Type 0) (Old : Caller → Answer → Type 0)
   -- ---- messages
 
   -- the Stops of the server that is gone are answered
-  stopped : (d : CoordinatorState) (s : ServerId) → Answers d → (a : Answered) → IsIn a (stops_answered (config_without d.config s) s d.todo) → JudgedOn (config_without d.config s) a
+  stopped : (d : CoordinatorState) (s : ServerId) → Answers d → (a : Answered)
+      → IsIn a (stops_answered (config_without d.config s) s d.todo) → JudgedOn (config_without d.config s) a
   stopped d s h =
-      each-map (JudgedOn (config_without d.config s)) (λ (x : Task). record { caller = x.caller; answer = an_answer.Issued (config_without d.config s).epoch }) (filter (stops_server s) d.todo)
+      each-map (JudgedOn (config_without d.config s))
+      (λ (x : Task). record { caller = x.caller; answer = an_answer.Issued (config_without d.config s).epoch })
+      (filter (stops_server s) d.todo)
       (λ x i. let r = in-filter (stops_server s) d.todo x i in (x.op, h.todo x r.0, stop-judged ⊤ tt d.config s x.op r.1))
 
   -- ---- calls
 
   -- with the number of a call, and its answer if it has one
-  numbers : (d : CoordinatorState) → Answers d → (caller : Caller) (o : Option Answer) → ((a : Answer) → o ≡ Some a → Now d caller a) → (x : Newest) → IsIn x (with_number d caller o).newest → (a : Answer) → x.answer ≡ Some a → Now d (caller_of x) a
+  numbers : (d : CoordinatorState) → Answers d → (caller : Caller) (o : Option Answer)
+      → ((a : Answer) → o ≡ Some a → Now d caller a) → (x : Newest) → IsIn x (with_number d caller o).newest
+      → (a : Answer) → x.answer ≡ Some a → Now d (caller_of x) a
   numbers d h caller o f x i a q = elim (in-with_newest (record { session = caller.session; number = caller.number; answer = o }) d.newest x i) [
     | inl e ↦ subst (λ (y : Newest). Now d (caller_of y) a) (sym e) (f a (sym (ap (λ (y : Newest). y.answer) e) ∙ q))
     | inr j ↦ inl (h.newest x j a q)
@@ -176,12 +189,14 @@ module _ (Asked : Caller → Op → Type 0) (Old : Caller → Answer → Type 0)
   more-todo : (d : CoordinatorState) → Answers d → (caller : Caller) (op : Op) → Asked caller op → Parts d (with_task d caller op)
   more-todo d h caller op asked = record {
     config = refl;
-    todo = each-append (λ (t : Task). Asked t.caller t.op) d.todo _ h.todo (each-one (λ (t : Task). Asked t.caller t.op) (record { caller = caller; op = op }) asked);
+    todo = each-append (λ (t : Task). Asked t.caller t.op) d.todo _ h.todo
+        (each-one (λ (t : Task). Asked t.caller t.op) (record { caller = caller; op = op }) asked);
     newest = numbers d h caller None (λ a q. absurd (cc));
   }
 
   -- a call is answered at once
-  answers-now : (d : CoordinatorState) → Answers d → (caller : Caller) (op : Op) (answer : Answer) → Asked caller op → Judged ⊥ d.config op answer → Coordinated d (telling (with_number d caller (Some answer)) (outcome caller answer ∷ []))
+  answers-now : (d : CoordinatorState) → Answers d → (caller : Caller) (op : Op) (answer : Answer) → Asked caller op
+      → Judged ⊥ d.config op answer → Coordinated d (telling (with_number d caller (Some answer)) (outcome caller answer ∷ []))
   answers-now d h caller op answer asked j =
       tells d (with_number d caller (Some answer)) refl h.todo
       (numbers d h caller (Some answer) (λ a q. (let z : answer ≡ a = cc in subst (Now d caller) z (inr (op, asked, j)))))
@@ -203,7 +218,8 @@ module _ (Asked : Caller → Op → Type 0) (Old : Caller → Answer → Type 0)
 
   ticks : (d : CoordinatorState) → Answers d → Coordinated d (coordinator_tick d)
   ticks d h = keeps d h (flat_map (λ (t : Task). die_for t.op) d.todo ++ flat_map (join_posts d.config) d.config.regions)
-      (each-append (λ (p : Post). Spoken (Now d) p.to p.message) (flat_map (λ (t : Task). die_for t.op) d.todo) _ (dies (Now d) d.todo) (joins (Now d) d.config d.config.regions))
+      (each-append (λ (p : Post). Spoken (Now d) p.to p.message) (flat_map (λ (t : Task). die_for t.op) d.todo) _
+      (dies (Now d) d.todo) (joins (Now d) d.config d.config.regions))
 
   -- what a message asks of the coordinator
   abbrev pub AsksFor : Actor → Message → Type 0
@@ -212,7 +228,9 @@ module _ (Asked : Caller → Op → Type 0) (Old : Caller → Answer → Type 0)
   AsksFor from other = ⊤
 
   -- each step
-  pub coordinated : (d : CoordinatorState) (input : Input) → Answers d → ((id : _) (from : Actor) (m : Message) → input ≡ Deliver id from m → AsksFor from m) → Coordinated d (coordinator_step d input)
+  pub coordinated : (d : CoordinatorState) (input : Input) → Answers d
+      → ((id : _) (from : Actor) (m : Message) → input ≡ Deliver id from m → AsksFor from m)
+      → Coordinated d (coordinator_step d input)
   coordinated d input h v = coordinator-cases d input (Coordinated d) (record {
     rests = rests d h;
     ticks = ticks d h;
@@ -220,13 +238,18 @@ module _ (Asked : Caller → Op → Type 0) (Old : Caller → Answer → Type 0)
     gone = λ id s i. issues d d (config_without d.config s) (stops_answered (config_without d.config s) s d.todo) (stops_left s d.todo)
         (λ x j. h.todo x (in-filter (λ (y : Task). not (stops_server s y)) d.todo x j).0) (before-now d h) (stopped d s h);
     ready = λ id s epoch g i l. issues d d (config_ready d.config s g) [] d.todo h.todo (before-now d h) (λ a j. absurd j);
-    told = λ id u number m n a i j k l e. keeps d h _ (one (Now d) (outcome (call_by u number) a) (inl (subst (λ (y : Caller). Old y a) (λ x. record { session = k x; number = l x }) (h.newest n j a e))));
+    told = λ id u number m n a i j k l e. keeps d h _
+        (one (Now d) (outcome (call_by u number) a) (inl
+        (subst (λ (y : Caller). Old y a) (λ x. record { session = k x; number = l x }) (h.newest n j a e))));
     dies = λ id u number s i. (let p = more-todo d h (call_by u number) (Stop s) (v id (Session u) (a_message.StopServer number s) i) in
         tells d (with_task d (call_by u number) (Stop s)) refl p.todo p.newest (to_server a_message.Die s ∷ []) (to-each (Now d) a_message.Die (s ∷ [])));
-    stopped = λ id u number s i t. answers-now d h (call_by u number) (Stop s) (an_answer.Stopped d.config.epoch) (v id (Session u) (a_message.StopServer number s) i) (refl, ap not t);
-    refused = λ id u number s g a i e. answers-now d h (call_by u number) (Add s g) a (v id (Session u) (a_message.AddReplica number s g) i) (judged-is ⊥ d.config s g a e);
+    stopped = λ id u number s i t. answers-now d h (call_by u number) (Stop s) (an_answer.Stopped d.config.epoch)
+        (v id (Session u) (a_message.StopServer number s) i) (refl, ap not t);
+    refused = λ id u number s g a i e. answers-now d h (call_by u number) (Add s g) a
+        (v id (Session u) (a_message.AddReplica number s g) i) (judged-is ⊥ d.config s g a e);
     joined = λ id u number s g i e. issues d (with_number d (call_by u number) None) (config_with d.config s g)
-        (record { caller = call_by u number; answer = an_answer.Issued (config_with d.config s g).epoch } ∷ []) d.todo h.todo (numbers d h (call_by u number) None (λ a q. absurd (cc)))
+        (record { caller = call_by u number; answer = an_answer.Issued (config_with d.config s g).epoch } ∷ []) d.todo
+        h.todo (numbers d h (call_by u number) None (λ a q. absurd (cc)))
         (each-one (JudgedOn (config_with d.config s g)) (record { caller = call_by u number; answer = an_answer.Issued (config_with d.config s g).epoch })
         (Add s g, v id (Session u) (a_message.AddReplica number s g) i, add-judged ⊤ tt d.config s g e));
   })

@@ -30,7 +30,12 @@ sets = record { attribute = 1; value = a_value.Text (98 ∷ []) } ∷ record { a
 
 -- two writes of keys of the second region, and a replica to be added to it
 abbrev pub script : Script
-script = record { space = space; sessions = (Put (98 ∷ []) sets ∷ Put (100 ∷ []) sets ∷ []) ∷ (Add (record { 0 = 4 }) (record { 0 = 1 }) ∷ []) ∷ []; steps = [] }
+script = record {
+  space = space;
+  sessions = (Put (98 ∷ []) sets ∷ Put (100 ∷ []) sets ∷ [])
+      ∷ (Add (record { 0 = 4 }) (record { 0 = 1 }) ∷ []) ∷ [];
+  steps = [];
+}
 
 -- the key's leader, server 2, assigns the first write; the next replica, server 3, takes it and passes it on; then servers 1 and 2 halt
 abbrev pub first_part : List Entry
@@ -95,7 +100,19 @@ its_script = record {
 
 -- and the trace is a run of it
 pub its_start : IsRun script first_part
-its_start = (record { actor = refl; running = refl; input = tt; made = refl; enough = refl }, (record { actor = refl; running = refl; input = tt; made = refl; enough = refl }, (record { actor = refl; running = refl; input = refl; made = refl; enough = refl }, (record { actor = refl; running = refl; input = refl; made = refl; enough = refl }, (record { actor = refl; running = refl; input = tt; made = refl; enough = refl }, tt)))))
+its_start = (
+  record { actor = refl; running = refl; input = tt; made = refl; enough = refl },
+  (
+    record { actor = refl; running = refl; input = tt; made = refl; enough = refl },
+    (
+      record { actor = refl; running = refl; input = refl; made = refl; enough = refl },
+      (
+        record { actor = refl; running = refl; input = refl; made = refl; enough = refl },
+        (record { actor = refl; running = refl; input = tt; made = refl; enough = refl }, tt),
+      ),
+    ),
+  ),
+)
 
 its_run : IsRun script trace
 its_run = scheduled-run script its_script first_part its_start 60

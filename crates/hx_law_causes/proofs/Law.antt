@@ -9,7 +9,8 @@ use Rattle.hx_law_lemmas.proofs.Lemmas.Vocabulary.{◌++◌, ◌+◌, ◌-◌, �
 use Rattle.hx_types.specs.declared.calls.Answer.TheVariants as an_answer
 use Rattle.hx_types.specs.declared.messages.Message.TheVariants as a_message
 use Rattle.hx_types.specs.declared.traces.Note.TheVariants as a_note
-use Rattle.hx_law_lemmas.proofs.Lemmas.{Called, EndsBy, Goes, SessionDoes, Starts, session-does, atomic-both, started, BeganAt, EndedAt, arrived, began_at, ends_now, may_start}
+use Rattle.hx_law_lemmas.proofs.Lemmas.{Called, EndsBy, Goes, SessionDoes, Starts, session-does, atomic-both, started}
+use Rattle.hx_law_lemmas.proofs.Lemmas.{BeganAt, EndedAt, arrived, began_at, ends_now, may_start}
 use Rattle.hx_law_chains.proofs.Lemmas.{named}
 use Rattle.hx_law_epochs.proofs.Lemmas.{IsKnown}
 use Rattle.hx_law_searches.proofs.Lemmas.{calls_kept, step_is, turn_is, facts}
@@ -22,7 +23,9 @@ use Rattle.hx_law_causes.proofs.Refusals.{counted-sent, sender-known, sent-poste
 abbrev pub DoubtsAreTold : Script → Type 0
 DoubtsAreTold script =
     (call : AnsweredCall) → call.script ≡ script → IsRun script call.older
-    → (from : Actor) (g : RegionId) (epoch : Epoch) → IsIn (post from (Session call.caller.session) (a_message.Reply call.caller.number call.version (an_answer.Doubt g epoch))) (posts_of call.older)
+    → (from : Actor) (g : RegionId) (epoch : Epoch)
+    → IsIn (post from (Session call.caller.session)
+    (a_message.Reply call.caller.number call.version (an_answer.Doubt g epoch))) (posts_of call.older)
     → (op : Op) (key : List ℕ) → call_of script call.caller ≡ Some op → key_of op ≡ Some key
     → IsDoubtTold call key g epoch × ((config : Config) × IsKnown script call.older config × (config.epoch ≡ epoch) × (is_lost config g ≡ true))
 
@@ -30,9 +33,11 @@ DoubtsAreTold script =
 abbrev pub RefusalsAreNamed : Script → Type 0
 RefusalsAreNamed script =
     (older : List Entry) → IsRun script older
-    → (from : Actor) (c : Caller) (v : Version) (g : RegionId) (epoch : Epoch) → IsIn (post from (Session c.session) (a_message.Reply c.number v (an_answer.Refused g epoch))) (posts_of older)
+    → (from : Actor) (c : Caller) (v : Version) (g : RegionId) (epoch : Epoch)
+    → IsIn (post from (Session c.session) (a_message.Reply c.number v (an_answer.Refused g epoch))) (posts_of older)
     → (op : Op) (key : List ℕ) → call_of script c ≡ Some op → key_of op ≡ Some key → is_write op ≡ true
-    → (config : Config) × IsKnown script older config × (config.epoch ≡ epoch) × (is_lost config g ≡ true) × (v.0 ≢ 0) × (refused_place script.space config key op (upto (v.0 - 1) (line_of key older)) ≡ Some g)
+    → (config : Config) × IsKnown script older config × (config.epoch ≡ epoch) × (is_lost config g ≡ true) × (v.0 ≢ 0)
+    × (refused_place script.space config key op (upto (v.0 - 1) (line_of key older)) ≡ Some g)
 
 -- what an effect answers
 abbrev pub Plain : Answer → Type 0
@@ -70,23 +75,32 @@ get-plain None a e = (ap is_doubt e, ap is_refused e)
 get-plain (Some object) a e = (ap is_doubt e, ap is_refused e)
 
 -- a reply that is refused or in doubt tells of a write
-pub tells-write : (line : List Update) (c : Caller) (v : Version) (a : Answer) (op : Op) → Tells line c v a op → (is_doubt a ≡ true) ⊎ (is_refused a ≡ true) → is_write op ≡ true
+pub tells-write : (line : List Update) (c : Caller) (v : Version) (a : Answer) (op : Op) → Tells line c v a op
+    → (is_doubt a ≡ true) ⊎ (is_refused a ≡ true) → is_write op ≡ true
 tells-write line c v a op (inl h) w = h.0
 tells-write line c v a op (inr (inl h)) w = h.0
-tells-write line c v a op (inr (inr h)) w = let p = get-plain _ a h.2 in elim w [ inl d ↦ absurd (false≢true (sym p.0 ∙ d)) | inr r ↦ absurd (false≢true (sym p.1 ∙ r)) ]
+tells-write line c v a op (inr (inr h)) w = let p = get-plain _ a h.2 in
+    elim w [ inl d ↦ absurd (false≢true (sym p.0 ∙ d)) | inr r ↦ absurd (false≢true (sym p.1 ∙ r)) ]
 
-module _ (script : Script) (valid : IsScript script) (told : DoubtsAreTold script) (refused : RefusalsAreNamed script) (trace : List Entry) (run : IsRun script trace) where
+module _ (script : Script) (valid : IsScript script) (told : DoubtsAreTold script) (refused : RefusalsAreNamed script)
+    (trace : List Entry) (run : IsRun script trace) where
   module _ (older : List Entry) (part : IsRun script older) (c : Caller) (op : Op) (n m : ℕ) (v : Version) (called : call_of script c ≡ Some op) where
     -- the call that was answered
     abbrev call : AnsweredCall
     call = the_call script valid trace run older c op n v
 
     -- a refused write has the place that is named
-    named-place : (config : Config) (g : RegionId) (key : List ℕ) → key_of op ≡ Some key → is_write op ≡ true → v.0 ≢ 0 → refused_place script.space config key op (upto (v.0 - 1) (line_of key older)) ≡ Some g → IsRefusedFor call config g op
+    named-place : (config : Config) (g : RegionId) (key : List ℕ) → key_of op ≡ Some key → is_write op ≡ true
+        → v.0 ≢ 0 → refused_place script.space config key op (upto (v.0 - 1) (line_of key older)) ≡ Some g
+        → IsRefusedFor call config g op
     named-place config g key on_key writes some place = by op on_key writes
       where
         of : (k : List ℕ) → Some k ≡ Some key → (v.0 ≢ 0) × (refused_place script.space config k op (upto (v.0 - 1) (line_of k older)) ≡ Some g)
-        of k e = let q : key ≡ k = cc in (some, subst (λ (j : List ℕ). refused_place script.space config j op (upto (v.0 - 1) (line_of j older)) ≡ Some g) q place)
+        of k e = let q : key ≡ k = cc in (
+          some,
+          subst
+              (λ (j : List ℕ). refused_place script.space config j op (upto (v.0 - 1) (line_of j older)) ≡ Some g) q place,
+        )
 
         by : (o : Op) → key_of o ≡ Some key → is_write o ≡ true → IsRefusedFor call config g o
         by (Put k sets) e w = inr (of k e)
@@ -109,13 +123,16 @@ module _ (script : Script) (valid : IsScript script) (told : DoubtsAreTold scrip
         by other g p = absurd p
 
     -- an answer by a reply
-    reply-has : (from : Actor) (a : Answer) (key : List ℕ) → key_of op ≡ Some key → IsIn (post from (Session c.session) (a_message.Reply c.number v a)) (posts_of older) → EndedAt trace c v a m → HasCause call a
+    reply-has : (from : Actor) (a : Answer) (key : List ℕ) → key_of op ≡ Some key
+        → IsIn (post from (Session c.session) (a_message.Reply c.number v a)) (posts_of older) → EndedAt trace c v a m
+        → HasCause call a
     reply-has from a key on_key i h = by a i h ((facts script valid).replies older part from c v a i op key called on_key)
       where
         plain : (a : Answer) → EndedAt trace c v a m → is_doubt a ≡ false → is_refused a ≡ false → HasCause call a
         plain a h d r = plain-has a (given-there script valid trace run older c op key n m v a called on_key h d r)
 
-        by : (a : Answer) → IsIn (post from (Session c.session) (a_message.Reply c.number v a)) (posts_of older) → EndedAt trace c v a m → Tells (line_of key older) c v a op → HasCause call a
+        by : (a : Answer) → IsIn (post from (Session c.session) (a_message.Reply c.number v a)) (posts_of older)
+            → EndedAt trace c v a m → Tells (line_of key older) c v a op → HasCause call a
         by (an_answer.Doubt g epoch) i h t =
             let d = told call refl part from g epoch i op key called on_key in
             record {
@@ -136,7 +153,9 @@ module _ (script : Script) (valid : IsScript script) (told : DoubtsAreTold scrip
             }
         by other i h t = plain other h refl refl
 
-  module _ (newer older : List Entry) (x : Entry) (c : Caller) (op : Op) (n : ℕ) (v : Version) (a : Answer) (stands : trace ≡ newer ++ x ∷ older) (acts : x.actor ≡ Session c.session) (ended : IsIn (a_note.Ended c.number v a) x.notes)
+  module _ (newer older : List Entry) (x : Entry) (c : Caller) (op : Op) (n : ℕ) (v : Version) (a : Answer)
+      (stands : trace ≡ newer ++ x ∷ older) (acts : x.actor ≡ Session c.session)
+      (ended : IsIn (a_note.Ended c.number v a) x.notes)
       (called : call_of script c ≡ Some op) (began : begin_of c trace ≡ Some n) where
     -- the run up to the entry
     here : IsRun script (x ∷ older)
@@ -169,7 +188,9 @@ module _ (script : Script) (valid : IsScript script) (told : DoubtsAreTold scrip
 
       -- the operation under way is the call's
       op-is : (o : Op) → Called mid o → o ≡ op
-      op-is o q = same-op script valid trace run c o op (ap (λ (l : List Op). numbered l c.number) (sym (mid_calls ∙ (named script older c.session).1)) ∙ ap (numbered mid.calls) ends.0 ∙ q) called
+      op-is o q = same-op script valid trace run c o op
+          (ap (λ (l : List Op). numbered l c.number) (sym (mid_calls ∙ (named script older c.session).1))
+          ∙ ap (numbered mid.calls) ends.0 ∙ q) called
 
       -- its configuration is known
       config-known : IsKnown script older mid.config
@@ -183,14 +204,16 @@ module _ (script : Script) (valid : IsScript script) (told : DoubtsAreTold scrip
       was e = by starts
         where
           by : Starts s mid x.notes rest → was_sent c older ≡ true
-          by (inl h) = subst (λ k. was_sent (record { session = c.session; number = k }) older ≡ true) (sym h.0 ∙ sym ends.0) (counted-sent script older here.1 c.session (sym h.2 ∙ e))
+          by (inl h) = subst (λ k. was_sent (record { session = c.session; number = k }) older ≡ true)
+              (sym h.0 ∙ sym ends.0) (counted-sent script older here.1 c.session (sym h.2 ∙ e))
           by (inr h) = absurd (false≢true (sym h.3 ∙ e))
 
       -- and what doesn't never was
       never : mid.sent ≡ false → was_sent c older ≡ false
       never e = elim (cases_Bool (was_sent c older)) [ inr f ↦ f | inl t ↦ absurd (by starts (sent-posted c older t)) ]
         where
-          by : Starts s mid x.notes rest → (to : Actor) × (epoch : Epoch) × (o : Op) × IsIn (post (Session c.session) to (a_message.Call epoch c.number o)) (posts_of older) → ⊥
+          by : Starts s mid x.notes rest → (to : Actor) × (epoch : Epoch) × (o : Op)
+              × IsIn (post (Session c.session) to (a_message.Call epoch c.number o)) (posts_of older) → ⊥
           by (inr h) (to, epoch, o, i) =
               let calls = calls_kept script (facts script valid) older here.1 in
               let b = (calls.sent c.session to epoch c.number o i).begun in
@@ -212,27 +235,39 @@ module _ (script : Script) (valid : IsScript script) (told : DoubtsAreTold scrip
       has (inl r) =
           let o = op-is r.op r.called in
           let key = key-call op (ap is_key_call (sym o) ∙ r.on_key) in
-          let i = arrived r.id older (post r.from (Session c.session) (a_message.Reply mid.begun v a)) (subst (MayTake older (Session c.session)) r.input_is (subst (λ (b : Actor). MayTake older b x.input) acts here.0.input)) in
+          let i = arrived r.id older (post r.from (Session c.session) (a_message.Reply mid.begun v a))
+          (subst (MayTake older (Session c.session)) r.input_is
+          (subst (λ (b : Actor). MayTake older b x.input) acts here.0.input)) in
           reply-has older here.1 c op n (length older + 1) v called r.from a key.0 key.1
           (subst (λ k. IsIn (post r.from (Session c.session) (a_message.Reply k v a)) (posts_of older)) (sym ends.0) i) ended-there
       has (inr (inl k)) =
           let o = op-is k.op k.called in
           subst (HasCause (the_call script valid trace run older c op n v)) (sym k.answer)
-          (key-lost script valid trace run older c op n v called mid k.op k.key o (ap key_of (sym o) ∙ k.on_key) config-known k.lost k.version (λ w. was) (λ w. never))
+          (key-lost script valid trace run older c op n v called mid k.op k.key o
+          (ap key_of (sym o) ∙ k.on_key) config-known k.lost k.version (λ w. was) (λ w. never))
       has (inr (inr (inl p))) =
           let o = op-is (Search p.terms) p.called in
           subst (HasCause (the_call script valid trace run older c op n v)) (sym p.answer)
-          (subst (λ (y : Op). HasCause (the_call script valid trace run older c y n v) (an_answer.Refused p.region mid.config.epoch)) o (plan-lost script valid trace run older c p.terms n v mid.config p.region config-known p.plan))
+          (subst (λ (y : Op). HasCause (the_call script valid trace run older c y n v)
+          (an_answer.Refused p.region mid.config.epoch)) o
+          (plan-lost script valid trace run older c p.terms n v mid.config p.region config-known p.plan))
       has (inr (inr (inr (inl w)))) =
           let o = op-is (Search w.terms) w.called in
           subst (HasCause (the_call script valid trace run older c op n v)) (sym w.answer)
           (subst (λ (y : Op). HasCause (the_call script valid trace run older c y n v) (an_answer.Rows w.rows)) o
-          (rows-found script valid trace run older c w.terms n (length older + 1) v w.rows (called ∙ ap Some (sym o)) began (subst (λ (b : Answer). EndedAt trace c v b (length older + 1)) w.answer ended-there)))
+          (rows-found script valid trace run older c w.terms n (length older + 1) v w.rows
+          (called ∙ ap Some (sym o)) began (subst (λ (b : Answer). EndedAt trace c v b (length older + 1))
+          w.answer ended-there)))
       has (inr (inr (inr (inr w)))) =
-          let i = arrived w.id older (post w.from (Session c.session) (a_message.Outcome mid.begun a)) (subst (MayTake older (Session c.session)) w.input_is (subst (λ (b : Actor). MayTake older b x.input) acts here.0.input)) in
+          let i = arrived w.id older (post w.from (Session c.session) (a_message.Outcome mid.begun a))
+          (subst (MayTake older (Session c.session)) w.input_is
+          (subst (λ (b : Actor). MayTake older b x.input) acts here.0.input)) in
           let cause = (administers-run script valid older here.1).outcomes (post w.from (Session c.session) (a_message.Outcome mid.begun a)) i in
-          outcome-has script valid trace run older c op n v called a (subst (λ k. OutcomeCause script older (record { session = c.session; number = k }) a) (sym ends.0) cause)
-          (λ k b. began-once script valid trace run trace run c k n (subst (λ (t : List Entry). BeganAt t c k) (sym stands) (began-part newer x older c k b)) (began_at c trace n began))
+          outcome-has script valid trace run older c op n v called a
+          (subst (λ k. OutcomeCause script older (record { session = c.session; number = k }) a) (sym ends.0) cause)
+          (λ k b. began-once script valid trace run trace run c k n
+          (subst (λ (t : List Entry). BeganAt t c k) (sym stands) (began-part newer x older c k b))
+          (began_at c trace n began))
 
     -- the end has its cause
     end-has : HasCause (the_call script valid trace run older c op n v) a

@@ -33,8 +33,11 @@ judged-is Here c s g a = by (server_in s c.servers) refl (is_lost c g) refl (lis
     of : (b : Answer) → Judged Here c (Add s g) b → Some b ≡ Some a → Judged Here c (Add s g) a
     of b h e = let q : b ≡ a = cc in subst (Judged Here c (Add s g)) q h
 
-    by : (x : Bool) → server_in s c.servers ≡ x → (y : Bool) → is_lost c g ≡ y → (z : Bool) → lists_ready c g s ≡ z → (w : Bool) → any_joining (members_of c g) ≡ w
-        → cond (not x) (Some (an_answer.Stopped c.epoch)) (cond y (Some (an_answer.Lost c.epoch)) (cond z (Some (an_answer.Member c.epoch)) (cond w (Some (an_answer.Joining c.epoch)) None))) ≡ Some a → Judged Here c (Add s g) a
+    by : (x : Bool) → server_in s c.servers ≡ x → (y : Bool) → is_lost c g ≡ y → (z : Bool) → lists_ready c g s ≡ z
+        → (w : Bool) → any_joining (members_of c g) ≡ w
+        → cond (not x) (Some (an_answer.Stopped c.epoch))
+        (cond y (Some (an_answer.Lost c.epoch)) (cond z (Some (an_answer.Member c.epoch))
+        (cond w (Some (an_answer.Joining c.epoch)) None))) ≡ Some a → Judged Here c (Add s g) a
     by false p y q z r w t e = of (an_answer.Stopped c.epoch) (refl, ap not p) e
     by true p true q z r w t e = of (an_answer.Lost c.epoch) (refl, q) e
     by true p false q true r w t e = of (an_answer.Member c.epoch) (refl, r) e

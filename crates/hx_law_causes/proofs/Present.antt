@@ -26,9 +26,12 @@ stands-in (y ∷ rest) x (inl e) = record { newer = []; older = rest; stands = a
 stands-in (y ∷ rest) x (inr i) = let r = stands-in rest x i in record { newer = y ∷ r.newer; older = r.older; stands = ap (λ (l : List Entry). y ∷ l) r.stands }
 
 -- what is known at some moment is known later
-known-later : (script : Script) → IsScript script → (newer older : List Entry) → IsRun script (newer ++ older) → (c : Config) → IsKnown script older c → IsKnown script (newer ++ older) c
+known-later : (script : Script) → IsScript script → (newer older : List Entry) → IsRun script (newer ++ older)
+    → (c : Config) → IsKnown script older c → IsKnown script (newer ++ older) c
 known-later script valid [] older run c k = k
-known-later script valid (y ∷ newer) older run c k = known-still script valid (newer ++ older) (epochs-run script valid (newer ++ older) run.1) y run.0 c (known-later script valid newer older run.1 c k)
+known-later script valid (y ∷ newer) older run c k =
+    known-still script valid (newer ++ older) (epochs-run script valid (newer ++ older) run.1) y run.0 c
+    (known-later script valid newer older run.1 c k)
 
 -- what began by an entry began in each longer trace
 began-later : (newer : List Entry) (t : List Entry) (c : Caller) (n : ℕ) → BeganAt t c n → BeganAt (newer ++ t) c n
@@ -42,7 +45,8 @@ found-entry (Some n) h = (n, refl)
 
 module _ (script : Script) (valid : IsScript script) where
   -- a call that ends is the script's, and has begun
-  ended-call : (x : Entry) (older : List Entry) → IsRun script (x ∷ older) → (c : Caller) (v : Version) (a : Answer) → x.actor ≡ Session c.session → IsIn (a_note.Ended c.number v a) x.notes
+  ended-call : (x : Entry) (older : List Entry) → IsRun script (x ∷ older) → (c : Caller) (v : Version) (a : Answer)
+      → x.actor ≡ Session c.session → IsIn (a_note.Ended c.number v a) x.notes
       → ((op : Op) × (call_of script c ≡ Some op)) × ((n : ℕ) × BeganAt (x ∷ older) c n)
   ended-call x older run c v a acts ended =
       let s = session_of script c.session older in
@@ -58,7 +62,9 @@ module _ (script : Script) (valid : IsScript script) where
         ],
       )
     where
-      op-of : SessionDoes script.space x.input (session_of script c.session older) (record { state = session_of script c.session (x ∷ older); posts = x.outputs; notes = x.notes }) → (op : Op) × (call_of script c ≡ Some op)
+      op-of : SessionDoes script.space x.input (session_of script c.session older)
+          (record { state = session_of script c.session (x ∷ older); posts = x.outputs; notes = x.notes }) → (op : Op)
+          × (call_of script c ≡ Some op)
       op-of does = by (does.goes.ends c.number v a (there does.starts))
         where
           called : (op : Op) → c.number ≡ does.mid.begun → numbered does.mid.calls does.mid.begun ≡ Some op → call_of script c ≡ Some op
@@ -80,15 +86,20 @@ module _ (script : Script) (valid : IsScript script) where
 
   module _ (trace : List Entry) (run : IsRun script trace) (causes : HasCauses script trace) (present : LosesNothing script trace) where
     -- a cause by a lost region of the space is none
-    none-lost : (newer : List Entry) (x : Entry) (older : List Entry) → trace ≡ newer ++ x ∷ older → (call : AnsweredCall) → call.script ≡ script → call.older ≡ older → (config : Config) (g : RegionId) (epoch : Epoch) → IsLostIn call config g epoch → IsRegionOf script.space g → ⊥
+    none-lost : (newer : List Entry) (x : Entry) (older : List Entry) → trace ≡ newer ++ x ∷ older
+        → (call : AnsweredCall) → call.script ≡ script → call.older ≡ older
+        → (config : Config) (g : RegionId) (epoch : Epoch) → IsLostIn call config g epoch → IsRegionOf script.space g → ⊥
     none-lost newer x older stands call s o config g epoch h real =
         let r : IsRun script (newer ++ x ∷ older) = subst (IsRun script) stands run in
         let part = run-part script newer x older r in
-        let known : config_of script epoch older ≡ Some config = subst (λ (t : List Entry). config_of script epoch t ≡ Some config) o (subst (λ (z : Script). config_of z epoch call.older ≡ Some config) s h.of_epoch) in
+        let known : config_of script epoch older ≡ Some config =
+        subst (λ (t : List Entry). config_of script epoch t ≡ Some config) o
+        (subst (λ (z : Script). config_of z epoch call.older ≡ Some config) s h.of_epoch) in
         let e = ((epochs-run script valid older part.1).known.on.only epoch config known).2 in
         let k : IsKnown script older config = subst (λ (y : Epoch). config_of script y older ≡ Some config) (sym e) known in
         let here : IsKnown script (x ∷ older) config = known-still script valid older (epochs-run script valid older part.1) x part.0 config k in
-        let there : IsKnown script trace config = subst (λ (t : List Entry). IsKnown script t config) (sym stands) (known-later script valid newer (x ∷ older) r config here) in
+        let there : IsKnown script trace config = subst (λ (t : List Entry). IsKnown script t config) (sym stands)
+        (known-later script valid newer (x ∷ older) r config here) in
         false≢true (sym (present config.epoch config there g real) ∙ h.lost)
 
     pub answers-all : AnswersAll script trace
@@ -97,14 +108,43 @@ module _ (script : Script) (valid : IsScript script) where
         let r : IsRun script (st.newer ++ x ∷ st.older) = subst (IsRun script) st.stands run in
         let part = run-part script st.newer x st.older r in
         let call = ended-call x st.older part c v a acts ended in
-        let began = found-entry (begin_of c trace) (begin_is c trace call.1.0 (subst (λ (t : List Entry). BeganAt t c call.1.0) (sym st.stands) (began-later st.newer (x ∷ st.older) c call.1.0 call.1.1))) in
+        let began = found-entry (begin_of c trace) (begin_is c trace call.1.0
+        (subst (λ (t : List Entry). BeganAt t c call.1.0) (sym st.stands)
+        (began-later st.newer (x ∷ st.older) c call.1.0 call.1.1))) in
         by st part.1 call.0.0 began.0 a (causes st.newer st.older x c call.0.0 began.0 v a st.stands acts ended call.0.1 began.1)
       where
-        by : (st : Stands trace x) → IsRun script st.older → (op : Op) (n : ℕ) (a : Answer) → HasCause (record { script = script; trace = trace; older = st.older; caller = c; op = op; begin = n; version = v }) a → (is_refused a ≡ false) × (is_doubt a ≡ false)
+        by : (st : Stands trace x) → IsRun script st.older → (op : Op) (n : ℕ) (a : Answer)
+            → HasCause (record {
+              script = script;
+              trace = trace;
+              older = st.older;
+              caller = c;
+              op = op;
+              begin = n;
+              version = v;
+            }) a → (is_refused a ≡ false) × (is_doubt a ≡ false)
         by st earlier op n (an_answer.Refused g epoch) h =
-            absurd (none-lost st.newer x st.older st.stands (record { script = script; trace = trace; older = st.older; caller = c; op = op; begin = n; version = v }) refl refl h.config g epoch h.lost
+            absurd (none-lost st.newer x st.older st.stands
+            (record {
+              script = script;
+              trace = trace;
+              older = st.older;
+              caller = c;
+              op = op;
+              begin = n;
+              version = v;
+            }) refl refl h.config g epoch h.lost
             (refused-real script valid trace st.older earlier c op n v h.config g op h.refused))
         by st earlier op n (an_answer.Doubt g epoch) h =
-            absurd (none-lost st.newer x st.older st.stands (record { script = script; trace = trace; older = st.older; caller = c; op = op; begin = n; version = v }) refl refl h.config g epoch h.lost
+            absurd (none-lost st.newer x st.older st.stands
+            (record {
+              script = script;
+              trace = trace;
+              older = st.older;
+              caller = c;
+              op = op;
+              begin = n;
+              version = v;
+            }) refl refl h.config g epoch h.lost
             (doubted-real script valid trace st.older earlier c op n v g epoch h))
         by st earlier op n other h = (refl, refl)

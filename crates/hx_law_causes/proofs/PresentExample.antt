@@ -31,7 +31,8 @@ abbrev trace : List Entry
 trace = scheduled script first_part 60
 
 -- both calls are answered
-its_answers : map (λ (r : Record). r.answer) (records_of script trace) ≡ Some an_answer.Done ∷ Some (an_answer.Found (a_value.Text (98 ∷ []) ∷ a_value.Int (pos 1999) ∷ [])) ∷ []
+its_answers : map (λ (r : Record). r.answer) (records_of script trace)
+    ≡ Some an_answer.Done ∷ Some (an_answer.Found (a_value.Text (98 ∷ []) ∷ a_value.Int (pos 1999) ∷ [])) ∷ []
 its_answers = refl
 
 -- nothing is left to be done
@@ -53,7 +54,13 @@ its_script = record {
 
 -- and the trace is a run of it
 its_start : IsRun script first_part
-its_start = (record { actor = refl; running = refl; input = tt; made = refl; enough = refl }, (record { actor = refl; running = refl; input = refl; made = refl; enough = refl }, (record { actor = refl; running = refl; input = tt; made = refl; enough = refl }, tt)))
+its_start = (
+  record { actor = refl; running = refl; input = tt; made = refl; enough = refl },
+  (
+    record { actor = refl; running = refl; input = refl; made = refl; enough = refl },
+    (record { actor = refl; running = refl; input = tt; made = refl; enough = refl }, tt),
+  ),
+)
 
 its_run : IsRun script trace
 its_run = scheduled-run script its_script first_part its_start 60
@@ -69,15 +76,18 @@ second =
     record {
       epoch = record { 0 = 2 };
       servers = record { 0 = 1 } ∷ record { 0 = 3 } ∷ record { 0 = 4 } ∷ [];
-      regions = (ready 1 ∷ []) ∷ (ready 3 ∷ []) ∷ (ready 3 ∷ ready 4 ∷ []) ∷ (ready 4 ∷ ready 1 ∷ []) ∷ (ready 1 ∷ []) ∷ (ready 3 ∷ []) ∷ (ready 3 ∷ ready 4 ∷ []) ∷ (ready 4 ∷ ready 1 ∷ []) ∷ [];
+      regions = (ready 1 ∷ []) ∷ (ready 3 ∷ []) ∷ (ready 3 ∷ ready 4 ∷ []) ∷ (ready 4 ∷ ready 1 ∷ []) ∷ (ready 1 ∷ [])
+          ∷ (ready 3 ∷ []) ∷ (ready 3 ∷ ready 4 ∷ []) ∷ (ready 4 ∷ ready 1 ∷ []) ∷ [];
     }
 
 -- there are two
-its_configs : (epoch : Epoch) → config_of script epoch trace ≡ first_some (if 2 == epoch.0 then Some second else None) (if epoch.0 == 1 then Some (first_config space) else None)
+its_configs : (epoch : Epoch) → config_of script epoch trace
+    ≡ first_some (if 2 == epoch.0 then Some second else None) (if epoch.0 == 1 then Some (first_config space) else None)
 its_configs epoch = refl
 
 -- a region with a ready member is not lost
-ready-kept : (regions : List (List Member)) → list_all any_ready regions ≡ true → (n : ℕ) → n < length regions → not (any_ready (when_some (slice_get regions n) [] (λ (members : List Member). members))) ≡ false
+ready-kept : (regions : List (List Member)) → list_all any_ready regions ≡ true → (n : ℕ) → n < length regions
+    → not (any_ready (when_some (slice_get regions n) [] (λ (members : List Member). members))) ≡ false
 ready-kept [] t n l = absurd (omega (arith, l))
 ready-kept (members ∷ rest) t zero l = ap not (and_parts (any_ready members) (list_all any_ready rest) t).0
 ready-kept (members ∷ rest) t (suc n) l = ready-kept rest (and_parts (any_ready members) (list_all any_ready rest) t).1 n (omega (arith, l))

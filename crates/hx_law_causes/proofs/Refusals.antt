@@ -1,4 +1,5 @@
--- In every run each call that is refused, or in doubt for its key's region alone, has its cause: the configuration of its session, and whether the call was sent.
+-- In every run each call that is refused, or in doubt for its key's region alone, has its cause:
+-- the configuration of its session, and whether the call was sent.
 use Rattle.hx_law_lemmas.proofs.Lemmas.Vocabulary.{[], Actor, and_from, and_parts, ap, Bool, Caller, carries_call, cases_eq, cond-false, Coordinator, Entry}
 use Rattle.hx_law_lemmas.proofs.Lemmas.Vocabulary.{Epoch, eq-eqb, eqb, eqb-true, false, false≢true, inl, Input, inr, IsIn, IsRun, IsScript, List, list_any}
 use Rattle.hx_law_lemmas.proofs.Lemmas.Vocabulary.{MayTake, Message, ne_eqb, Op, or_cases, Post, post, posts_of, refl, same_actor, Script, Server, Session}
@@ -38,11 +39,19 @@ sent-found : (c : Caller) (ps : List Post) → list_any (is_call c) ps ≡ true 
 sent-found c ps t =
     let r = any-in (is_call c) ps t in
     let a = and_parts (same_actor r.0.from (Session c.session)) (carries_call c.number r.0.message) r.2 in
-    let m = carried c.number r.0.message a.1 in
-    (r.0.to, m.0, m.1, subst (λ (p : Post). IsIn p ps) (let e = session-is r.0.from c.session a.0 in λ i. record { from = e i; to = r.0.to; message = m.2 i }) r.1)
+    let m = carried c.number r.0.message a.1 in (
+      r.0.to,
+      m.0,
+      m.1,
+      subst (λ (p : Post). IsIn p ps) (let e = session-is r.0.from c.session a.0 in
+          λ i. record { from = e i; to = r.0.to; message = m.2 i }) r.1,
+    )
 
 found-sent : (c : Caller) (ps : List Post) → CallPosted c ps → list_any (is_call c) ps ≡ true
-found-sent c ps (to, epoch, op, i) = any-of (is_call c) ps (post (Session c.session) to (a_message.Call epoch c.number op)) i (and_from (same_actor (Session c.session) (Session c.session)) (eqb c.number c.number) (same-session c.session) (eq-eqb c.number c.number refl))
+found-sent c ps (to, epoch, op, i) = any-of (is_call c) ps
+    (post (Session c.session) to (a_message.Call epoch c.number op)) i
+    (and_from (same_actor (Session c.session) (Session c.session)) (eqb c.number c.number) (same-session c.session)
+    (eq-eqb c.number c.number refl))
 
 -- the same of all posts of a trace
 pub sent-posted : (c : Caller) (t : List Entry) → was_sent c t ≡ true → CallPosted c (posts_of t)
@@ -67,7 +76,8 @@ posted-sent c (x ∷ older) (to, epoch, op, i) = elim (in-append x.outputs (post
     there false e = e
 
 -- a call that its session counts as sent was posted
-pub counted-sent : (script : Script) (t : List Entry) → IsRun script t → (u : SessionId) → (session_of script u t).sent ≡ true → was_sent (record { session = u; number = (session_of script u t).begun }) t ≡ true
+pub counted-sent : (script : Script) (t : List Entry) → IsRun script t → (u : SessionId)
+    → (session_of script u t).sent ≡ true → was_sent (record { session = u; number = (session_of script u t).begun }) t ≡ true
 counted-sent script [] run u e = absurd (false≢true e)
 counted-sent script (x ∷ older) run u e = by (counted-sent script older run.1 u) x.actor refl
   where
@@ -75,14 +85,21 @@ counted-sent script (x ∷ older) run u e = by (counted-sent script older run.1 
     older-sent : (c : Caller) → was_sent c older ≡ true → was_sent c (x ∷ older) ≡ true
     older-sent c h = let r = sent-posted c older h in posted-sent c (x ∷ older) (r.0, r.1, r.2, in_right x.outputs (posts_of older) _ r.3)
 
-    same : ((session_of script u older).sent ≡ true → was_sent (record { session = u; number = (session_of script u older).begun }) older ≡ true) → session_of script u (x ∷ older) ≡ session_of script u older → was_sent (record { session = u; number = (session_of script u (x ∷ older)).begun }) (x ∷ older) ≡ true
+    same : ((session_of script u older).sent ≡ true
+        → was_sent (record { session = u; number = (session_of script u older).begun }) older ≡ true)
+        → session_of script u (x ∷ older) ≡ session_of script u older
+        → was_sent (record { session = u; number = (session_of script u (x ∷ older)).begun }) (x ∷ older) ≡ true
     same prev q =
         subst (λ k. was_sent (record { session = u; number = k }) (x ∷ older) ≡ true) (sym (ap (λ (s : SessionState). s.begun) q))
         (older-sent (record { session = u; number = (session_of script u older).begun }) (prev (sym (ap (λ (s : SessionState). s.sent) q) ∙ e)))
 
-    mine : ((session_of script u older).sent ≡ true → was_sent (record { session = u; number = (session_of script u older).begun }) older ≡ true) → x.actor ≡ Session u → was_sent (record { session = u; number = (session_of script u (x ∷ older)).begun }) (x ∷ older) ≡ true
+    mine : ((session_of script u older).sent ≡ true
+        → was_sent (record { session = u; number = (session_of script u older).begun }) older ≡ true)
+        → x.actor ≡ Session u → was_sent (record { session = u; number = (session_of script u (x ∷ older)).begun })
+        (x ∷ older) ≡ true
     mine prev acts =
-        let does = subst (SessionDoes script.space x.input (session_of script u older)) (step_is script older x u run.0 acts) (session-does script.space (session_of script u older) x.input) in
+        let does = subst (SessionDoes script.space x.input (session_of script u older))
+        (step_is script older x u run.0 acts) (session-does script.space (session_of script u older) x.input) in
         subst (λ k. was_sent (record { session = u; number = k }) (x ∷ older) ≡ true) (sym does.goes.begun)
         (elim (does.goes.sent e) [
           | inl h ↦ before does.mid does.rest does.starts h
@@ -91,28 +108,37 @@ counted-sent script (x ∷ older) run u e = by (counted-sent script older run.1 
             epoch,
             op,
             in_left x.outputs (posts_of older) _
-                (subst (λ (v : SessionId). IsIn (post (Session v) to (a_message.Call epoch does.mid.begun op)) x.outputs) (does.id ∙ (named script older u).0) i),
+                (subst (λ (v : SessionId). IsIn (post (Session v) to (a_message.Call epoch does.mid.begun op))
+                x.outputs) (does.id ∙ (named script older u).0) i),
           )
         ])
       where
-        before : (mid : SessionState) (rest : _) → Starts (session_of script u older) mid x.notes rest → mid.sent ≡ true → was_sent (record { session = u; number = mid.begun }) (x ∷ older) ≡ true
-        before mid rest (inl h) w = subst (λ k. was_sent (record { session = u; number = k }) (x ∷ older) ≡ true) (sym h.0) (older-sent (record { session = u; number = (session_of script u older).begun }) (prev (sym h.2 ∙ w)))
+        before : (mid : SessionState) (rest : _) → Starts (session_of script u older) mid x.notes rest
+            → mid.sent ≡ true → was_sent (record { session = u; number = mid.begun }) (x ∷ older) ≡ true
+        before mid rest (inl h) w = subst (λ k. was_sent (record { session = u; number = k }) (x ∷ older) ≡ true)
+            (sym h.0) (older-sent (record { session = u; number = (session_of script u older).begun }) (prev (sym h.2 ∙ w)))
         before mid rest (inr h) w = absurd (false≢true (sym h.3 ∙ w))
 
-    by : ((session_of script u older).sent ≡ true → was_sent (record { session = u; number = (session_of script u older).begun }) older ≡ true) → (a : Actor) → x.actor ≡ a → was_sent (record { session = u; number = (session_of script u (x ∷ older)).begun }) (x ∷ older) ≡ true
+    by : ((session_of script u older).sent ≡ true → was_sent
+        (record { session = u; number = (session_of script u older).begun }) older ≡ true) → (a : Actor) → x.actor ≡ a
+        → was_sent (record { session = u; number = (session_of script u (x ∷ older)).begun }) (x ∷ older) ≡ true
     by prev Coordinator acts = same prev (ap (λ (a : Actor). session_after script.space u a x.input (session_of script u older)) acts)
     by prev (Server i) acts = same prev (ap (λ (a : Actor). session_after script.space u a x.input (session_of script u older)) acts)
     by prev (Session v) acts = elim (cases_eq v.0 u.0) [
       | inl q ↦ mine prev (acts ∙ ap Session (λ j. record { 0 = q j }))
-      | inr n ↦ same prev (ap (λ (a : Actor). session_after script.space u a x.input (session_of script u older)) acts ∙ cond-false (eqb v.0 u.0) _ (session_of script u older) (ne_eqb v.0 u.0 n))
+      | inr n ↦ same prev (ap (λ (a : Actor). session_after script.space u a x.input (session_of script u older)) acts
+          ∙ cond-false (eqb v.0 u.0) _ (session_of script u older) (ne_eqb v.0 u.0 n))
     ]
 
 -- ---- the configuration of a session that sends
 
 -- it is known before the entry
-pub sender-known : (script : Script) → IsScript script → (older : List Entry) → IsRun script older → (u : SessionId) (input : Input) → MayTake older (Session u) input → IsKnown script older (session_step script.space (session_of script u older) input).state.config
+pub sender-known : (script : Script) → IsScript script → (older : List Entry) → IsRun script older
+    → (u : SessionId) (input : Input) → MayTake older (Session u) input
+    → IsKnown script older (session_step script.space (session_of script u older) input).state.config
 sender-known script valid older run u input may = elim (session-config script.space (session_of script u older) input) [
   | inl e ↦ subst (IsKnown script older) (sym e) ((epochs-run script valid older run).known.sessions u)
   | inr (id, from, config, e, q, l) ↦ subst (IsKnown script older) (sym q)
-      ((epochs-run script valid older run).known.installs (post from (Session u) (a_message.Install config)) config (arrived id older (post from (Session u) (a_message.Install config)) (subst (MayTake older (Session u)) e may)) refl)
+      ((epochs-run script valid older run).known.installs (post from (Session u) (a_message.Install config)) config
+      (arrived id older (post from (Session u) (a_message.Install config)) (subst (MayTake older (Session u)) e may)) refl)
 ]

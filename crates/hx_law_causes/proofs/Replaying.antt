@@ -24,7 +24,8 @@ actor-exists script n (Server s) h = and_from (ltb 0 s.0) (leb s.0 script.space.
 actor-exists script n (Session u) h = and_from (ltb 0 u.0) (leb u.0 (length script.sessions)) (lt-ltb 0 u.0 h.0) (le-leb u.0 (length script.sessions) h.1)
 
 -- a call that begins is noted
-begun-enough : (space : Space) (s : SessionState) (op : Op) → does_something Tick (record { posts = (begin space s op).posts; notes = (begin space s op).notes }) ≡ true
+begun-enough : (space : Space) (s : SessionState) (op : Op)
+    → does_something Tick (record { posts = (begin space s op).posts; notes = (begin space s op).notes }) ≡ true
 begun-enough space s op = of (begin space s op).posts
   where
     of : (ps : List Post) → not (is_empty ps && false) ≡ true
@@ -32,12 +33,15 @@ begun-enough space s op = of (begin space s op).posts
     of (p ∷ ps) = refl
 
 -- so the tick of an idle session makes enough
-idle-enough : (space : Space) (s : SessionState) → is_idle s ≡ true → does_something Tick (record { posts = (session_tick space s).posts; notes = (session_tick space s).notes }) ≡ true
+idle-enough : (space : Space) (s : SessionState) → is_idle s ≡ true
+    → does_something Tick (record { posts = (session_tick space s).posts; notes = (session_tick space s).notes }) ≡ true
 idle-enough space s t =
     let a = and_parts (not s.under_way) (ltb s.begun (length s.calls)) t in
     let i = index-some s.calls s.begun (ltb-true s.begun (length s.calls) a.1) in
     let e : numbered s.calls (s.begun + 1) ≡ Some i.0 = ap (numbered s.calls) (add-one s.begun) ∙ i.1 in
-    subst (λ (x : SessionStep). does_something Tick (record { posts = x.posts; notes = x.notes }) ≡ true) (sym (tick (flip s.under_way a.0) ∙ ap (λ (o : Option Op). when_some o (staying s) (begin space s)) e)) (begun-enough space s i.0)
+    subst (λ (x : SessionStep). does_something Tick (record { posts = x.posts; notes = x.notes }) ≡ true)
+    (sym (tick (flip s.under_way a.0) ∙ ap (λ (o : Option Op). when_some o (staying s) (begin space s)) e))
+    (begun-enough space s i.0)
   where
     flip : (b : Bool) → not b ≡ true → b ≡ false
     flip true e = absurd (false≢true e)
@@ -48,12 +52,16 @@ idle-enough space s t =
 
 module _ (script : Script) (valid : IsScript script) where
   -- a delivery of the schedule
-  delivery-may : (older : List Entry) → IsRun script older → (ids : List PostId) (next : Next) → first_delivery script older ids ≡ Some next → MayCome script older next
+  delivery-may : (older : List Entry) → IsRun script older → (ids : List PostId) (next : Next)
+      → first_delivery script older ids ≡ Some next → MayCome script older next
   delivery-may older run [] next = λ e. absurd (cc)
   delivery-may older run (id ∷ rest) next =
-      when_some_both (post_named id older) (first_delivery script older rest) (λ (p : Post). if has_halted script older p.to then first_delivery script older rest else Some (delivery_of id p)) (λ o. o ≡ Some next → MayCome script older next)
+      when_some_both (post_named id older) (first_delivery script older rest)
+      (λ (p : Post). if has_halted script older p.to then first_delivery script older rest else Some
+      (delivery_of id p)) (λ o. o ≡ Some next → MayCome script older next)
       (λ q e. delivery-may older run rest next e)
-      (λ p q. cond_both (has_halted script older p.to) (first_delivery script older rest) (Some (delivery_of id p)) (λ o. o ≡ Some next → MayCome script older next)
+      (λ p q. cond_both (has_halted script older p.to) (first_delivery script older rest) (Some (delivery_of id p))
+      (λ o. o ≡ Some next → MayCome script older next)
       (λ t e. delivery-may older run rest next e)
       (λ t e. (let r : delivery_of id p ≡ next = cc in subst (MayCome script older) r (record {
         actor = actor-exists script id.entry p.to (posts_stay_sound script valid older run id p q).to;
@@ -63,12 +71,17 @@ module _ (script : Script) (valid : IsScript script) where
       }))))
 
   -- a tick of the schedule
-  idle-may : (older : List Entry) (ns : List ℕ) → ((n : ℕ) → IsIn n ns → n < length script.sessions) → (next : Next) → idle_among script older ns ≡ Some next → MayCome script older next
+  idle-may : (older : List Entry) (ns : List ℕ) → ((n : ℕ) → IsIn n ns → n < length script.sessions) → (next : Next)
+      → idle_among script older ns ≡ Some next → MayCome script older next
   idle-may older [] f next = λ e. absurd (cc)
   idle-may older (n ∷ ns) f next =
-      cond_both (is_idle (session_of script (record { 0 = n + 1 }) older)) (Some (record { actor = Session (record { 0 = n + 1 }); input = Tick })) (idle_among script older ns) (λ o. o ≡ Some next → MayCome script older next)
-      (λ t e. (let tick : Next = record { actor = Session (record { 0 = n + 1 }); input = Tick } in let r : tick ≡ next = cc in subst (MayCome script older) r (record {
-        actor = (let l = f n (inl refl) in and_from (ltb 0 (n + 1)) (leb (n + 1) (length script.sessions)) (lt-ltb 0 (n + 1) (omega arith)) (le-leb (n + 1) (length script.sessions) (omega (arith, l))));
+      cond_both (is_idle (session_of script (record { 0 = n + 1 }) older))
+      (Some (record { actor = Session (record { 0 = n + 1 }); input = Tick })) (idle_among script older ns)
+      (λ o. o ≡ Some next → MayCome script older next)
+      (λ t e. (let tick : Next = record { actor = Session (record { 0 = n + 1 }); input = Tick } in
+      let r : tick ≡ next = cc in subst (MayCome script older) r (record {
+        actor = (let l = f n (inl refl) in and_from (ltb 0 (n + 1)) (leb (n + 1) (length script.sessions))
+            (lt-ltb 0 (n + 1) (omega arith)) (le-leb (n + 1) (length script.sessions) (omega (arith, l))));
         running = refl;
         input = tt;
         enough = idle-enough script.space (session_of script (record { 0 = n + 1 }) older) t;
@@ -79,7 +92,8 @@ module _ (script : Script) (valid : IsScript script) where
   next-may : (older : List Entry) → IsRun script older → (next : Next) → next_input script older ≡ Some next → MayCome script older next
   next-may older run next = by (first_delivery script older (undelivered older)) refl
     where
-      by : (o : Option Next) → first_delivery script older (undelivered older) ≡ o → first_some o (idle_among script older (below (length script.sessions))) ≡ Some next → MayCome script older next
+      by : (o : Option Next) → first_delivery script older (undelivered older) ≡ o
+          → first_some o (idle_among script older (below (length script.sessions))) ≡ Some next → MayCome script older next
       by None q e = idle-may older (below (length script.sessions)) (λ n i. in-below (length script.sessions) n i) next e
       by (Some x) q e = delivery-may older run (undelivered older) next (q ∙ e)
 
@@ -88,7 +102,8 @@ module _ (script : Script) (valid : IsScript script) where
   scheduled-run t run zero = run
   scheduled-run t run (suc n) = goes (scheduled script t n) (scheduled-run t run n) (next_input script (scheduled script t n)) refl
     where
-      goes : (older : List Entry) → IsRun script older → (o : Option Next) → next_input script older ≡ o → IsRun script (with_entry older (option_map (entry_by script older) o))
+      goes : (older : List Entry) → IsRun script older → (o : Option Next) → next_input script older ≡ o
+          → IsRun script (with_entry older (option_map (entry_by script older) o))
       goes older run None q = run
       goes older run (Some next) q =
           let m = next-may older run next q in

@@ -15,7 +15,8 @@ RunsHaveCauses = (script : Script) → IsScript script → (trace : List Entry) 
 
 -- no configuration of the trace has lost a region of the space
 abbrev pub LosesNothing : Script → List Entry → Type 0
-LosesNothing script trace = (epoch : Epoch) (config : Config) → config_of script epoch trace ≡ Some config → (g : RegionId) → IsRegionOf script.space g → is_lost config g ≡ false
+LosesNothing script trace = (epoch : Epoch) (config : Config) → config_of script epoch trace ≡ Some config
+    → (g : RegionId) → IsRegionOf script.space g → is_lost config g ≡ false
 
 -- no call of the script ended in the trace refused or in doubt
 abbrev pub AnswersAll : Script → List Entry → Type 0

@@ -1,4 +1,5 @@
--- The rows Update and Ack at an installed replica: what it makes of an update from its predecessor, and of an acknowledgement from its successor, by its server's own configuration, is allowed.
+-- The rows Update and Ack at an installed replica: what it makes of an update from its predecessor,
+-- and of an acknowledgement from its successor, by its server's own configuration, is allowed.
 use Rattle.std.proofs.Common.{◌≡◌, ℕ, inl, true, List, Some, sym, subst, arith}
 use Rattle.hx_model.specs.Types.{At, RegionId, Script, ServerId, Update}
 use Rattle.hx_types.specs.Spaces.{IsSpace}

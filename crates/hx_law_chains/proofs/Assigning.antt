@@ -1,4 +1,5 @@
--- A leader assigns the next update: the line is cut after its top, nothing that is held, may be heard or was acknowledged is above that, and what its slot makes of the update is allowed.
+-- A leader assigns the next update: the line is cut after its top, nothing that is held, may be
+-- heard or was acknowledged is above that, and what its slot makes of the update is allowed.
 use Rattle.std.proofs.Common.{◌≡◌, ℕ, ◌+◌, inl, inr, true, List, ◌∷◌, Some, refl, ap, arith}
 use Rattle.hx_model.specs.Types.{Script, ServerId, Update}
 use Rattle.hx_types.specs.Configs.{head_of}

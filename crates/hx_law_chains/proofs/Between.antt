@@ -1,4 +1,6 @@
--- Who can stand between two positions that are neighbours in some configuration of the run, by the order of the newest: whoever was listed after the first one was the last of its region; nobody else.
+-- Who can stand between two positions that are neighbours in some configuration of the run, by the
+-- order of the newest: whoever was listed after the first one was the last of its region; nobody
+-- else.
 use Rattle.std.proofs.Common.{◌≡◌, ◌<◌, ◌⊎◌, inl, inr, List, None, refl, sym, ◌∙◌, subst, arith}
 use Rattle.std.proofs.lemmas.Bool.{cases_order}
 use Rattle.hx_model.specs.Types.{Config, Place, RegionId, ServerId}

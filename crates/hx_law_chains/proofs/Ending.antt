@@ -1,4 +1,6 @@
--- What a server does by its own configuration: where its chain ends nobody stands after it, what a leader has committed is committed along all chains, its answers are true, and what a slot does when its server has adopted a configuration is allowed.
+-- What a server does by its own configuration: where its chain ends nobody stands after it, what a
+-- leader has committed is committed along all chains, its answers are true, and what a slot does
+-- when its server has adopted a configuration is allowed.
 use Rattle.std.proofs.Common.{◌≡◌, ℕ, inl, inr, true, List, Option, None, Some, refl, sym, ap, ◌∙◌, subst, arith}
 use Rattle.std.proofs.lemmas.Bool.{false≢true}
 use Rattle.hx_model.specs.Types.{At, Blocked, End, Hop, Op, RegionId, Script, ServerId, Update}

@@ -19,7 +19,8 @@ use Rattle.hx_law_lemmas.proofs.Lemmas.{in-listed, listed-in}
 use Rattle.hx_law_epochs.specs.Epochs.{order}
 use Rattle.hx_law_epochs.proofs.Lemmas.{Installed, IsKnown, NoLater, PrecedesInChain, Real, Says, SendsSnapshot, epochs-run, found-installed, installed-is}
 use Rattle.hx_law_epochs.proofs.Lemmas.{placed-number}
-use Rattle.hx_law_chains.specs.Chains.{AcceptedAt, AcceptedBefore, AckStands, AcknowledgedStands, AreAssigned, CommittedAfter, CommittedAt, ComesNext, EarlyStands}
+use Rattle.hx_law_chains.specs.Chains.{AcceptedAt, AcceptedBefore, AckStands, AcknowledgedStands, AreAssigned}
+use Rattle.hx_law_chains.specs.Chains.{CommittedAfter, CommittedAt, ComesNext, EarlyStands}
 use Rattle.hx_law_chains.specs.Chains.{GoesOnInstalled, InOrder, IsComing, IsHeld, IsSentFrom, IsStanding, IsUp, MayHave, MayHearAck, MayHearUpdate, PostStands}
 use Rattle.hx_law_chains.specs.Chains.{RunsAnswerCommitted, RunsAssignUpdates, RunsHoldParts, RunsKeepOrder, RunsKeepWhatStands, RunsPostsStand, RunsSendParts}
 use Rattle.hx_law_chains.specs.Chains.{SnapStands, StandsEarlier, UpdateStands}
@@ -29,7 +30,8 @@ use Rattle.hx_law_chains.proofs.Moves.{Acked, Own, Waiting}
 use Rattle.hx_law_chains.proofs.Runs.{chained-run}
 use Rattle.hx_law_chains.proofs.Sending.{joiner-next, routed}
 use Rattle.hx_law_chains.proofs.Serving.{scene, world}
-use Rattle.hx_law_chains.proofs.World.{AckOk, After, Along, Before, Chained, Done, Filled, HearsAck, HearsUpdate, Here, Lawful, May, Route, Told, UpdateOk, Valid}
+use Rattle.hx_law_chains.proofs.World.{AckOk, After, Along, Before, Chained, Done, Filled, HearsAck, HearsUpdate, Here}
+use Rattle.hx_law_chains.proofs.World.{Lawful, May, Route, Told, UpdateOk, Valid}
 use Rattle.hx_law_chains.proofs.World.{World, around, context, ways}
 
 -- where all stand after a trace

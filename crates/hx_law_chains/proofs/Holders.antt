@@ -1,4 +1,6 @@
--- What holds updates of a key after a trace: installed replicas that the newest configuration lists, whether their servers have halted or not, and all snapshots posted to replicas that aren't installed of servers that haven't. What is said of each server where one has another state.
+-- What holds updates of a key after a trace: installed replicas that the newest configuration
+-- lists, whether their servers have halted or not, and all snapshots posted to replicas that aren't
+-- installed of servers that haven't. What is said of each server where one has another state.
 use Rattle.std.proofs.Common.{◌≡◌, ℕ, ◌⊎◌, inl, inr, false, List, Some, refl, sym, ap, ◌∙◌, subst, cond}
 use Rattle.std.specs.Prelude.{⊤}
 use Rattle.std.proofs.lemmas.Bool.{cond-false, cond-true, eq-eqb, ne_eqb}

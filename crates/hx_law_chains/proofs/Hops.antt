@@ -1,4 +1,5 @@
--- What a hop to the next or the previous position says of the lists of its configuration: whether it stays in the region, or goes on to the region of the neighbouring place.
+-- What a hop to the next or the previous position says of the lists of its configuration: whether
+-- it stays in the region, or goes on to the region of the neighbouring place.
 use Rattle.std.proofs.Common.{◌≡◌, ℕ, zero, suc, ◌+◌, ◌-◌, ◌<◌, ◌⊎◌, inl, inr, List, length, Option, None, Some, refl, sym, ap, ◌∙◌, subst, arith, cond}
 use Rattle.std.specs.List.{slice_get}
 use Rattle.std.proofs.lemmas.Bool.{cond_both}

@@ -1,4 +1,6 @@
--- What is kept of a key and of posts when a configuration is issued: who it leaves out holds nothing any more, all others hold what they did in the same order, and a post that comes to be heard by it alone came from a neighbour that has accepted, or committed, the update.
+-- What is kept of a key and of posts when a configuration is issued: who it leaves out holds
+-- nothing any more, all others hold what they did in the same order, and a post that comes to be
+-- heard by it alone came from a neighbour that has accepted, or committed, the update.
 use Rattle.std.proofs.Common.{◌≡◌, ℕ, ◌<◌, ◌⊎◌, inl, inr, List, length, sym, ap, ◌∙◌, subst, arith}
 use Rattle.hx_model.specs.Types.{At, Config, Place, RegionId, Script, ServerId, Update}
 use Rattle.hx_types.specs.Words.{IsBefore, IsIn}

@@ -1,4 +1,5 @@
--- What a leader decides on a write: nothing, a doubt, the answer of an update that is committed, or the next update after what it has accepted, perhaps refused.
+-- What a leader decides on a write: nothing, a doubt, the answer of an update that is committed, or
+-- the next update after what it has accepted, perhaps refused.
 use Rattle.std.proofs.Common.{◌≡◌, ℕ, ◌+◌, ◌≤◌, ◌⊎◌, inl, inr, Bool, true, false, List, [], ◌∷◌, length, Option, None, Some, refl, sym, ap, ◌∙◌, subst}
 use Rattle.hx_model.specs.Types.{Caller, Config, Decision, Op, Place, RegionId, Script, Update, Value, Version}
 use Rattle.hx_types.specs.declared.outcomes.Decision.TheVariants as a_decision

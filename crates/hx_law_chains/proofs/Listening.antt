@@ -1,4 +1,5 @@
--- Whom the servers of a run take messages between replicas from: their neighbours, by their own configurations; any other message is dropped, and at most the newest configuration is asked for.
+-- Whom the servers of a run take messages between replicas from: their neighbours, by their own
+-- configurations; any other message is dropped, and at most the newest configuration is asked for.
 use Rattle.std.proofs.Common.{◌≡◌, inl, inr, true, false, not, List, [], ◌∷◌, ◌++◌, Option, None, Some, refl, sym, ap, ◌∙◌, subst, cond}
 use Rattle.std.specs.Prelude.{nat_lt}
 use Rattle.std.proofs.lemmas.Bool.{cond-false, cond_both}

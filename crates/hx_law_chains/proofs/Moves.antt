@@ -17,7 +17,8 @@ use Rattle.hx_law_lemmas.proofs.Lemmas.{Following, More, Sorted, any-in, in-appe
 use Rattle.hx_law_lemmas.proofs.Lemmas.{only-in, only-sorted, same_version, upto-low, upto-sorted, when_some_both}
 use Rattle.hx_law_chains.proofs.Lines.{front-above, only-next, sorted-front}
 
--- what is said of an update at a position: that a holder may keep it early, that each holder before has accepted it, that each after has committed it, and that no holder can come in between
+-- what is said of an update at a position: that a holder may keep it early, that each holder before
+-- has accepted it, that each after has committed it, and that no holder can come in between
 pub record Around : Type 1 where
   pub waits : Update → Type 0
   pub before : Update → Type 0

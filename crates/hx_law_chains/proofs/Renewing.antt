@@ -1,4 +1,5 @@
--- What is kept of a key and of posts when a server adopts a configuration or halts, before it goes on: its slots forget acknowledgements and early updates, and fewer posts may be heard.
+-- What is kept of a key and of posts when a server adopts a configuration or halts, before it goes
+-- on: its slots forget acknowledgements and early updates, and fewer posts may be heard.
 use Rattle.std.proofs.Common.{◌≡◌, ℕ, ◌≤◌, ◌⊎◌, inl, inr, List, length, Some, sym, ap, subst, arith}
 use Rattle.hx_model.specs.Types.{Config, RegionId, Script, ServerId, Update}
 use Rattle.hx_types.specs.Words.{IsIn}

@@ -64,7 +64,8 @@ pub record Asked : Type 1 where
   pub call : Caller → Type 0
   pub ask : Actor → Epoch → ℕ → RegionId → List Term → Type 0
 
--- a reply to a get answers the call that arrives, with at least what is committed along chains; rows are those that an installed replica finds for the ask that arrives; nobody is called
+-- a reply to a get answers the call that arrives, with at least what is committed along chains;
+-- rows are those that an installed replica finds for the ask that arrives; nobody is called
 abbrev pub Late : Scene → Asked → ServerId → Actor → Message → Type 0
 Late e asked i to (a_message.Reply number version answer) =
     at_session to (λ u. (key : List ℕ) → call_of e.script (record { session = u; number = number }) ≡ Some (Get key)

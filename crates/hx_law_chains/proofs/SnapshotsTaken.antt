@@ -1,4 +1,5 @@
--- What a joiner makes of a snapshot with its pending updates: each of its slots goes on in its place with what it was sent, and it posts what it then posts of each.
+-- What a joiner makes of a snapshot with its pending updates: each of its slots goes on in its
+-- place with what it was sent, and it posts what it then posts of each.
 use Rattle.std.proofs.Common.{◌≡◌, ℕ, ◌⊎◌, inl, inr, Bool, true, false, List, [], ◌∷◌, ◌++◌, map, refl, sym, ap, ◌∙◌, subst}
 use Rattle.std.proofs.lemmas.Bool.{false≢true}
 use Rattle.std.specs.List.{AllByRecursion, filter, flat_map}

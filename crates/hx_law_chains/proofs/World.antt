@@ -1,4 +1,6 @@
--- Where all stand: the newest configuration and each server's own, the lines, what holds updates at each position of a region, and what is said of a key's holders and of posts. A post is judged by who may still hear it, in whatever configuration the receiver has or may come to have.
+-- Where all stand: the newest configuration and each server's own, the lines, what holds updates at
+-- each position of a region, and what is said of a key's holders and of posts. A post is judged by
+-- who may still hear it, in whatever configuration the receiver has or may come to have.
 use Rattle.std.proofs.Common.{◌≡◌, ℕ, ◌<◌, ◌≤◌, ◌⊎◌, inl, inr, true, false, List, [], ◌∷◌, length, None, Some, sym, subst, arith}
 use Rattle.std.specs.Prelude.{⊤}
 use Rattle.std.proofs.lemmas.Bool.{cond_both}
@@ -25,7 +27,8 @@ use Rattle.hx_law_chains.proofs.Moves.{Around, Own}
 
 -- ---- lines
 
--- an update is given by the effect of its operation on the object before it, or refused: a known configuration has lost the first place that the effect asks for and that it has lost
+-- an update is given by the effect of its operation on the object before it, or refused: a known
+-- configuration has lost the first place that the effect asks for and that it has lost
 abbrev pub Effected : Space → (Config → Type 0) → List ℕ → List Update → Update → Op → Type 0
 Effected space known key older u op =
     ((u.answer ≡ (effect_of space (line_object older) op).answer) × (u.object ≡ (effect_of space (line_object older) op).object))
@@ -91,7 +94,9 @@ lawful-known script known known' key (u ∷ us) f h = (
 
 -- ---- where all stand
 
--- the newest configuration, the one that each server has, which servers haven't halted, the lines, what holds updates of a key at a position, which replicas are installed, and which configurations are known
+-- the newest configuration, the one that each server has, which servers haven't halted, the lines,
+-- what holds updates of a key at a position, which replicas are installed, and which configurations
+-- are known
 pub record World : Type 1 where
   pub config : Config
   pub own : ServerId → Config
@@ -117,7 +122,9 @@ pub record May (v : Ways) (s : ServerId) (c : Config) : Type 0 where
   pub known : v.known c
   pub later : (v.own s).epoch.0 ≤ c.epoch.0
 
--- what is kept of configurations: each later one has grown out of each earlier one, the newest is the last, each server's own is known and lists its installed replicas, who hasn't halted is a server of the newest, and an installed replica that it lists is a holder
+-- what is kept of configurations: each later one has grown out of each earlier one, the newest is
+-- the last, each server's own is known and lists its installed replicas, who hasn't halted is a
+-- server of the newest, and an installed replica that it lists is a holder
 pub record Ordered (w : World) : Type 0 where
   pub differ : (c : Config) → w.known c → (g : RegionId) → Differ (members_of c g)
   pub listed : (c : Config) → w.known c → ListsServers c
@@ -245,14 +252,17 @@ module _ (script : Script) (w : World) (key : List ℕ) where
     pub listed : IsIn s (order w.config g)
     pub before : Before g s u
 
-  -- an update under way from x: an installed replica beside the position posted it, which has accepted it if the newest configuration lists it; and what holds where it may be heard
+  -- an update under way from x: an installed replica beside the position posted it, which has
+  -- accepted it if the newest configuration lists it; and what holds where it may be heard
   pub record UpdateOk (x : ServerId) (g : RegionId) (s : ServerId) (u : Update) : Type 0 where
     pub route : Route w.known x g s u
     pub from : w.installed route.region x
     pub accepted : IsIn x (order w.config route.region) → IsIn u (w.line key) × Here route.region x u
     pub heard : HearsUpdate (ways w) x g s u → Sending g s u
 
-  -- an acknowledgement under way from x: its version stands in the line and is accepted by the whole chain; an installed replica posted it, which has committed it if the newest configuration lists it; and what holds where it may be heard
+  -- an acknowledgement under way from x: its version stands in the line and is accepted by the
+  -- whole chain; an installed replica posted it, which has committed it if the newest configuration
+  -- lists it; and what holds where it may be heard
   pub record AckOk (x : ServerId) (by : RegionId) (g : RegionId) (s : ServerId) (v : ℕ) : Type 0 where
     pub update : Update
     pub stands : IsIn update (w.line key)

@@ -1,4 +1,6 @@
--- What every run keeps of chains: lines, what replicas and snapshots hold of them, the order in which chains accept and commit, what answers rest on, what replicas keep for later, what is under way, and whom replicas hear.
+-- What every run keeps of chains: lines, what replicas and snapshots hold of them, the order in
+-- which chains accept and commit, what answers rest on, what replicas keep for later, what is under
+-- way, and whom replicas hear.
 use Rattle.hx_model.specs.Lines.{line_object}
 use Rattle.std.specs.Prelude.{◌≡◌, ℕ, ◌+◌, ◌<◌, ◌≤◌, ◌⊎◌, Bool, true, false, List, [], ◌∷◌, length, map, nat_lt, ⊤, Some}
 use Rattle.hx_model.specs.Types.{Actor, Answer, At, Blocked, Caller, Config, Deliver, End, Entry, Epoch, Hop, Kept, Member, Message, Op, Place, Post, PostId}
@@ -35,7 +37,9 @@ pub record IsRefusedFor (script : Script) (trace : List Entry) (key : List ℕ) 
   pub first : first_lost config (places_of script.space key (line_object older) (effect_of script.space (line_object older) op).object
       (effect_of script.space (line_object older) op).changes (length older) (touches_after [] older)) ≡ Some region
 
--- the update follows on the older ones of its key's line: the effect of a write of the script on the object before, or refused, through the places that its objects before and after ask for, and newer than its session's earlier ones
+-- the update follows on the older ones of its key's line: the effect of a write of the script on
+-- the object before, or refused, through the places that its objects before and after ask for, and
+-- newer than its session's earlier ones
 pub record IsAssigned (script : Script) (trace : List Entry) (key : List ℕ) (older : List Update) (u : Update) : Type 0 where
   pub key_is : u.key ≡ key
   pub version : u.version.0 ≡ length older + 1
@@ -136,7 +140,8 @@ RunsKeepOrder =
 
 -- ---- answers
 
--- in every run, where a call on a key was answered with a version and no doubt, each update of the key's line up to that version is committed wherever its chain holds it
+-- in every run, where a call on a key was answered with a version and no doubt, each update of the
+-- key's line up to that version is committed wherever its chain holds it
 abbrev pub RunsAnswerCommitted : Type 0
 RunsAnswerCommitted =
     (script : Script) → IsScript script → (trace : List Entry) → IsRun script trace
@@ -170,7 +175,8 @@ CommittedAt script trace key g s u = (t : KeyState) → IsHeld script trace key 
 
 -- ---- what replicas keep for later
 
--- an early update stands in its key's line, and all before the replica in its chain has accepted it; by its server's own configuration the replica isn't the key's leader
+-- an early update stands in its key's line, and all before the replica in its chain has accepted
+-- it; by its server's own configuration the replica isn't the key's leader
 pub record EarlyStands (script : Script) (trace : List Entry) (key : List ℕ) (g : RegionId) (s : ServerId) (u : Update) : Type 0 where
   pub stands : IsIn u (line_of key trace)
   pub placed : has_place g u ≡ true
@@ -183,7 +189,9 @@ GoesOnInstalled script trace places End = ⊤
 GoesOnInstalled script trace places (At x place) = IsInstalled (server_of script x trace) (region_at places place)
 GoesOnInstalled script trace places (Blocked g) = ⊥
 
--- an acknowledged version stands in its key's line; the replica and all before it in the chain have accepted it, and all after it has committed it; by its server's own configuration the chain ends at the replica, or goes on at an installed one
+-- an acknowledged version stands in its key's line; the replica and all before it in the chain have
+-- accepted it, and all after it has committed it; by its server's own configuration the chain ends
+-- at the replica, or goes on at an installed one
 pub record AcknowledgedStands (script : Script) (trace : List Entry) (key : List ℕ) (g : RegionId) (s : ServerId) (t : KeyState) (v : ℕ) : Type 0 where
   pub update : Update
   pub stands : IsIn update (line_of key trace)
@@ -241,7 +249,10 @@ pub record ComesNext (script : Script) (trace : List Entry) (u : Update) (g : Re
   pub second : lists config h x ≡ true
   pub next : next_of config u.places (place_number g u.places) s ≡ At x (place_number h u.places)
 
--- an update under way came from such a server, after which the receiver came in the update's chain; where the newest configuration lists the sender, it stands in its key's line and the sender has accepted it; where the receiver may hear it, it stands there, the newest configuration lists the receiver, and all before the receiver in its chain has accepted it
+-- an update under way came from such a server, after which the receiver came in the update's chain;
+-- where the newest configuration lists the sender, it stands in its key's line and the sender has
+-- accepted it; where the receiver may hear it, it stands there, the newest configuration lists the
+-- receiver, and all before the receiver in its chain has accepted it
 pub record UpdateStands (script : Script) (trace : List Entry) (from : Actor) (epoch : Epoch) (g : RegionId) (s : ServerId) (u : Update) : Type 0 where
   pub region : RegionId
   pub sent : IsSentFrom script trace from epoch region
@@ -254,8 +265,12 @@ pub record UpdateStands (script : Script) (trace : List Entry) (from : Actor) (e
   pub listed : MayHearUpdate script trace from g s u → lists (coordinator_of script trace).config g s ≡ true
   pub accepted : MayHearUpdate script trace from g s u → AcceptedBefore script trace u.key g s u
 
--- an acknowledged version stands in its key's line and is accepted by all that stands in its chain; its acknowledgement came from such a server, which has committed it where the newest configuration lists it; where the receiver may hear it, the newest configuration lists the receiver, and all after the receiver in the chain has committed it
-pub record AckStands (script : Script) (trace : List Entry) (from : Actor) (epoch : Epoch) (by g : RegionId) (s : ServerId) (key : List ℕ) (v : Version) : Type 0 where
+-- an acknowledged version stands in its key's line and is accepted by all that stands in its chain;
+-- its acknowledgement came from such a server, which has committed it where the newest
+-- configuration lists it; where the receiver may hear it, the newest configuration lists the
+-- receiver, and all after the receiver in the chain has committed it
+pub record AckStands (script : Script) (trace : List Entry) (from : Actor) (epoch : Epoch) (by g : RegionId)
+    (s : ServerId) (key : List ℕ) (v : Version) : Type 0 where
   pub update : Update
   pub stands : IsIn update (line_of key trace)
   pub version : update.version ≡ v
@@ -267,8 +282,11 @@ pub record AckStands (script : Script) (trace : List Entry) (from : Actor) (epoc
   pub listed : MayHearAck script trace from by g s update → lists (coordinator_of script trace).config g s ≡ true
   pub committed : MayHearAck script trace from by g s update → CommittedAfter script trace key g s update
 
--- a snapshot under way came from an installed replica, by the configuration of its epoch the region's last ready one, and goes to the member right after it; where that server hasn't halted, the newest configuration lists it
-pub record SnapStands (script : Script) (trace : List Entry) (from : Actor) (epoch : Epoch) (g : RegionId) (s : ServerId) (snapshot : List Kept) (pending : List Update) : Type 0 where
+-- a snapshot under way came from an installed replica, by the configuration of its epoch the
+-- region's last ready one, and goes to the member right after it; where that server hasn't halted,
+-- the newest configuration lists it
+pub record SnapStands (script : Script) (trace : List Entry) (from : Actor) (epoch : Epoch) (g : RegionId)
+    (s : ServerId) (snapshot : List Kept) (pending : List Update) : Type 0 where
   pub sent : IsSentFrom script trace from epoch g
   pub config : Config
   pub issued : config_of script epoch trace ≡ Some config
@@ -297,7 +315,10 @@ pub record IsDropped (before after : ServerState) (epoch : Epoch) (posts : List 
   pub state : after ≡ before
   pub posted : posts ≡ provided (nat_lt before.config.epoch.0 epoch.0) (poll_post before ∷ [])
 
--- what a server takes between replicas comes from its neighbour by its own configuration: where its replica is installed, an update from its predecessor and an acknowledgement of a pending update from its successor; where it has a replica, a snapshot from the member before it; all else is dropped
+-- what a server takes between replicas comes from its neighbour by its own configuration: where its
+-- replica is installed, an update from its predecessor and an acknowledgement of a pending update
+-- from its successor; where it has a replica, a snapshot from the member before it; all else is
+-- dropped
 abbrev pub HearsNeighbour : Space → ServerId → ServerState → ServerState → List Post → Actor → Message → Type 0
 HearsNeighbour space s before after posts from (a_message.Update epoch g u) =
     ((r : Replica) × (if_installed (replica_for before g) ≡ Some r) × (hears_update before.config u (place_number g u.places) s from ≡ true))

@@ -63,7 +63,8 @@ pub later_crews : (xs ys zs : List Crew) → AreLater xs ys → AreLater ys zs �
 later_crews xs ys zs h k = both_then IsLaterCrew IsLaterCrew IsLaterCrew crew_then xs ys zs h k
 
 -- what holds of the desks of each crew holds of all desks
-pub of_desks : (R : Crew → Crew → Type 0) (S : Desk → Desk → Type 0) → ((x y : Crew) → R x y → Both S x.desks.items y.desks.items) → (xs ys : List Crew) → Both R xs ys
+pub of_desks : (R : Crew → Crew → Type 0) (S : Desk → Desk → Type 0)
+    → ((x y : Crew) → R x y → Both S x.desks.items y.desks.items) → (xs ys : List Crew) → Both R xs ys
     → Both S (desks_of xs) (desks_of ys)
 of_desks R S f [] [] h = tt
 of_desks R S f [] (y ∷ ys) h = absurd h
@@ -107,19 +108,27 @@ actors_later script xs ys h k =
     }
 
 -- how many entries an actor had made is the length of its part
-pub entries_of_desk : (ds : List Desk) (d : Desk) → IsDistinct same_actor (map (λ (x : Desk). x.actor) ds) → IsIn d ds → entries_at ds d.actor ≡ length d.part.items
+pub entries_of_desk : (ds : List Desk) (d : Desk) → IsDistinct same_actor (map (λ (x : Desk). x.actor) ds) → IsIn d ds
+    → entries_at ds d.actor ≡ length d.part.items
 unfolding IsDistinct
 entries_of_desk [] d apart i = absurd i
 entries_of_desk (c ∷ ds) d apart (inl e) =
-    ap (λ b. cond b (length c.part.items) (entries_at ds d.actor)) (ap (λ (x : Desk). same_actor c.actor x.actor) e ∙ same_as_itself c.actor) ∙ ap (λ (x : Desk). length x.part.items) (sym e)
+    ap (λ b. cond b (length c.part.items) (entries_at ds d.actor))
+    (ap (λ (x : Desk). same_actor c.actor x.actor) e ∙ same_as_itself c.actor)
+    ∙ ap (λ (x : Desk). length x.part.items) (sym e)
 entries_of_desk (c ∷ ds) d apart (inr i) =
-    ap (λ b. cond b (length c.part.items) (entries_at ds d.actor)) (each_in (λ a. same_actor c.actor a ≡ false) (map (λ (x : Desk). x.actor) ds) d.actor apart.0 (in_map (λ (x : Desk). x.actor) ds d i))
+    ap (λ b. cond b (length c.part.items) (entries_at ds d.actor))
+    (each_in (λ a. same_actor c.actor a ≡ false) (map (λ (x : Desk). x.actor) ds) d.actor apart.0
+    (in_map (λ (x : Desk). x.actor) ds d i))
     ∙ entries_of_desk ds d apart.1 i
 
 -- each actor has one desk
-apart_from : (c d : Desk) (ds : List Desk) → AllByRecursion (λ a. same_actor c.actor a ≡ false) (map (λ (x : Desk). x.actor) ds) → IsIn d ds → c.actor ≡ d.actor → ⊥
+apart_from : (c d : Desk) (ds : List Desk) → AllByRecursion (λ a. same_actor c.actor a ≡ false)
+    (map (λ (x : Desk). x.actor) ds) → IsIn d ds → c.actor ≡ d.actor → ⊥
 apart_from c d ds h i e =
-    true≢false (sym (ap (same_actor c.actor) (sym e) ∙ same_as_itself c.actor) ∙ each_in (λ a. same_actor c.actor a ≡ false) (map (λ (x : Desk). x.actor) ds) d.actor h (in_map (λ (x : Desk). x.actor) ds d i))
+    true≢false (sym (ap (same_actor c.actor) (sym e) ∙ same_as_itself c.actor)
+    ∙ each_in (λ a. same_actor c.actor a ≡ false) (map (λ (x : Desk). x.actor) ds) d.actor h
+    (in_map (λ (x : Desk). x.actor) ds d i))
 
 pub one_desk : (ds : List Desk) (d e : Desk) → IsDistinct same_actor (map (λ (x : Desk). x.actor) ds) → IsIn d ds → IsIn e ds → d.actor ≡ e.actor → d ≡ e
 unfolding IsDistinct
@@ -154,7 +163,8 @@ pub have_cut : (xs ys : List Crew) → AreLater xs ys → IsDistinct same_actor 
 have_cut xs ys h apart =
     let l = later_desks xs ys h in
     record {
-      within = each_of_map part_of (λ (p : ActorPart). cut_of xs p.actor ≤ length p.part) (desks_of ys) (each_all (λ (e : Desk). cut_of xs e.actor ≤ length e.part.items) (desks_of ys)
+      within = each_of_map part_of (λ (p : ActorPart). cut_of xs p.actor ≤ length p.part) (desks_of ys)
+          (each_all (λ (e : Desk). cut_of xs e.actor ≤ length e.part.items) (desks_of ys)
           (λ e i.
           let d = both_back IsLater (desks_of xs) (desks_of ys) e l i in
           let n : cut_of xs e.actor ≡ length d.0.part.items = ap (cut_of xs) d.2.actor ∙ entries_of_desk (desks_of xs) d.0 apart d.1 in

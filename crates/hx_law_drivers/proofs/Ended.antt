@@ -1,5 +1,6 @@
 -- Where every session ended, each call has ended.
-use Rattle.std.proofs.Common.{◌≡◌, ℕ, zero, suc, ◌<◌, ◌≤◌, Bool, true, false, nat_le, nat_lt, List, [], ◌∷◌, length, Option, Some, None, slice_get, refl, ap, sym, ◌∙◌, arith, true≢false}
+use Rattle.std.proofs.Common.{◌≡◌, ℕ, zero, suc, ◌<◌, ◌≤◌, Bool, true, false, nat_le, nat_lt, List, [], ◌∷◌, length}
+use Rattle.std.proofs.Common.{Option, Some, None, slice_get, refl, ap, sym, ◌∙◌, arith, true≢false}
 use Rattle.std.specs.Prelude.{not, ◌&&◌, is_some, IsSome}
 use Rattle.std.proofs.lemmas.Bool.{and_from, le-leb, lt-ltb}
 use Rattle.atomic_table.specs.Seated.{TableId}
@@ -39,11 +40,13 @@ session_below (x ∷ sessions) zero h = omega arith
 session_below (x ∷ sessions) (suc n) h = let r = session_below sessions n h in omega (arith, r)
 
 -- who has a call is a session of the script
-has_calls : (sessions : List (List Op)) (n number : ℕ) → IsSome (numbered (when_some (numbered sessions n) [] (λ (calls : List Op). calls)) number) → (0 < n) × (n ≤ length sessions)
+has_calls : (sessions : List (List Op)) (n number : ℕ)
+    → IsSome (numbered (when_some (numbered sessions n) [] (λ (calls : List Op). calls)) number) → (0 < n) × (n ≤ length sessions)
 has_calls sessions zero number h = absurd (none_is (numbered [] number) (none_at number) h)
 has_calls sessions (suc n) number h = by (slice_get sessions n) refl h
   where
-    by : (o : Option (List Op)) → slice_get sessions n ≡ o → IsSome (numbered (when_some o [] (λ (calls : List Op). calls)) number) → (0 < suc n) × (suc n ≤ length sessions)
+    by : (o : Option (List Op)) → slice_get sessions n ≡ o
+        → IsSome (numbered (when_some o [] (λ (calls : List Op). calls)) number) → (0 < suc n) × (suc n ≤ length sessions)
     by None e i = absurd (none_is (numbered [] number) (none_at number) i)
     by (Some calls) e i = let r = session_below sessions n (ap is_some e) in (omega arith, omega (arith, r))
 
@@ -65,11 +68,14 @@ module _ (script : Script) (clock : TableId) (boxes : List Boxed) (w : ℕ) (sta
       let made = merged_run script (parts_of now) merged (own_parts script clock boxes w start now run) whole is in
       let d = (actors_now script clock boxes w start now run).all (Session u) (session_known script c h) in
       let own : own_entries d.0.actor (past_of merged) ≡ past_of d.0.part.items =
-      each_in (λ (p : ActorPart). own_entries p.actor (past_of merged) ≡ past_of p.part) (parts_of now) (part_of d.0) made.own (in_map part_of (desks_of now) d.0 d.1) in
+      each_in (λ (p : ActorPart). own_entries p.actor (past_of merged) ≡ past_of p.part) (parts_of now)
+      (part_of d.0) made.own (in_map part_of (desks_of now) d.0 d.1) in
       let state : session_of script u (past_of merged) ≡ session_of script u (entries_before d.0.part.items) =
       sym ((by_own script (past_of merged)).session u) ∙ ap (λ a. session_of script u (own_entries a (past_of merged))) (sym d.2)
       ∙ ap (session_of script u) (own ∙ sym (past_is_before d.0.part.items)) in
-      let ended : has_ended script (entries_before d.0.part.items) (Session u) ≡ true = ap (has_ended script (entries_before d.0.part.items)) (sym d.2) ∙ each_in (HasEnded script) (desks_of now) d.0 all d.1 in
+      let ended : has_ended script (entries_before d.0.part.items) (Session u) ≡ true =
+      ap (has_ended script (entries_before d.0.part.items)) (sym d.2)
+      ∙ each_in (HasEnded script) (desks_of now) d.0 all d.1 in
       let s = session_of script u (entries_before d.0.part.items) in
       let parts = ended_parts s.under_way (nat_lt s.begun (length s.calls)) ended in
       let done : IsDone script (past_of merged) u =

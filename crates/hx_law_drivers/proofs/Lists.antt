@@ -1,5 +1,7 @@
 -- Lists place by place, prefixes, and sums.
-use Rattle.std.proofs.Common.{◌≡◌, ℕ, zero, suc, ◌+◌, ◌<◌, ◌≤◌, ◌⊎◌, inl, inr, ⊎_elim, Bool, true, false, List, [], ◌∷◌, ◌++◌, map, take, length, flat_map, Some, slice_get, refl, ap, sym, subst, ◌∙◌, arith, length-append}
+use Rattle.std.proofs.Common.{◌≡◌, ℕ, zero, suc, ◌+◌, ◌<◌, ◌≤◌, ◌⊎◌, inl, inr, ⊎_elim, Bool, true, false, List, []}
+use Rattle.std.proofs.Common.{◌∷◌, ◌++◌, map, take, length, flat_map, Some, slice_get, refl, ap, sym, subst, ◌∙◌}
+use Rattle.std.proofs.Common.{arith, length-append}
 use Rattle.std.specs.List.{AllByRecursion}
 use mathlib.Core.List.{IsPrefix}
 use Rattle.hx_types.specs.Words.{IsIn}
@@ -127,7 +129,8 @@ each_two P Q R f (x ∷ xs) h k = (f x h.0 k.0, each_two P Q R f xs h.1 k.1)
 pub of_flat : {A B : Type 0} (f : A → List B) (xs : List A) (y : B) → IsIn y (flat_map f xs) → (x : A) × IsIn x xs × IsIn y (f x)
 of_flat f [] y i = absurd i
 of_flat f (x ∷ xs) y i =
-    ⊎_elim (λ (j : IsIn y (f x)). (x, inl refl, j)) (λ (j : IsIn y (flat_map f xs)). let r = of_flat f xs y j in (r.0, inr r.1, r.2)) (in_append (f x) (flat_map f xs) y i)
+    ⊎_elim (λ (j : IsIn y (f x)). (x, inl refl, j)) (λ (j : IsIn y (flat_map f xs)). let r = of_flat f xs y j in
+    (r.0, inr r.1, r.2)) (in_append (f x) (flat_map f xs) y i)
 
 pub in_flat : {A B : Type 0} (f : A → List B) (xs : List A) (x : A) (y : B) → IsIn x xs → IsIn y (f x) → IsIn y (flat_map f xs)
 in_flat f [] x y i j = absurd i
@@ -167,4 +170,5 @@ module _ {A : Type 0} where
   pub total_some : (g : A → ℕ) (xs : List A) → 1 ≤ total g xs → (x : A) × IsIn x xs × (1 ≤ g x)
   total_some g [] le = absurd (omega (arith, le))
   total_some g (x ∷ xs) le =
-      ⊎_elim (λ (h : 0 < g x). (x, inl refl, omega (arith, h))) (λ (h : g x ≤ 0). let r = total_some g xs (omega (arith, le, h)) in (r.0, inr r.1, r.2)) (lt_or_le 0 (g x))
+      ⊎_elim (λ (h : 0 < g x). (x, inl refl, omega (arith, h)))
+      (λ (h : g x ≤ 0). let r = total_some g xs (omega (arith, le, h)) in (r.0, inr r.1, r.2)) (lt_or_le 0 (g x))

@@ -1,5 +1,6 @@
 -- A trace with one more entry: what is seen of it at a cut of the entries before, and that it is still paced.
-use Rattle.std.proofs.Common.{◌≡◌, ℕ, ◌+◌, ◌≤◌, inr, true, false, cond, eqb, List, [], ◌∷◌, length, Option, Some, None, slice_get, refl, ap, sym, subst, ◌∙◌, arith}
+use Rattle.std.proofs.Common.{◌≡◌, ℕ, ◌+◌, ◌≤◌, inr, true, false, cond, eqb, List, [], ◌∷◌, length, Option, Some, None}
+use Rattle.std.proofs.Common.{slice_get, refl, ap, sym, subst, ◌∙◌, arith}
 use Rattle.std.specs.Prelude.{IsSome}
 use Rattle.std.specs.List.{AllByRecursion}
 use Rattle.std.proofs.lemmas.Bool.{cond_both, eqb-true, le-ltb, lt-ltb}
@@ -31,16 +32,19 @@ entry_on n x xs y e =
     (λ t. absurd (omega (arith, eqb-true n (length xs + 1) t, entry_low n xs y e))) (λ t. e)
 
 -- whatever two cuts have beside all entries of a trace, the same is added up over it
-pub above_all : (f : ℕ → Entry → ℕ) (cut : Cut) (trace : List Entry) → ((a : Actor) → entries_of a trace ≤ cut a) → total_at f cut trace ≡ total_at f (whole_of trace) trace
+pub above_all : (f : ℕ → Entry → ℕ) (cut : Cut) (trace : List Entry) → ((a : Actor) → entries_of a trace ≤ cut a)
+    → total_at f cut trace ≡ total_at f (whole_of trace) trace
 above_all f cut trace le = by cut (whole_of trace) trace le (λ a. omega arith)
   where
     in_both : (x : Entry) (older : List Entry) (k : Cut) → ((a : Actor) → entries_of a (x ∷ older) ≤ k a) → is_in_cut k x.actor older ≡ true
     in_both x older k h =
-        let here : entries_of x.actor (x ∷ older) ≡ entries_of x.actor older + 1 = ap (λ b. cond b (entries_of x.actor older + 1) (entries_of x.actor older)) (same_as_itself x.actor) in
+        let here : entries_of x.actor (x ∷ older) ≡ entries_of x.actor older + 1 =
+        ap (λ b. cond b (entries_of x.actor older + 1) (entries_of x.actor older)) (same_as_itself x.actor) in
         lt-ltb (entries_of x.actor older) (k x.actor) (omega (arith, here, h x.actor))
 
     fewer : (x : Entry) (older : List Entry) (a : Actor) → entries_of a older ≤ entries_of a (x ∷ older)
-    fewer x older a = cond_both (same_actor x.actor a) (entries_of a older + 1) (entries_of a older) (λ n. entries_of a older ≤ n) (λ t. omega arith) (λ t. omega arith)
+    fewer x older a = cond_both (same_actor x.actor a) (entries_of a older + 1) (entries_of a older)
+        (λ n. entries_of a older ≤ n) (λ t. omega arith) (λ t. omega arith)
 
     by : (k l : Cut) (xs : List Entry) → ((a : Actor) → entries_of a xs ≤ k a) → ((a : Actor) → entries_of a xs ≤ l a) → total_at f k xs ≡ total_at f l xs
     by k l [] h g = refl
@@ -53,12 +57,15 @@ module _ (x : Entry) (trace : List Entry) where
   -- all entries add up to one more
   pub one_more_added : (f : ℕ → Entry → ℕ) → total_at f (whole_of (x ∷ trace)) (x ∷ trace) ≡ total_at f (whole_of trace) trace + f (length trace + 1) x
   one_more_added f =
-      let here : entries_of x.actor (x ∷ trace) ≡ entries_of x.actor trace + 1 = ap (λ b. cond b (entries_of x.actor trace + 1) (entries_of x.actor trace)) (same_as_itself x.actor) in
-      let has : is_in_cut (whole_of (x ∷ trace)) x.actor trace ≡ true = lt-ltb (entries_of x.actor trace) (entries_of x.actor (x ∷ trace)) (omega (arith, here)) in
+      let here : entries_of x.actor (x ∷ trace) ≡ entries_of x.actor trace + 1 =
+      ap (λ b. cond b (entries_of x.actor trace + 1) (entries_of x.actor trace)) (same_as_itself x.actor) in
+      let has : is_in_cut (whole_of (x ∷ trace)) x.actor trace ≡ true =
+      lt-ltb (entries_of x.actor trace) (entries_of x.actor (x ∷ trace)) (omega (arith, here)) in
       omega (arith, above_all f (whole_of (x ∷ trace)) trace more, ap (λ b. cond b (f (length trace + 1) x) 0) has)
     where
       more : (a : Actor) → entries_of a trace ≤ entries_of a (x ∷ trace)
-      more a = cond_both (same_actor x.actor a) (entries_of a trace + 1) (entries_of a trace) (λ n. entries_of a trace ≤ n) (λ t. omega arith) (λ t. omega arith)
+      more a = cond_both (same_actor x.actor a) (entries_of a trace + 1) (entries_of a trace)
+          (λ n. entries_of a trace ≤ n) (λ t. omega arith) (λ t. omega arith)
 
   within_on : (cut : Cut) (a : Actor) → cut a ≤ entries_of a trace → cut a ≤ entries_of a (x ∷ trace)
   within_on cut a le = cond_both (same_actor x.actor a) (entries_of a trace + 1) (entries_of a trace) (λ n. cut a ≤ n) (λ t. omega (arith, le)) (λ t. le)
@@ -76,7 +83,8 @@ module _ (x : Entry) (trace : List Entry) where
   pub named_on : (id : PostId) (p : Post) → post_named id trace ≡ Some p → post_named id (x ∷ trace) ≡ Some p
   named_on id p = by (entry_at id.entry trace) refl
     where
-      by : (o : Option Entry) → entry_at id.entry trace ≡ o → when_some o None (λ (y : Entry). slice_get y.outputs id.place) ≡ Some p → post_named id (x ∷ trace) ≡ Some p
+      by : (o : Option Entry) → entry_at id.entry trace ≡ o
+          → when_some o None (λ (y : Entry). slice_get y.outputs id.place) ≡ Some p → post_named id (x ∷ trace) ≡ Some p
       by None f e = absurd (cc)
       by (Some y) f e = ap (λ o. when_some o None (λ (z : Entry). slice_get z.outputs id.place)) (entry_on id.entry x trace y f) ∙ e
 
@@ -102,11 +110,15 @@ module _ (x : Entry) (trace : List Entry) where
         by None f e = absurd (cc)
         by (Some y) f e = ap (λ o. when_some o false is_retry) (next_on cut a y f) ∙ e
 
-    retries_on : (cuts : List Cut) → RetriesFollow trace cuts → (is_retry x ≡ true → (cut : Cut) × IsIn cut cuts × (cut x.actor ≡ entries_of x.actor trace)) → RetriesFollow (x ∷ trace) cuts
+    retries_on : (cuts : List Cut) → RetriesFollow trace cuts
+        → (is_retry x ≡ true → (cut : Cut) × IsIn cut cuts × (cut x.actor ≡ entries_of x.actor trace))
+        → RetriesFollow (x ∷ trace) cuts
     retries_on cuts h due a n y at retry =
-        cond_both (same_actor x.actor a) (x ∷ own_entries a trace) (own_entries a trace) (λ l. entry_at (n + 1) l ≡ Some y → (cut : Cut) × IsIn cut cuts × (cut a ≡ n))
+        cond_both (same_actor x.actor a) (x ∷ own_entries a trace) (own_entries a trace)
+        (λ l. entry_at (n + 1) l ≡ Some y → (cut : Cut) × IsIn cut cuts × (cut a ≡ n))
         (λ t.
-        cond_both (eqb (n + 1) (length (own_entries a trace) + 1)) (Some x) (entry_at (n + 1) (own_entries a trace)) (λ o. o ≡ Some y → (cut : Cut) × IsIn cut cuts × (cut a ≡ n))
+        cond_both (eqb (n + 1) (length (own_entries a trace) + 1)) (Some x) (entry_at (n + 1) (own_entries a trace))
+        (λ o. o ≡ Some y → (cut : Cut) × IsIn cut cuts × (cut a ≡ n))
         (λ q s.
         let same : x ≡ y = cc in
         let r = due (ap is_retry same ∙ retry) in
@@ -119,15 +131,19 @@ module _ (x : Entry) (trace : List Entry) where
     earlier_in (k ∷ older) cut i = inr i
 
     -- where one more entry is no retry, or its actor's first after a cut, the trace is still paced by the same cuts
-    pub paced_on : (lost : ℕ) (cuts : List Cut) → IsPacedBy script trace lost cuts → (is_retry x ≡ true → (cut : Cut) × IsIn cut cuts × (cut x.actor ≡ entries_of x.actor trace))
+    pub paced_on : (lost : ℕ) (cuts : List Cut) → IsPacedBy script trace lost cuts
+        → (is_retry x ≡ true → (cut : Cut) × IsIn cut cuts × (cut x.actor ≡ entries_of x.actor trace))
         → AllByRecursion (λ (cut : Cut). length (open_at script cut (x ∷ trace)) ≤ lost) cuts → IsPacedBy script (x ∷ trace) lost cuts
     paced_on lost cuts p due few =
-        let within : (cut : Cut) → IsIn cut cuts → (a : Actor) → cut a ≤ entries_of a trace = λ cut i. each_in (λ (k : Cut). (a : Actor) → k a ≤ entries_of a trace) cuts cut p.within i in
+        let within : (cut : Cut) → IsIn cut cuts → (a : Actor) → cut a ≤ entries_of a trace =
+        λ cut i. each_in (λ (k : Cut). (a : Actor) → k a ≤ entries_of a trace) cuts cut p.within i in
         record {
-          within = each_map (λ (k : Cut). (a : Actor) → k a ≤ entries_of a trace) (λ (k : Cut). (a : Actor) → k a ≤ entries_of a (x ∷ trace)) cuts (λ k i h a. within_on k a (h a)) p.within;
+          within = each_map (λ (k : Cut). (a : Actor) → k a ≤ entries_of a trace)
+              (λ (k : Cut). (a : Actor) → k a ≤ entries_of a (x ∷ trace)) cuts (λ k i h a. within_on k a (h a)) p.within;
           rising = p.rising;
           retries = retries_on cuts p.retries due;
-          waiters = each_map (WaitersRetry script trace) (WaitersRetry script (x ∷ trace)) (earlier cuts) (λ k i h. waiters_on k (within k (earlier_in cuts k i)) h) p.waiters;
+          waiters = each_map (WaitersRetry script trace) (WaitersRetry script (x ∷ trace)) (earlier cuts)
+              (λ k i h. waiters_on k (within k (earlier_in cuts k i)) h) p.waiters;
           calls = each_map (HasCallUnderWay trace) (HasCallUnderWay (x ∷ trace)) cuts (λ k i h. calls_on k (within k i) h) p.calls;
           few_open = few;
         }

@@ -59,18 +59,25 @@ is_it m x = by (mailed x m)
 
 module _ (script : Script) (clock : TableId) (boxes : List Boxed) (w : ℕ) where
   -- what was taken some actor made
-  taken_made : (now : List Crew) → AllByRecursion (IsCrew script clock boxes w) now → AreOnce now → (d : Desk) → IsIn d (desks_of now) → (m : Mailed) → IsIn m (map (λ (s : Sent). s.mailed) (ins_of d.inbox))
+  taken_made : (now : List Crew) → AllByRecursion (IsCrew script clock boxes w) now → AreOnce now → (d : Desk)
+      → IsIn d (desks_of now) → (m : Mailed) → IsIn m (map (λ (s : Sent). s.mailed) (ins_of d.inbox))
       → (e : Desk) × IsIn e (desks_of now) × IsIn m (made_by e.part.items)
   taken_made now crews once d i m j =
       let h : Mailed → ℕ = of_it m in
-      let here : 1 ≤ total h (map (λ (s : Sent). s.mailed) (ins_of d.inbox)) = omega (arith, itself m, total_least h (map (λ (s : Sent). s.mailed) (ins_of d.inbox)) m j) in
-      let taken : 1 ≤ taken_weight h now = omega (arith, here, total_least (λ (x : Desk). total h (map (λ (s : Sent). s.mailed) (ins_of x.inbox))) (desks_of now) d i) in
+      let here : 1 ≤ total h (map (λ (s : Sent). s.mailed) (ins_of d.inbox)) =
+      omega (arith, itself m, total_least h (map (λ (s : Sent). s.mailed) (ins_of d.inbox)) m j) in
+      let taken : 1 ≤ taken_weight h now = omega (
+        arith,
+        here,
+        total_least (λ (x : Desk). total h (map (λ (s : Sent). s.mailed) (ins_of x.inbox))) (desks_of now) d i,
+      ) in
       let put : 1 ≤ put_total h now = omega (arith, taken, once h) in
       let c = total_some (λ (x : Crew). out_weight h x.out.ports.items) now put in
       let e = put_counts c.0 (each_in (IsCrew script clock boxes w) now c.0 crews c.1).booked h c.2 in
       (e.0, in_flat (λ (x : Crew). x.desks.items) now c.0 e.0 c.1 e.1, subst (λ x. IsIn x (made_by e.0.part.items)) (is_it m e.2.0 e.2.2) e.2.1)
 
-may_take : (trace : List Entry) (a : Actor) (input : Input) → input ≢ Halt → ((m : Mailed) → IsIn m (told_by a input) → post_named m.id trace ≡ Some m.post) → MayTake trace a input
+may_take : (trace : List Entry) (a : Actor) (input : Input) → input ≢ Halt
+    → ((m : Mailed) → IsIn m (told_by a input) → post_named m.id trace ≡ Some m.post) → MayTake trace a input
 may_take trace a Tick n found = tt
 may_take trace a Halt n found = absurd (n refl)
 may_take trace a (Deliver id from message) n found = found (with_name id (post from a message)) (inl refl)
@@ -93,10 +100,13 @@ module _ (script : Script) (clock : TableId) (boxes : List Boxed) (w : ℕ) (sta
       let a : Actor = d.actor in
       let input : Input = more.input in
       let made = merged_run script (parts_of now) merged (own_parts script clock boxes w start now run) whole is in
-      let own : own_entries a trace ≡ past_of d.part.items = each_in (λ (p : ActorPart). own_entries p.actor trace ≡ past_of p.part) (parts_of now) (part_of d) made.own (in_map part_of (desks_of now) d i) in
+      let own : own_entries a trace ≡ past_of d.part.items =
+      each_in (λ (p : ActorPart). own_entries p.actor trace ≡ past_of p.part) (parts_of now) (part_of d) made.own
+      (in_map part_of (desks_of now) d i) in
       let same : own_entries a trace ≡ entries_before d.part.items = own ∙ sym (past_is_before d.part.items) in
       let c = of_flat (λ (x : Crew). x.desks.items) now d i in
-      let desk = (each_in (IsDeskOf script clock boxes w c.0) c.0.desks.items d (each_in (IsCrew script clock boxes w) now c.0 run.crews c.1).desks c.2).broken.desk in
+      let desk = (each_in (IsDeskOf script clock boxes w c.0) c.0.desks.items d
+      (each_in (IsCrew script clock boxes w) now c.0 run.crews c.1).desks c.2).broken.desk in
       let step : IsStep script trace (entry_of a input (made_of script (entries_before d.part.items) a input)) =
       record {
         actor = desk.exists;

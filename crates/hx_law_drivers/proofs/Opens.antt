@@ -1,5 +1,7 @@
 -- Where drivers are at rest, what was put was delivered, or came to a halted server: so what is open was lost.
-use Rattle.std.proofs.Common.{◌≡◌, ℕ, zero, suc, ◌+◌, ◌-◌, ◌*◌, ◌<◌, ◌≤◌, inl, inr, ⊎_elim, Bool, true, false, cond, eqb, List, [], ◌∷◌, map, length, Some, None, slice_get, slice_index_or, refl, ap, sym, subst, ◌∙◌, arith}
+use Rattle.std.proofs.Common.{◌≡◌, ℕ, zero, suc, ◌+◌, ◌-◌, ◌*◌, ◌<◌, ◌≤◌, inl, inr, ⊎_elim, Bool, true, false, cond}
+use Rattle.std.proofs.Common.{eqb, List, [], ◌∷◌, map, length, Some, None, slice_get, slice_index_or, refl, ap, sym}
+use Rattle.std.proofs.Common.{subst, ◌∙◌, arith}
 use Rattle.std.specs.Prelude.{◌&&◌, nat_le, nat_lt}
 use Rattle.std.specs.List.{AllByRecursion}
 use Rattle.std.proofs.lemmas.Bool.{and_from, and_parts, eqb-true, le-leb, leb-true, lt-ltb, ltb-true}
@@ -33,7 +35,8 @@ use Rattle.hx_driver.specs.Slices.{IsLaterCrew}
 use Rattle.hx_law_drivers.specs.Crews.{desks_of, lost_by, HaveAllActors}
 use Rattle.hx_law_drivers.specs.Joined.{outs_at, AreInOrder, IsInOrderOf}
 use Rattle.hx_law_drivers.specs.Rests.{AreAtRest, HasHeard, IsRested}
-use Rattle.hx_law_drivers.proofs.Lists.{both_in, bool_cases, in_flat, lt_or_le, of_flat, prefix_same, total_least, total_nothing, total_of_flat, total_of_map, total_some, total_under}
+use Rattle.hx_law_drivers.proofs.Lists.{both_in, bool_cases, in_flat, lt_or_le, of_flat, prefix_same, total_least}
+use Rattle.hx_law_drivers.proofs.Lists.{total_nothing, total_of_flat, total_of_map, total_some, total_under}
 use Rattle.hx_law_drivers.proofs.Desks.{later_desks, AreLater}
 use Rattle.hx_law_drivers.proofs.Seen.{past_is_before, seen_delivered, seen_posted, IsSeen}
 
@@ -94,18 +97,31 @@ outs_owned j (suc n) (b ∷ boxes) (p ∷ ps) m h i = outs_owned j n boxes ps m 
 -- an actor of the script exists, and each place is that of one
 actor_exists : (script : Script) (a : Actor) → is_actor script a ≡ true → Exists script a
 actor_exists script Coordinator h = tt
-actor_exists script (Server s) h = let p = and_parts (nat_lt 0 s.0) (nat_le s.0 script.space.servers) h in (ltb-true 0 s.0 p.0, leb-true s.0 script.space.servers p.1)
-actor_exists script (Session u) h = let p = and_parts (nat_lt 0 u.0) (nat_le u.0 (length script.sessions)) h in (ltb-true 0 u.0 p.0, leb-true u.0 (length script.sessions) p.1)
+actor_exists script (Server s) h = let p = and_parts (nat_lt 0 s.0) (nat_le s.0 script.space.servers) h in
+    (ltb-true 0 s.0 p.0, leb-true s.0 script.space.servers p.1)
+actor_exists script (Session u) h = let p = and_parts (nat_lt 0 u.0) (nat_le u.0 (length script.sessions)) h in
+    (ltb-true 0 u.0 p.0, leb-true u.0 (length script.sessions) p.1)
 
-actor_at : (script : Script) (n : ℕ) → n < 1 + script.space.servers + length script.sessions → (a : Actor) × (is_actor script a ≡ true) × (place_of script.space a ≡ n)
+actor_at : (script : Script) (n : ℕ) → n < 1 + script.space.servers + length script.sessions → (a : Actor)
+    × (is_actor script a ≡ true) × (place_of script.space a ≡ n)
 actor_at script zero lt = (Coordinator, refl, refl)
 actor_at script (suc n) lt =
     ⊎_elim
-    (λ (h : n < script.space.servers). (Server (record { 0 = suc n }), and_from (nat_lt 0 (suc n)) (nat_le (suc n) script.space.servers) (lt-ltb 0 (suc n) (omega arith)) (le-leb (suc n) script.space.servers (omega (arith, h))), refl))
+    (λ (h : n < script.space.servers). (
+      Server (record { 0 = suc n }),
+      and_from (nat_lt 0 (suc n)) (nat_le (suc n) script.space.servers) (lt-ltb 0 (suc n) (omega arith))
+          (le-leb (suc n) script.space.servers (omega (arith, h))),
+      refl,
+    ))
     (λ (h : script.space.servers ≤ n).
     let k : ℕ = suc n - script.space.servers in
-    let sum : script.space.servers + k ≡ suc n = omega (arith, h) in
-    (Session (record { 0 = k }), and_from (nat_lt 0 k) (nat_le k (length script.sessions)) (lt-ltb 0 k (omega (arith, sum, h))) (le-leb k (length script.sessions) (omega (arith, sum, lt))), sum)) (lt_or_le n script.space.servers)
+    let sum : script.space.servers + k ≡ suc n = omega (arith, h) in (
+      Session (record { 0 = k }),
+      and_from (nat_lt 0 k) (nat_le k (length script.sessions))
+          (lt-ltb 0 k (omega (arith, sum, h))) (le-leb k (length script.sessions) (omega (arith, sum, lt))),
+      sum,
+    ))
+    (lt_or_le n script.space.servers)
 
 -- offers: what was put at all was offered, and of what wasn't put all was lost
 offered_some : (h : Mailed → ℕ) (os : List Offer) → 1 ≤ put_weight h os → 1 ≤ total (λ (o : Offer). h o.mailed) os
@@ -156,7 +172,8 @@ pub put_counts : (c : Crew) → IsBooked c → (h : Mailed → ℕ) → 1 ≤ ou
 put_counts c booked h some =
     let b = booked.offered in
     let put : 1 ≤ put_weight h b.offers = omega (arith, some, b.put h) in
-    let posts : total h booked.posts ≡ total (λ (o : Offer). h o.mailed) b.offers = ap (total h) (sym b.are) ∙ total_of_map (λ (o : Offer). o.mailed) h b.offers in
+    let posts : total h booked.posts ≡ total (λ (o : Offer). h o.mailed) b.offers =
+    ap (total h) (sym b.are) ∙ total_of_map (λ (o : Offer). o.mailed) h b.offers in
     let made : 1 ≤ made_weight h c.desks.items = omega (arith, offered_some h b.offers put, posts, booked.made h) in
     let d = total_some (λ (d : Desk). total h (made_by d.part.items)) c.desks.items made in
     (d.0, d.1, total_some h (made_by d.0.part.items) d.2)
@@ -169,10 +186,12 @@ put_was_made c booked m n i =
     let self : h m ≡ 1 = ap one (and_from (same_name m.id m.id) (same_actor m.post.to m.post.to) (same_self m.id) (same_as_itself m.post.to)) in
     let d = put_counts c booked h (omega (arith, self, total_least h (outs_at n c.out.ports.items) m i, outs_least h n c.out.ports.items)) in
     let x = d.2 in
-    let both = and_parts (same_name x.0.id m.id) (same_actor x.0.post.to m.post.to) (one_true (same_name x.0.id m.id && same_actor x.0.post.to m.post.to) x.2) in
+    let both = and_parts (same_name x.0.id m.id) (same_actor x.0.post.to m.post.to)
+    (one_true (same_name x.0.id m.id && same_actor x.0.post.to m.post.to) x.2) in
     (d.0, d.1, (x.0, x.1, name_is x.0.id m.id both.0, same_actor_is x.0.post.to m.post.to both.1))
 
-module _ (script : Script) (clock : TableId) (boxes : List Boxed) (w : ℕ) (boxes_are : AreBoxes script clock boxes) (cut now : List Crew) (crews : AllByRecursion (IsCrew script clock boxes w) cut)
+module _ (script : Script) (clock : TableId) (boxes : List Boxed) (w : ℕ) (boxes_are : AreBoxes script clock boxes)
+    (cut now : List Crew) (crews : AllByRecursion (IsCrew script clock boxes w) cut)
     (rest : AreAtRest script cut) (later : AreLater cut now) (order : AreInOrder script now) (actors : HaveAllActors script cut) where
   crew_of : (c : Crew) → IsIn c cut → IsCrew script clock boxes w c
   crew_of c i = each_in (IsCrew script clock boxes w) cut c crews i
@@ -180,10 +199,12 @@ module _ (script : Script) (clock : TableId) (boxes : List Boxed) (w : ℕ) (box
   whole_desk : (d : Desk) → IsIn d (desks_of cut) → IsWholeDesk script clock boxes w d
   whole_desk d j =
       let c = desk_in cut d j in
-      (each_in (IsDeskOf script clock boxes w c.0) c.0.desks.items d (crew_of c.0 c.1).desks c.2).whole (each_in (λ (x : Crew). x.fault ≡ None) cut c.0 rest.calm c.1)
+      (each_in (IsDeskOf script clock boxes w c.0) c.0.desks.items d (crew_of c.0 c.1).desks c.2).whole
+      (each_in (λ (x : Crew). x.fault ≡ None) cut c.0 rest.calm c.1)
 
   -- all that a driver put for an actor was taken
-  took : (c : Crew) (d : Desk) → IsIn c cut → IsIn d (desks_of cut) → put_by (c.out.index + 1) (ins_of d.inbox) ≡ outs_at (place_of script.space d.actor) c.out.ports.items
+  took : (c : Crew) (d : Desk) → IsIn c cut → IsIn d (desks_of cut)
+      → put_by (c.out.index + 1) (ins_of d.inbox) ≡ outs_at (place_of script.space d.actor) c.out.ports.items
   took c d i j =
       let key : ℕ = c.out.index + 1 in
       let place : ℕ = place_of script.space d.actor in
@@ -199,11 +220,13 @@ module _ (script : Script) (clock : TableId) (boxes : List Boxed) (w : ℕ) (box
       let b = sent_at c.out.ports.items place heard.count (ap (λ l. slice_get l place) (sym (crew_of c i).out.counted) ∙ heard.sent) in
       let z : key ≡ 0 + key = omega arith in
       prefix_same (put_by key (ins_of d.inbox)) (outs_at place c.out.ports.items) (outs_at place k.0.out.ports.items)
-      (begins-trans (put_by key (ins_of d.inbox)) (put_by key (ins_of e.0.inbox)) (outs_at place k.0.out.ports.items) (put_begins key (ins_of d.inbox) (ins_of e.0.inbox) e.2.ins) placed)
+      (begins-trans (put_by key (ins_of d.inbox)) (put_by key (ins_of e.0.inbox)) (outs_at place k.0.out.ports.items)
+      (put_begins key (ins_of d.inbox) (ins_of e.0.inbox) e.2.ins) placed)
       (outs_more place c.out.ports.items k.0.out.ports.items k.2.put) (ap (λ n. length (put_by n (ins_of d.inbox))) z ∙ sym a ∙ b)
 
   -- what was put for an actor is addressed to it
-  put_for : (c : Crew) (d : Desk) → IsIn c cut → IsIn d (desks_of cut) → (m : Mailed) → IsIn m (outs_at (place_of script.space d.actor) c.out.ports.items) → m.post.to ≡ d.actor
+  put_for : (c : Crew) (d : Desk) → IsIn c cut → IsIn d (desks_of cut) → (m : Mailed)
+      → IsIn m (outs_at (place_of script.space d.actor) c.out.ports.items) → m.post.to ≡ d.actor
   put_for c d i j m at =
       let owned = outs_owned c.out.index (place_of script.space d.actor) boxes c.out.ports.items m (crew_of c i).out.ports at in
       owned.2 ∙ ap (λ (n : BoxNames). n.owner) (boxes_are.each d.actor (actor_exists script d.actor (whole_desk d j).desk.exists) owned.0 owned.1)
@@ -223,24 +246,28 @@ module _ (script : Script) (clock : TableId) (boxes : List Boxed) (w : ℕ) (box
         ∙ ap (λ a. has_halted script (own_at k trace a) a) to
         ∙ ap (λ l. has_halted script l d.actor) (seen.own d j ∙ sym (past_is_before d.part.items)) ∙ halted
 
-    module _ (test : PostId → Bool) (none : (id : PostId) → IsIn id (delivered_at k trace) → test id ≡ false) (halted : (id : PostId) → is_to_halted script k trace id ≡ true → test id ≡ false) where
+    module _ (test : PostId → Bool) (none : (id : PostId) → IsIn id (delivered_at k trace) → test id ≡ false)
+        (halted : (id : PostId) → is_to_halted script k trace id ≡ true → test id ≡ false) where
       abbrev weight : Mailed → ℕ
       weight m = one (test m.id)
 
       told_none : (d : Desk) → IsIn d (desks_of cut) → total weight (told d.part.items) ≡ 0
       told_none d j =
           let all : total (λ (x : Desk). total weight (told x.part.items)) (desks_of cut) ≡ 0 =
-          sym (seen_delivered trace k (desks_of cut) seen (λ id. one (test id))) ∙ total_nothing (λ id. one (test id)) (delivered_at k trace) (λ id i. ap one (none id i)) in
+          sym (seen_delivered trace k (desks_of cut) seen (λ id. one (test id)))
+          ∙ total_nothing (λ id. one (test id)) (delivered_at k trace) (λ id i. ap one (none id i)) in
           omega (arith, all, total_least (λ (x : Desk). total weight (told x.part.items)) (desks_of cut) d j)
 
-      put_none : (c : Crew) (d : Desk) → IsIn c cut → IsIn d (desks_of cut) → (m : Mailed) → IsIn m (outs_at (place_of script.space d.actor) c.out.ports.items) → weight m ≡ 0
+      put_none : (c : Crew) (d : Desk) → IsIn c cut → IsIn d (desks_of cut) → (m : Mailed)
+          → IsIn m (outs_at (place_of script.space d.actor) c.out.ports.items) → weight m ≡ 0
       put_none c d i j m at =
           let whole = whole_desk d j in
           let taken = put_in (c.out.index + 1) (ins_of d.inbox) m (subst (IsIn m) (sym (took c d i j)) at) in
           ⊎_elim (λ (t : IsIn m (told d.part.items)). omega (arith, told_none d j, total_least weight (told d.part.items) m t))
           (λ (r : IsIn m whole.rest).
           ⊎_elim (λ (e : has_halted script (entries_before d.part.items) d.actor ≡ true). ap one (halted m.id (to_halted c d i j m at e)))
-          (λ (e : has_halted script (entries_before d.part.items) d.actor ≡ false). absurd (subst (IsIn m) (whole.delivered e) r)) (bool_cases (has_halted script (entries_before d.part.items) d.actor)))
+          (λ (e : has_halted script (entries_before d.part.items) d.actor ≡ false). absurd
+          (subst (IsIn m) (whole.delivered e) r)) (bool_cases (has_halted script (entries_before d.part.items) d.actor)))
           (in_append (told d.part.items) whole.rest m (subst (IsIn m) (sym whole.desk.told) taken))
 
       outs_none : (c : Crew) → IsIn c cut → out_weight weight c.out.ports.items ≡ 0
@@ -264,7 +291,8 @@ module _ (script : Script) (clock : TableId) (boxes : List Boxed) (w : ℕ) (box
           let booked = (crew_of c i).booked in
           let b = booked.offered in
           let put : put_weight weight b.offers ≡ 0 = omega (arith, b.put weight, outs_none c i, kept_none c i) in
-          let posts : total weight booked.posts ≡ total (λ (o : Offer). weight o.mailed) b.offers = ap (total weight) (sym b.are) ∙ total_of_map (λ (o : Offer). o.mailed) weight b.offers in
+          let posts : total weight booked.posts ≡ total (λ (o : Offer). weight o.mailed) b.offers =
+          ap (total weight) (sym b.are) ∙ total_of_map (λ (o : Offer). o.mailed) weight b.offers in
           let lose = b.lose in
           omega (arith, lost_all (λ m. test m.id) b.offers put, booked.made weight, posts, lose)
 

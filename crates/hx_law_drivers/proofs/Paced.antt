@@ -1,5 +1,6 @@
 -- The trace of a run of drivers is paced by the cuts of its course.
-use Rattle.std.proofs.Common.{◌≡◌, ℕ, zero, suc, ◌≤◌, Bool, true, false, List, [], ◌∷◌, ◌++◌, map, length, Some, slice_get, option_map, refl, ap, sym, subst, ◌∙◌, arith, true≢false}
+use Rattle.std.proofs.Common.{◌≡◌, ℕ, zero, suc, ◌≤◌, Bool, true, false, List, [], ◌∷◌, ◌++◌, map, length, Some}
+use Rattle.std.proofs.Common.{slice_get, option_map, refl, ap, sym, subst, ◌∙◌, arith, true≢false}
 use Rattle.std.specs.Prelude.{not, ◌&&◌}
 use Rattle.std.specs.List.{AllByRecursion, IsDistinct}
 use Rattle.atomic_table.specs.Seated.{TableId}
@@ -32,7 +33,8 @@ use Rattle.hx_law_drivers.specs.Crews.{cut_of, desks_of, doubled_by, lost_by, pa
 use Rattle.hx_law_drivers.specs.Laws.{HaveRun, IsDue}
 use Rattle.hx_law_drivers.specs.Rests.{AreAtRest, IsRested}
 use Rattle.hx_law_drivers.proofs.Lists.{bools_same, both_and, both_back, both_in, both_self, each_of_map, each_two, of_flat, prefix_take}
-use Rattle.hx_law_drivers.proofs.Desks.{actors_later, actors_of_parts, all_parts, crew_self, entries_of_desk, have_cut, later_desks, lost_before, AreCalm, AreLater}
+use Rattle.hx_law_drivers.proofs.Desks.{actors_later, actors_of_parts, all_parts, crew_self, entries_of_desk, have_cut}
+use Rattle.hx_law_drivers.proofs.Desks.{later_desks, lost_before, AreCalm, AreLater}
 use Rattle.hx_law_drivers.proofs.Courses.{cuts_are, cuts_later, cuts_rise, cuts_since, earlier_retry, retries_follow, start_later, waiters_retry, RetriesNext}
 use Rattle.hx_law_drivers.proofs.Longer.{named_on, paced_on, seen_on}
 use Rattle.hx_law_drivers.proofs.Seen.{found_before, length_past, past_is_before, seen_before, seen_now, IsSeen}
@@ -62,7 +64,8 @@ module _ (script : Script) (clock : TableId) (boxes : List Boxed) (w : ℕ) wher
   own_part : (crews : List Crew) → AllByRecursion (IsCrew script clock boxes w) crews → (d : Desk) → IsIn d (desks_of crews) → IsOwnPart script (part_of d)
   own_part crews k d i =
       let c = of_flat (λ (x : Crew). x.desks.items) crews d i in
-      let desk = (each_in (IsDeskOf script clock boxes w c.0) c.0.desks.items d (each_in (IsCrew script clock boxes w) crews c.0 k c.1).desks c.2).broken.desk in
+      let desk = (each_in (IsDeskOf script clock boxes w c.0) c.0.desks.items d
+      (each_in (IsCrew script clock boxes w) crews c.0 k c.1).desks c.2).broken.desk in
       (desk.exists, subst (IsOwn script d.actor) (past_is_before d.part.items) desk.own)
 
   module _ (start now : List Crew) (run : HaveRun script clock boxes w start now) where
@@ -71,7 +74,8 @@ module _ (script : Script) (clock : TableId) (boxes : List Boxed) (w : ℕ) wher
 
     pub own_parts : AreOwnParts script (parts_of now)
     own_parts = record {
-      own = each_of_map part_of (IsOwnPart script) (desks_of now) (each_all (λ (d : Desk). IsOwnPart script (part_of d)) (desks_of now) (λ d i. own_part now run.crews d i));
+      own = each_of_map part_of (IsOwnPart script) (desks_of now)
+          (each_all (λ (d : Desk). IsOwnPart script (part_of d)) (desks_of now) (λ d i. own_part now run.crews d i));
       apart = subst (IsDistinct same_actor) (sym (actors_of_parts (desks_of now))) actors_now.apart;
     }
 
@@ -94,7 +98,12 @@ module _ (script : Script) (clock : TableId) (boxes : List Boxed) (w : ℕ) wher
           (λ k i.
           let later = each_in (λ (c : List Crew). AreLater c now) run.cuts k (cuts_later script clock boxes w start run.cuts now run.course) i in
           let since = each_in (λ (c : List Crew). AreLater start c) run.cuts k (cuts_since script clock boxes w start run.cuts now run.course) i in
-          record { cut = each_in (IsCutAt script clock boxes w) run.cuts k (cuts_are script clock boxes w start run.cuts now run.course) i; later = later; actors = actors_later script start k since run.actors })
+          record {
+            cut = each_in (IsCutAt script clock boxes w) run.cuts k
+                (cuts_are script clock boxes w start run.cuts now run.course) i;
+            later = later;
+            actors = actors_later script start k since run.actors;
+          })
 
       -- what holds at each moment holds of its cut
       at_moments : (P : Cut → Type 0) → ((k : List Crew) → IsMoment k → P (cut_of k)) → AllByRecursion P (map cut_of run.cuts)
@@ -110,9 +119,14 @@ module _ (script : Script) (clock : TableId) (boxes : List Boxed) (w : ℕ) wher
           let u = session_goes script (entries_before d.0.part.items) d.0.actor d.2 rested.idle in
           let e = both_in IsLater (desks_of k) (desks_of now) d.0 (later_desks k now m.later) d.1 in
           let same : past_at (cut_of k) (part_of e.0) ≡ entries_before d.0.part.items =
-          ap past_of (prefix_take d.0.part.items e.0.part.items (cut_of k e.0.actor) e.2.part (ap (cut_of k) e.2.actor ∙ entries_of_desk (desks_of k) d.0 m.actors.apart d.1))
+          ap past_of (prefix_take d.0.part.items e.0.part.items (cut_of k e.0.actor) e.2.part
+          (ap (cut_of k) e.2.actor ∙ entries_of_desk (desks_of k) d.0 m.actors.apart d.1))
           ∙ sym (past_is_before d.0.part.items) in
-          tells.calls (cut_of k) (part_of e.0, in_map part_of (desks_of now) e.0 e.1, (u.0, e.2.actor ∙ u.1, ap (λ l. (session_of script u.0 l).under_way) same ∙ u.2))
+          tells.calls (cut_of k) (
+            part_of e.0,
+            in_map part_of (desks_of now) e.0 e.1,
+            (u.0, e.2.actor ∙ u.1, ap (λ l. (session_of script u.0 l).under_way) same ∙ u.2),
+          )
 
       open_moment : (k : List Crew) → IsMoment k → length (open_at script (cut_of k) trace) ≤ lost_by now
       open_moment k m =
@@ -123,8 +137,10 @@ module _ (script : Script) (clock : TableId) (boxes : List Boxed) (w : ℕ) wher
       follow : PartsFollow (parts_of now) (map cut_of run.cuts)
       follow =
           each_of_map part_of
-          (λ (p : ActorPart). (n : ℕ) (x : Entry) → entry_in p.part n ≡ Some x → is_retry x ≡ true → (cut : Cut) × IsIn cut (map cut_of run.cuts) × (cut p.actor ≡ n)) (desks_of now)
-          (each_all (λ (e : Desk). (n : ℕ) (x : Entry) → entry_in e.part.items n ≡ Some x → is_retry x ≡ true → (cut : Cut) × IsIn cut (map cut_of run.cuts) × (cut e.actor ≡ n)) (desks_of now)
+          (λ (p : ActorPart). (n : ℕ) (x : Entry) → entry_in p.part n ≡ Some x → is_retry x ≡ true → (cut : Cut)
+          × IsIn cut (map cut_of run.cuts) × (cut p.actor ≡ n)) (desks_of now)
+          (each_all (λ (e : Desk). (n : ℕ) (x : Entry) → entry_in e.part.items n ≡ Some x → is_retry x ≡ true
+          → (cut : Cut) × IsIn cut (map cut_of run.cuts) × (cut e.actor ≡ n)) (desks_of now)
           (λ e i n x at retry.
           let z = entry_stamped e.part.items n x at in
           let r = retries_follow script clock boxes w start run.cuts now run.new run.course e i n z.0 z.1 (ap is_retry z.2 ∙ retry) in
@@ -137,34 +153,47 @@ module _ (script : Script) (clock : TableId) (boxes : List Boxed) (w : ℕ) wher
           tells.waiters (cut_of k) (all_parts script now actors_now)
           (each_of_map part_of
           (λ (p : ActorPart). when_some (entry_in p.part (cut_of k p.actor)) false is_retry ≡ is_waiting script (past_at (cut_of k) p) p.actor) (desks_of now)
-          (each_all (λ (e : Desk). when_some (entry_in e.part.items (cut_of k e.actor)) false is_retry ≡ is_waiting script (past_at (cut_of k) (part_of e)) e.actor) (desks_of now) (λ e i. waits_or_not e i)))
+          (each_all (λ (e : Desk). when_some (entry_in e.part.items (cut_of k e.actor)) false is_retry
+          ≡ is_waiting script (past_at (cut_of k) (part_of e)) e.actor) (desks_of now) (λ e i. waits_or_not e i)))
         where
-          waits_or_not : (e : Desk) → IsIn e (desks_of now) → when_some (entry_in e.part.items (cut_of k e.actor)) false is_retry ≡ is_waiting script (past_at (cut_of k) (part_of e)) e.actor
+          waits_or_not : (e : Desk) → IsIn e (desks_of now)
+              → when_some (entry_in e.part.items (cut_of k e.actor)) false is_retry
+              ≡ is_waiting script (past_at (cut_of k) (part_of e)) e.actor
           waits_or_not e i =
               let n : ℕ = cut_of k e.actor in
-              let d = both_back (λ d e. IsLater d e × RetriesNext script d e) (desks_of k) (desks_of now) e (both_and IsLater (RetriesNext script) (desks_of k) (desks_of now) (later_desks k now m.later) next) i in
+              let d = both_back (λ d e. IsLater d e × RetriesNext script d e) (desks_of k) (desks_of now) e
+              (both_and IsLater (RetriesNext script) (desks_of k) (desks_of now) (later_desks k now m.later) next) i in
               let count : n ≡ length d.0.part.items = ap (cut_of k) d.2.0.actor ∙ entries_of_desk (desks_of k) d.0 m.actors.apart d.1 in
-              let same : past_at (cut_of k) (part_of e) ≡ entries_before d.0.part.items = ap past_of (prefix_take d.0.part.items e.part.items n d.2.0.part count) ∙ sym (past_is_before d.0.part.items) in
+              let same : past_at (cut_of k) (part_of e) ≡ entries_before d.0.part.items =
+              ap past_of (prefix_take d.0.part.items e.part.items n d.2.0.part count) ∙ sym (past_is_before d.0.part.items) in
               let made = merged_run script (parts_of now) merged own_parts whole is in
-              let read = each_in (IsReadInPart trace) (parts_of now) (part_of e) (read_in_parts (parts_of now) trace made.own) (in_map part_of (desks_of now) e i) in
+              let read = each_in (IsReadInPart trace) (parts_of now) (part_of e)
+              (read_in_parts (parts_of now) trace made.own) (in_map part_of (desks_of now) e i) in
               bools_same (when_some (entry_in e.part.items n) false is_retry) (is_waiting script (past_at (cut_of k) (part_of e)) e.actor)
-              (λ t. ap (λ l. is_waiting script l e.actor) (sym (read.own n)) ∙ retriers_waited script trace made.run (cut_of k) e.actor (ap (λ o. when_some o false is_retry) (read.next n) ∙ t))
+              (λ t. ap (λ l. is_waiting script l e.actor) (sym (read.own n))
+              ∙ retriers_waited script trace made.run (cut_of k) e.actor
+              (ap (λ o. when_some o false is_retry) (read.next n) ∙ t))
               (λ t.
-              let x = d.2.1 (ap (λ a. is_waiting script (entries_before d.0.part.items) a) (sym d.2.0.actor) ∙ ap (λ l. is_waiting script l e.actor) (sym same) ∙ t) in
-              ap (λ j. when_some (entry_in e.part.items j) false is_retry) count ∙ ap (λ o. when_some (option_map (λ (z : Stamped). z.entry) o) false is_retry) x.1 ∙ x.2)
+              let x = d.2.1 (ap (λ a. is_waiting script (entries_before d.0.part.items) a) (sym d.2.0.actor)
+              ∙ ap (λ l. is_waiting script l e.actor) (sym same) ∙ t) in
+              ap (λ j. when_some (entry_in e.part.items j) false is_retry) count
+              ∙ ap (λ o. when_some (option_map (λ (z : Stamped). z.entry) o) false is_retry) x.1 ∙ x.2)
 
       -- after each cut but the last one, and after the last one too where no driver met a fault
-      earlier_waiters : (cuts : List (List Crew)) → IsCourse script clock boxes w start cuts now → AllByRecursion IsMoment cuts → AllByRecursion (WaitersRetry script trace) (earlier (map cut_of cuts))
+      earlier_waiters : (cuts : List (List Crew)) → IsCourse script clock boxes w start cuts now
+          → AllByRecursion IsMoment cuts → AllByRecursion (WaitersRetry script trace) (earlier (map cut_of cuts))
       earlier_waiters [] h m = tt
       earlier_waiters (cut ∷ older) h m =
           each_of_map cut_of (WaitersRetry script trace) older
-          (each_two IsMoment (λ (k : List Crew). Both (RetriesNext script) (desks_of k) (desks_of now)) (λ (k : List Crew). WaitersRetry script trace (cut_of k)) waiters_moment older m.1
+          (each_two IsMoment (λ (k : List Crew). Both (RetriesNext script) (desks_of k) (desks_of now))
+          (λ (k : List Crew). WaitersRetry script trace (cut_of k)) waiters_moment older m.1
           (earlier_retry script clock boxes w start cut older now h))
 
       all_waiters : AreCalm now → AllByRecursion (WaitersRetry script trace) (map cut_of run.cuts)
       all_waiters calm =
           each_of_map cut_of (WaitersRetry script trace) run.cuts
-          (each_two IsMoment (λ (k : List Crew). Both (RetriesNext script) (desks_of k) (desks_of now)) (λ (k : List Crew). WaitersRetry script trace (cut_of k)) waiters_moment run.cuts moments
+          (each_two IsMoment (λ (k : List Crew). Both (RetriesNext script) (desks_of k) (desks_of now))
+          (λ (k : List Crew). WaitersRetry script trace (cut_of k)) waiters_moment run.cuts moments
           (waiters_retry script clock boxes w start run.cuts now run.course calm))
 
       paced_by : IsPacedBy script trace (lost_by now) (map cut_of run.cuts)
@@ -197,14 +226,21 @@ module _ (script : Script) (clock : TableId) (boxes : List Boxed) (w : ℕ) wher
         due_cut k =
             let m = each_in IsMoment run.cuts k.0 moments k.1 in
             let made = merged_run script (parts_of now) merged own_parts whole is in
-            let own : own_entries d.actor trace ≡ past_of d.part.items = each_in (λ (p : ActorPart). own_entries p.actor trace ≡ past_of p.part) (parts_of now) (part_of d) made.own (in_map part_of (desks_of now) d is_desk) in
-            let count : entries_of x.actor trace ≡ length d.part.items = ap (λ a. entries_of a trace) actor ∙ count-own d.actor trace ∙ ap length own ∙ length_past d.part.items in
-            (cut_of k.0, in_map cut_of run.cuts k.0 k.1, ap (cut_of k.0) (actor ∙ k.2.2) ∙ entries_of_desk (desks_of k.0) k.2.0 m.actors.apart k.2.1 ∙ k.2.3 ∙ sym count)
+            let own : own_entries d.actor trace ≡ past_of d.part.items =
+            each_in (λ (p : ActorPart). own_entries p.actor trace ≡ past_of p.part) (parts_of now)
+            (part_of d) made.own (in_map part_of (desks_of now) d is_desk) in
+            let count : entries_of x.actor trace ≡ length d.part.items =
+            ap (λ a. entries_of a trace) actor ∙ count-own d.actor trace ∙ ap length own ∙ length_past d.part.items in (
+              cut_of k.0,
+              in_map cut_of run.cuts k.0 k.1,
+              ap (cut_of k.0) (actor ∙ k.2.2) ∙ entries_of_desk (desks_of k.0) k.2.0 m.actors.apart k.2.1 ∙ k.2.3 ∙ sym count,
+            )
 
         pub paced_further : (is_retry x ≡ true → IsDue run.cuts d) → IsPaced script (x ∷ trace) (lost_by now) (doubled_by now)
         paced_further due = record {
           cuts = map cut_of run.cuts;
-          paced = paced_on x trace script run_on (lost_by now) (map cut_of run.cuts) paced_by (λ t. due_cut (due t)) (at_moments (λ (cut : Cut). length (open_at script cut (x ∷ trace)) ≤ lost_by now) open_on);
+          paced = paced_on x trace script run_on (lost_by now) (map cut_of run.cuts) paced_by (λ t. due_cut (due t))
+              (at_moments (λ (cut : Cut). length (open_at script cut (x ∷ trace)) ≤ lost_by now) open_on);
           repeated = repeats_on script clock boxes w now run.crews run.once trace seen_end x d is_desk took;
         }
 
@@ -218,6 +254,7 @@ module _ (script : Script) (clock : TableId) (boxes : List Boxed) (w : ℕ) wher
             cuts = map cut_of run.cuts;
             paced = paced_by;
             waiters = all_waiters rest.calm;
-            few_open = few_open script clock boxes w run.boxes_are now now run.crews rest same run.order actors_now trace (whole_of trace) seen_end (found_before script now merged own_parts whole is now same);
+            few_open = few_open script clock boxes w run.boxes_are now now run.crews rest same run.order actors_now
+                trace (whole_of trace) seen_end (found_before script now merged own_parts whole is now same);
             repeated = repeated;
           }

@@ -64,7 +64,8 @@ module _ (script : Script) (clock : TableId) (boxes : List Boxed) (w : ℕ) (sta
   in_merged c i d j z k =
       let desk : IsIn d (desks_of now) = in_flat (λ (x : Crew). x.desks.items) now c d i j in
       in_permuted (all_of (parts_in (parts_of now))) merged z is.all
-      (in_flat (λ (part : List Stamped). part) (parts_in (parts_of now)) d.part.items z (in_map (λ (p : ActorPart). p.part) (parts_of now) (part_of d) (in_map part_of (desks_of now) d desk)) k)
+      (in_flat (λ (part : List Stamped). part) (parts_in (parts_of now)) d.part.items z
+      (in_map (λ (p : ActorPart). p.part) (parts_of now) (part_of d) (in_map part_of (desks_of now) d desk)) k)
 
   -- an actor of the driver made it
   posted_by : (c : Crew) → IsIn c now → (n : ℕ) (m : Mailed) → IsIn m (outs_at n c.out.ports.items) → IsPostBy c trace m
@@ -80,7 +81,8 @@ module _ (script : Script) (clock : TableId) (boxes : List Boxed) (w : ℕ) (sta
         entry = z.0.entry;
         actor = part_actor script e.0.actor e.0.part.items z.0 desk.own z.1;
         made = ap (entry_at m.id.entry) (past_is merged)
-            ∙ entry_found (reverse merged) z.0 m.id.entry (are_counted (parts_in (parts_of now)) merged whole is) (in_reverse merged z.0 (in_merged c i e.0 e.1 z.0 z.1)) (sym z.2.0);
+            ∙ entry_found (reverse merged) z.0 m.id.entry (are_counted (parts_in (parts_of now)) merged whole is)
+            (in_reverse merged z.0 (in_merged c i e.0 e.1 z.0 z.1)) (sym z.2.0);
         post = z.2.1;
       }
 
@@ -96,7 +98,9 @@ module _ (script : Script) (clock : TableId) (boxes : List Boxed) (w : ℕ) (sta
       let here = times_total id (map (λ (m : Mailed). m.id) (outs_at n ps)) ∙ total_of_map (λ (m : Mailed). m.id) g (outs_at n ps) in
       let offered : total h b.posts ≡ total (λ (o : Offer). h o.mailed) os = ap (total h) (sym b.offered.are) ∙ total_of_map (λ (o : Offer). o.mailed) h os in
       let posted : times_named id (posted_at (whole_of trace) trace) ≡ total f (desks_of now) =
-      times_total id (posted_at (whole_of trace) trace) ∙ seen_posted trace (whole_of trace) (desks_of now) (seen_now script now merged (own_parts script clock boxes w start now run) whole is) g in
+      times_total id (posted_at (whole_of trace) trace)
+      ∙ seen_posted trace (whole_of trace) (desks_of now)
+      (seen_now script now merged (own_parts script clock boxes w start now run) whole is) g in
       omega (
         arith,
         here,

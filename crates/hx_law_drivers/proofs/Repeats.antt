@@ -36,8 +36,10 @@ by_its_name o = record { post = o.mailed.id; times = o.times }
 eqb_swap : (a b : ℕ) → one (eqb a b) ≡ one (eqb b a)
 eqb_swap a b =
     ⊎_elim
-    (λ (h : (eqb a b ≡ true) × (a ≡ b)). ⊎_elim (λ (k : (eqb b a ≡ true) × (b ≡ a)). ap one (h.0 ∙ sym k.0)) (λ (k : (eqb b a ≡ false) × (b ≢ a)). absurd (k.1 (sym h.1))) (eqb_tells b a))
-    (λ (h : (eqb a b ≡ false) × (a ≢ b)). ⊎_elim (λ (k : (eqb b a ≡ true) × (b ≡ a)). absurd (h.1 (sym k.1))) (λ (k : (eqb b a ≡ false) × (b ≢ a)). ap one (h.0 ∙ sym k.0)) (eqb_tells b a))
+    (λ (h : (eqb a b ≡ true) × (a ≡ b)). ⊎_elim (λ (k : (eqb b a ≡ true) × (b ≡ a)). ap one (h.0 ∙ sym k.0))
+    (λ (k : (eqb b a ≡ false) × (b ≢ a)). absurd (k.1 (sym h.1))) (eqb_tells b a))
+    (λ (h : (eqb a b ≡ false) × (a ≢ b)). ⊎_elim (λ (k : (eqb b a ≡ true) × (b ≡ a)). absurd (h.1 (sym k.1)))
+    (λ (k : (eqb b a ≡ false) × (b ≢ a)). ap one (h.0 ∙ sym k.0)) (eqb_tells b a))
     (eqb_tells a b)
 
 counted : (os : List Offer) → put_times 2 (map by_its_name os) ≡ count_of 2 os
@@ -75,15 +77,18 @@ module _ (script : Script) (clock : TableId) (boxes : List Boxed) (w : ℕ) wher
         offers_weigh h crews k.1,
       )
 
-  offers_twice : (crews : List Crew) (k : AllByRecursion (IsCrew script clock boxes w) crews) → AllByRecursion (λ (o : NamedOffer). o.times ≤ 2) (offers_of crews k)
+  offers_twice : (crews : List Crew) (k : AllByRecursion (IsCrew script clock boxes w) crews)
+      → AllByRecursion (λ (o : NamedOffer). o.times ≤ 2) (offers_of crews k)
   unfolding offers_of
   offers_twice [] k = tt
   offers_twice (c ∷ crews) k =
       let b = k.0.booked.offered in
       each_append (λ (o : NamedOffer). o.times ≤ 2) (map by_its_name b.offers) (offers_of crews k.1)
-      (each_of_map by_its_name (λ (o : NamedOffer). o.times ≤ 2) b.offers (each_map IsFair (λ (o : Offer). o.times ≤ 2) b.offers (λ o i f. f.few) b.fair)) (offers_twice crews k.1)
+      (each_of_map by_its_name (λ (o : NamedOffer). o.times ≤ 2) b.offers
+      (each_map IsFair (λ (o : Offer). o.times ≤ 2) b.offers (λ o i f. f.few) b.fair)) (offers_twice crews k.1)
 
-  offers_put : (h : PostId → ℕ) (crews : List Crew) (k : AllByRecursion (IsCrew script clock boxes w) crews) → put_total (by_name h) crews ≤ total (λ (o : NamedOffer). o.times * h o.post) (offers_of crews k)
+  offers_put : (h : PostId → ℕ) (crews : List Crew) (k : AllByRecursion (IsCrew script clock boxes w) crews)
+      → put_total (by_name h) crews ≤ total (λ (o : NamedOffer). o.times * h o.post) (offers_of crews k)
   unfolding offers_of
   offers_put h [] k = omega arith
   offers_put h (c ∷ crews) k =
@@ -118,32 +123,50 @@ module _ (script : Script) (clock : TableId) (boxes : List Boxed) (w : ℕ) wher
       let b = (each_in (IsDeskOf script clock boxes w c.0) c.0.desks.items d (each_in (IsCrew script clock boxes w) crews c.0 k c.1).desks c.2).broken in
       omega (arith, ap (total h) b.desk.told, total-append h (told d.part.items) b.rest)
 
-  told_taken : (h : Mailed → ℕ) (crews : List Crew) → AllByRecursion (IsCrew script clock boxes w) crews → total (λ (d : Desk). total h (told d.part.items)) (desks_of crews) ≤ taken_weight h crews
+  told_taken : (h : Mailed → ℕ) (crews : List Crew) → AllByRecursion (IsCrew script clock boxes w) crews
+      → total (λ (d : Desk). total h (told d.part.items)) (desks_of crews) ≤ taken_weight h crews
   told_taken h crews k =
-      total_under (λ (d : Desk). total h (told d.part.items)) (λ (d : Desk). total h (map (λ (s : Sent). s.mailed) (ins_of d.inbox))) (desks_of crews) (told_of h crews k)
+      total_under (λ (d : Desk). total h (told d.part.items))
+      (λ (d : Desk). total h (map (λ (s : Sent). s.mailed) (ins_of d.inbox))) (desks_of crews) (told_of h crews k)
 
   -- and with it what one more entry of a desk's actor delivers
-  told_more : (h : Mailed → ℕ) (crews : List Crew) → AllByRecursion (IsCrew script clock boxes w) crews → (d : Desk) → IsIn d (desks_of crews) → (ms : List Mailed)
-      → told d.part.items ++ ms ≡ map (λ (s : Sent). s.mailed) (ins_of d.inbox) → total (λ (d : Desk). total h (told d.part.items)) (desks_of crews) + total h ms ≤ taken_weight h crews
+  told_more : (h : Mailed → ℕ) (crews : List Crew) → AllByRecursion (IsCrew script clock boxes w) crews → (d : Desk)
+      → IsIn d (desks_of crews) → (ms : List Mailed)
+      → told d.part.items ++ ms ≡ map (λ (s : Sent). s.mailed) (ins_of d.inbox)
+      → total (λ (d : Desk). total h (told d.part.items)) (desks_of crews) + total h ms ≤ taken_weight h crews
   told_more h crews k d i ms took =
-      total_under_by (λ (d : Desk). total h (told d.part.items)) (λ (d : Desk). total h (map (λ (s : Sent). s.mailed) (ins_of d.inbox))) (total h ms) (desks_of crews) d i (told_of h crews k)
+      total_under_by (λ (d : Desk). total h (told d.part.items))
+      (λ (d : Desk). total h (map (λ (s : Sent). s.mailed) (ins_of d.inbox))) (total h ms) (desks_of crews) d i
+      (told_of h crews k)
       (omega (arith, ap (total h) took, total-append h (told d.part.items) ms))
 
-  pub repeats_few : (now : List Crew) → AllByRecursion (IsCrew script clock boxes w) now → AreOnce now → (trace : List Entry) → IsSeen trace (whole_of trace) (desks_of now) → AreRepeatedAtMost trace (doubled_by now)
+  pub repeats_few : (now : List Crew) → AllByRecursion (IsCrew script clock boxes w) now → AreOnce now
+      → (trace : List Entry) → IsSeen trace (whole_of trace) (desks_of now) → AreRepeatedAtMost trace (doubled_by now)
   repeats_few now k once trace seen =
       let offers = offers_of now k in
       let came : NoMoreCame trace offers =
       record {
         offered = λ h.
-            seen_posted trace (whole_of trace) (desks_of now) seen h ∙ total_of_flat (λ (c : Crew). c.desks.items) (λ (d : Desk). total (by_name h) (made_by d.part.items)) now ∙ sym (offers_weigh h now k);
+            seen_posted trace (whole_of trace) (desks_of now) seen h
+            ∙ total_of_flat (λ (c : Crew). c.desks.items)
+            (λ (d : Desk). total (by_name h) (made_by d.part.items)) now ∙ sym (offers_weigh h now k);
         twice = offers_twice now k;
-        came = λ h. omega (arith, seen_delivered trace (whole_of trace) (desks_of now) seen h, told_taken (by_name h) now k, once (by_name h), offers_put h now k);
+        came = λ h. omega (
+          arith,
+          seen_delivered trace (whole_of trace) (desks_of now) seen h,
+          told_taken (by_name h) now k,
+          once (by_name h),
+          offers_put h now k,
+        );
       } in
       subst (AreRepeatedAtMost trace) (offers_doubled now k) (repeats_put trace offers came)
 
   -- with one more entry of a desk's actor, of what was taken for it, no more posts come twice; what it posts nobody put yet
-  pub repeats_on : (now : List Crew) → AllByRecursion (IsCrew script clock boxes w) now → AreOnce now → (trace : List Entry) → IsSeen trace (whole_of trace) (desks_of now)
-      → (x : Entry) (d : Desk) → IsIn d (desks_of now) → told d.part.items ++ told_by d.actor x.input ≡ map (λ (s : Sent). s.mailed) (ins_of d.inbox) → AreRepeatedAtMost (x ∷ trace) (doubled_by now)
+  pub repeats_on : (now : List Crew) → AllByRecursion (IsCrew script clock boxes w) now → AreOnce now
+      → (trace : List Entry) → IsSeen trace (whole_of trace) (desks_of now)
+      → (x : Entry) (d : Desk) → IsIn d (desks_of now)
+      → told d.part.items ++ told_by d.actor x.input ≡ map (λ (s : Sent). s.mailed) (ins_of d.inbox)
+      → AreRepeatedAtMost (x ∷ trace) (doubled_by now)
   repeats_on now k once trace seen x d i took =
       let offers = offers_of now k in
       let ids = names_from (length trace + 1) 0 x.outputs in
@@ -163,7 +186,9 @@ module _ (script : Script) (clock : TableId) (boxes : List Boxed) (w : ℕ) wher
               total-append (λ (o : NamedOffer). h o.post) offers rest,
               total_of_map not_put (λ (o : NamedOffer). h o.post) ids,
             );
-        twice = each_append (λ (o : NamedOffer). o.times ≤ 2) offers rest (offers_twice now k) (each_of_map not_put (λ (o : NamedOffer). o.times ≤ 2) ids (each_all (λ (id : PostId). 0 ≤ 2) ids (λ id j. omega arith)));
+        twice = each_append (λ (o : NamedOffer). o.times ≤ 2) offers rest (offers_twice now k)
+            (each_of_map not_put (λ (o : NamedOffer). o.times ≤ 2) ids
+            (each_all (λ (id : PostId). 0 ≤ 2) ids (λ id j. omega arith)));
         came = λ h.
             omega (
               arith,

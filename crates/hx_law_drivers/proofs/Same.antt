@@ -144,17 +144,20 @@ kind : Discrete EditKind
 kind = by_code kind_code kind_of kind_back ℕ_discrete
 
 edit : Discrete Edit
-edit = by_code (λ (x : Edit). (x.what, (x.attribute, x.value))) (λ t. record { what = t.0; attribute = t.1.0; value = t.1.1 }) (λ x. refl) (both kind (both ℕ_discrete value))
+edit = by_code (λ (x : Edit). (x.what, (x.attribute, x.value)))
+    (λ t. record { what = t.0; attribute = t.1.0; value = t.1.1 }) (λ x. refl) (both kind (both ℕ_discrete value))
 
 object : Discrete (List Value)
 object = listed value
 
 row : Discrete Row
-row = by_code (λ (x : Row). (x.key, (x.version, x.object))) (λ t. record { key = t.0; version = t.1.0; object = t.1.1 }) (λ x. refl) (both text (both version object))
+row = by_code (λ (x : Row). (x.key, (x.version, x.object)))
+    (λ t. record { key = t.0; version = t.1.0; object = t.1.1 }) (λ x. refl) (both text (both version object))
 
 -- ---- calls, updates, configurations and snapshots
 abbrev OpCode : Type 0
-OpCode = (List ℕ × List Assign) ⊎ (List ℕ ⊎ (List ℕ ⊎ ((List ℕ × (List Assign × List Assign)) ⊎ (List Term ⊎ (ServerId ⊎ ((ServerId × RegionId) ⊎ (List ℕ × List Edit)))))))
+OpCode = (List ℕ × List Assign) ⊎ (List ℕ ⊎ (List ℕ
+    ⊎ ((List ℕ × (List Assign × List Assign)) ⊎ (List Term ⊎ (ServerId ⊎ ((ServerId × RegionId) ⊎ (List ℕ × List Edit)))))))
 
 abbrev op_code : Op → OpCode
 op_code (an_op.Put k sets) = inl (k, sets)
@@ -181,7 +184,9 @@ op_back (an_op.Put k sets) = refl
 op_back other = refl
 
 op : Discrete Op
-op = by_code op_code op_of op_back (either (both text (listed assign)) (either text (either text (either (both text (both (listed assign) (listed assign))) (either (listed term) (either server (either (both server region) (both text (listed edit)))))))))
+op = by_code op_code op_of op_back (either (both text (listed assign))
+    (either text (either text (either (both text (both (listed assign) (listed assign)))
+    (either (listed term) (either server (either (both server region) (both text (listed edit)))))))))
 
 abbrev AnswerCode : Type 0
 AnswerCode = ℕ ⊎ (ℕ ⊎ (ℕ ⊎ (List Value ⊎ (List Row ⊎ ((RegionId × Epoch) ⊎ ((RegionId × Epoch) ⊎ (Epoch ⊎ (Epoch ⊎ (Epoch ⊎ (Epoch ⊎ (Epoch ⊎ (ℕ ⊎ ℕ))))))))))))
@@ -223,35 +228,61 @@ answer_back an_answer.Done = refl
 answer_back other = refl
 
 answer : Discrete Answer
-answer = by_code answer_code answer_of answer_back (either ℕ_discrete (either ℕ_discrete (either ℕ_discrete (either object (either (listed row) (either (both region epoch) (either (both region epoch) (either epoch (either epoch (either epoch (either epoch (either epoch (either ℕ_discrete ℕ_discrete)))))))))))))
+answer = by_code answer_code answer_of answer_back
+    (either ℕ_discrete (either ℕ_discrete (either ℕ_discrete
+    (either object (either (listed row) (either (both region epoch)
+    (either (both region epoch) (either epoch (either epoch
+    (either epoch (either epoch (either epoch (either ℕ_discrete ℕ_discrete)))))))))))))
 
 caller : Discrete Caller
 caller = by_code (λ (x : Caller). (x.session, x.number)) (λ t. record { session = t.0; number = t.1 }) (λ x. refl) (both session ℕ_discrete)
 
 place : Discrete Place
-place = by_code (λ (x : Place). (x.region, (x.after, x.keeps))) (λ t. record { region = t.0; after = t.1.0; keeps = t.1.1 }) (λ x. refl) (both region (both version Bool-discrete))
+place = by_code (λ (x : Place). (x.region, (x.after, x.keeps)))
+    (λ t. record { region = t.0; after = t.1.0; keeps = t.1.1 }) (λ x. refl) (both region (both version Bool-discrete))
 
 update : Discrete Update
-update = by_code (λ (x : Update). (x.key, (x.version, (x.caller, (x.answer, (x.changes, (x.object, x.places))))))) (λ t. record { key = t.0; version = t.1.0; caller = t.1.1.0; answer = t.1.1.1.0; changes = t.1.1.1.1.0; object = t.1.1.1.1.1.0; places = t.1.1.1.1.1.1 }) (λ x. refl) (both text (both version (both caller (both answer (both Bool-discrete (both (optional object) (listed place)))))))
+update = by_code (λ (x : Update). (x.key, (x.version, (x.caller, (x.answer, (x.changes, (x.object, x.places)))))))
+    (λ t. record {
+      key = t.0;
+      version = t.1.0;
+      caller = t.1.1.0;
+      answer = t.1.1.1.0;
+      changes = t.1.1.1.1.0;
+      object = t.1.1.1.1.1.0;
+      places = t.1.1.1.1.1.1;
+    }) (λ x. refl)
+    (both text (both version (both caller (both answer (both Bool-discrete (both (optional object) (listed place)))))))
 
 member : Discrete Member
 member = by_code (λ (x : Member). (x.server, x.ready)) (λ t. record { server = t.0; ready = t.1 }) (λ x. refl) (both server Bool-discrete)
 
 config : Discrete Config
-config = by_code (λ (x : Config). (x.epoch, (x.servers, x.regions))) (λ t. record { epoch = t.0; servers = t.1.0; regions = t.1.1 }) (λ x. refl) (both epoch (both (listed server) (listed (listed member))))
+config = by_code (λ (x : Config). (x.epoch, (x.servers, x.regions)))
+    (λ t. record { epoch = t.0; servers = t.1.0; regions = t.1.1 }) (λ x. refl)
+    (both epoch (both (listed server) (listed (listed member))))
 
 mark : Discrete Mark
-mark = by_code (λ (x : Mark). (x.session, (x.number, (x.version, x.answer)))) (λ t. record { session = t.0; number = t.1.0; version = t.1.1.0; answer = t.1.1.1 }) (λ x. refl) (both session (both ℕ_discrete (both version answer)))
+mark = by_code (λ (x : Mark). (x.session, (x.number, (x.version, x.answer))))
+    (λ t. record { session = t.0; number = t.1.0; version = t.1.1.0; answer = t.1.1.1 }) (λ x. refl)
+    (both session (both ℕ_discrete (both version answer)))
 
 touch : Discrete Touch
 touch = by_code (λ (x : Touch). (x.region, x.version)) (λ t. record { region = t.0; version = t.1 }) (λ x. refl) (both region version)
 
 kept : Discrete Kept
-kept = by_code (λ (x : Kept). (x.key, (x.floor, (x.object, (x.marks, x.touches))))) (λ t. record { key = t.0; floor = t.1.0; object = t.1.1.0; marks = t.1.1.1.0; touches = t.1.1.1.1 }) (λ x. refl) (both text (both version (both (optional row) (both (listed mark) (listed touch)))))
+kept = by_code (λ (x : Kept). (x.key, (x.floor, (x.object, (x.marks, x.touches)))))
+    (λ t. record { key = t.0; floor = t.1.0; object = t.1.1.0; marks = t.1.1.1.0; touches = t.1.1.1.1 }) (λ x. refl)
+    (both text (both version (both (optional row) (both (listed mark) (listed touch)))))
 
 -- ---- messages and posts
 abbrev MessageCode : Type 0
-MessageCode = (Epoch × (ℕ × Op)) ⊎ ((ℕ × (Version × Answer)) ⊎ ((Epoch × (RegionId × Update)) ⊎ ((Epoch × (RegionId × (List ℕ × (Version × RegionId)))) ⊎ ((Epoch × (ℕ × (RegionId × List Term))) ⊎ ((Epoch × (ℕ × (RegionId × List Row))) ⊎ (Epoch ⊎ (Epoch ⊎ (Config ⊎ (ℕ ⊎ (ℕ ⊎ ((ℕ × ServerId) ⊎ ((ℕ × (ServerId × RegionId)) ⊎ ((ℕ × Answer) ⊎ ((Epoch × (RegionId × (List Kept × List Update))) ⊎ ((Epoch × RegionId) ⊎ Epoch)))))))))))))))
+MessageCode = (Epoch × (ℕ × Op)) ⊎ ((ℕ × (Version × Answer))
+    ⊎ ((Epoch × (RegionId × Update)) ⊎ ((Epoch × (RegionId × (List ℕ × (Version × RegionId))))
+    ⊎ ((Epoch × (ℕ × (RegionId × List Term))) ⊎ ((Epoch × (ℕ × (RegionId × List Row)))
+    ⊎ (Epoch ⊎ (Epoch ⊎ (Config ⊎ (ℕ ⊎ (ℕ ⊎ ((ℕ × ServerId)
+    ⊎ ((ℕ × (ServerId × RegionId)) ⊎ ((ℕ × Answer)
+    ⊎ ((Epoch × (RegionId × (List Kept × List Update))) ⊎ ((Epoch × RegionId) ⊎ Epoch)))))))))))))))
 
 abbrev message_code : Message → MessageCode
 message_code (a_message.Call e n o) = inl (e, (n, o))
@@ -296,10 +327,22 @@ message_back (a_message.Call e n o) = refl
 message_back other = refl
 
 message : Discrete Message
-message = by_code message_code message_of message_back (either (both epoch (both ℕ_discrete op)) (either (both ℕ_discrete (both version answer)) (either (both epoch (both region update)) (either (both epoch (both region (both text (both version region)))) (either (both epoch (both ℕ_discrete (both region (listed term)))) (either (both epoch (both ℕ_discrete (both region (listed row)))) (either epoch (either epoch (either config (either ℕ_discrete (either ℕ_discrete (either (both ℕ_discrete server) (either (both ℕ_discrete (both server region)) (either (both ℕ_discrete answer) (either (both epoch (both region (both (listed kept) (listed update)))) (either (both epoch region) epoch))))))))))))))))
+message = by_code message_code message_of message_back
+    (either (both epoch (both ℕ_discrete op)) (either (both ℕ_discrete (both version answer))
+    (either (both epoch (both region update)) (either (both epoch (both region (both text (both version region))))
+    (either (both epoch (both ℕ_discrete (both region (listed term))))
+    (either (both epoch (both ℕ_discrete (both region (listed row))))
+    (either epoch (either epoch (either config (either ℕ_discrete
+    (either ℕ_discrete (either (both ℕ_discrete server)
+    (either (both ℕ_discrete (both server region))
+    (either (both ℕ_discrete answer) (either (both epoch (both region (both (listed kept) (listed update))))
+    (either (both epoch region) epoch))))))))))))))))
 
 post : Discrete Post
-post = by_code (λ (x : Post). (x.from, (x.to, x.message))) (λ t. record { from = t.0; to = t.1.0; message = t.1.1 }) (λ x. refl) (both actor (both actor message))
+post = by_code (λ (x : Post). (x.from, (x.to, x.message))) (λ t. record { from = t.0; to = t.1.0; message = t.1.1 })
+    (λ x. refl) (both actor (both actor message))
 
 pub mailed : Discrete Mailed
-mailed = by_code (λ (m : Mailed). (m.id.entry, (m.id.place, m.post))) (λ t. record { id = record { entry = t.0; place = t.1.0 }; post = t.1.1 }) (λ m. refl) (both ℕ_discrete (both ℕ_discrete post))
+mailed = by_code (λ (m : Mailed). (m.id.entry, (m.id.place, m.post)))
+    (λ t. record { id = record { entry = t.0; place = t.1.0 }; post = t.1.1 }) (λ m. refl)
+    (both ℕ_discrete (both ℕ_discrete post))

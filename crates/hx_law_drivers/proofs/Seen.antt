@@ -47,7 +47,9 @@ pub record IsSeen (trace : List Entry) (cut : Cut) (ds : List Desk) : Type 0 whe
 
 pub names_weigh : (h : PostId → ℕ) (entry place : ℕ) (ps : List Post) → total h (names_from entry place ps) ≡ total (by_name h) (named entry place ps)
 names_weigh h entry place [] = refl
-names_weigh h entry place (p ∷ ps) = ap (λ n. h (record { entry = entry; place = place }) + n) (names_weigh h entry (place + 1) ps ∙ ap (λ k. total (by_name h) (named entry k ps)) (let e : place + 1 ≡ suc place = omega arith in e))
+names_weigh h entry place (p ∷ ps) = ap (λ n. h (record { entry = entry; place = place }) + n)
+    (names_weigh h entry (place + 1) ps ∙ ap (λ k. total (by_name h) (named entry k ps))
+    (let e : place + 1 ≡ suc place = omega arith in e))
 
 made_weigh : (h : PostId → ℕ) (part : List Stamped) → total_over (weight_made h) part ≡ total (by_name h) (made_by part)
 made_weigh h [] = refl
@@ -71,14 +73,16 @@ module _ (trace : List Entry) (cut : Cut) (ds : List Desk) (seen : IsSeen trace 
   pub seen_posted : (h : PostId → ℕ) → total h (posted_at cut trace) ≡ total (λ (d : Desk). total (by_name h) (made_by d.part.items)) ds
   seen_posted h = (posts_weigh h cut trace).made ∙ seen.sums (weight_made h) ∙ by ds
     where
-      by : (xs : List Desk) → total (λ (d : Desk). total_over (weight_made h) d.part.items) xs ≡ total (λ (d : Desk). total (by_name h) (made_by d.part.items)) xs
+      by : (xs : List Desk) → total (λ (d : Desk). total_over (weight_made h) d.part.items) xs
+          ≡ total (λ (d : Desk). total (by_name h) (made_by d.part.items)) xs
       by [] = refl
       by (d ∷ xs) = omega (arith, made_weigh h d.part.items, by xs)
 
   pub seen_delivered : (h : PostId → ℕ) → total h (delivered_at cut trace) ≡ total (λ (d : Desk). total (by_name h) (told d.part.items)) ds
   seen_delivered h = (posts_weigh h cut trace).delivered ∙ seen.sums (weight_delivered h) ∙ by ds
     where
-      by : (xs : List Desk) → total (λ (d : Desk). total_over (weight_delivered h) d.part.items) xs ≡ total (λ (d : Desk). total (by_name h) (told d.part.items)) xs
+      by : (xs : List Desk) → total (λ (d : Desk). total_over (weight_delivered h) d.part.items) xs
+          ≡ total (λ (d : Desk). total (by_name h) (told d.part.items)) xs
       by [] = refl
       by (d ∷ xs) = omega (arith, told_weigh h d.part.items, by xs)
 
@@ -89,11 +93,13 @@ parts_before f cut [] [] h count = refl
 parts_before f cut [] (e ∷ es) h count = absurd h
 parts_before f cut (d ∷ ds) [] h count = absurd h
 parts_before f cut (d ∷ ds) (e ∷ es) h count =
-    let same : take (cut e.actor) e.part.items ≡ d.part.items = prefix_take d.part.items e.part.items (cut e.actor) h.0.part (ap cut h.0.actor ∙ count d (inl refl)) in
+    let same : take (cut e.actor) e.part.items ≡ d.part.items =
+    prefix_take d.part.items e.part.items (cut e.actor) h.0.part (ap cut h.0.actor ∙ count d (inl refl)) in
     omega (arith, ap (total_over f) same, parts_before f cut ds es h.1 (λ x i. count x (inr i)))
 
 -- a post of a part is one of its entries'
-in_named : (entry place : ℕ) (ps : List Post) (m : Mailed) → IsIn m (named entry place ps) → (k : ℕ) × (m.id.entry ≡ entry) × (m.id.place ≡ place + k) × (slice_get ps k ≡ Some m.post)
+in_named : (entry place : ℕ) (ps : List Post) (m : Mailed) → IsIn m (named entry place ps) → (k : ℕ)
+    × (m.id.entry ≡ entry) × (m.id.place ≡ place + k) × (slice_get ps k ≡ Some m.post)
 in_named entry place [] m i = absurd i
 in_named entry place (p ∷ ps) m (inl e) =
     let at : m.id.place ≡ place = ap (λ (x : Mailed). x.id.place) e in
@@ -108,14 +114,17 @@ made_in_part (x ∷ part) m i =
     let r = in_named (x.stamp.0 + 1) 0 x.entry.outputs m j in
     let at : m.id.place ≡ r.0 = omega (arith, r.2) in
     (x, inl refl, (sym r.1, ap (slice_get x.entry.outputs) at ∙ r.3)))
-    (λ (j : IsIn m (made_by part)). let r = made_in_part part m j in (r.0, inr r.1, r.2)) (in_append (named (x.stamp.0 + 1) 0 x.entry.outputs) (made_by part) m i)
+    (λ (j : IsIn m (made_by part)). let r = made_in_part part m j in
+    (r.0, inr r.1, r.2)) (in_append (named (x.stamp.0 + 1) 0 x.entry.outputs) (made_by part) m i)
 
-module _ (script : Script) (now : List Crew) (merged : List Stamped) (o : AreOwnParts script (parts_of now)) (w : AreWholeParts (parts_in (parts_of now))) (m : IsMerged (parts_in (parts_of now)) merged) where
+module _ (script : Script) (now : List Crew) (merged : List Stamped) (o : AreOwnParts script (parts_of now))
+    (w : AreWholeParts (parts_in (parts_of now))) (m : IsMerged (parts_in (parts_of now)) merged) where
   own_are : HasOwnParts (parts_of now) (past_of merged)
   own_are = (merged_run script (parts_of now) merged o w m).own
 
   -- the desks at an earlier moment are seen at its cut
-  pub seen_before : (cut : List Crew) → AreLater cut now → IsDistinct same_actor (map (λ (d : Desk). d.actor) (desks_of cut)) → IsSeen (past_of merged) (cut_of cut) (desks_of cut)
+  pub seen_before : (cut : List Crew) → AreLater cut now
+      → IsDistinct same_actor (map (λ (d : Desk). d.actor) (desks_of cut)) → IsSeen (past_of merged) (cut_of cut) (desks_of cut)
   seen_before cut later apart =
       let l = later_desks cut now later in
       let count : (d : Desk) → IsIn d (desks_of cut) → cut_of cut d.actor ≡ length d.part.items = λ d i. entries_of_desk (desks_of cut) d apart i in
@@ -123,7 +132,8 @@ module _ (script : Script) (now : List Crew) (merged : List Stamped) (o : AreOwn
         sums = λ f. cuts_add_up script (parts_of now) merged o w m f (cut_of cut) ∙ parts_before f (cut_of cut) (desks_of cut) (desks_of now) l count;
         own = λ d i.
             let e = both_in IsLater (desks_of cut) (desks_of now) d l i in
-            let read = each_in (IsReadInPart (past_of merged)) (parts_of now) (part_of e.0) (read_in_parts (parts_of now) (past_of merged) own_are) (in_map part_of (desks_of now) e.0 e.1) in
+            let read = each_in (IsReadInPart (past_of merged)) (parts_of now) (part_of e.0)
+            (read_in_parts (parts_of now) (past_of merged) own_are) (in_map part_of (desks_of now) e.0 e.1) in
             ap (own_at (cut_of cut) (past_of merged)) (sym e.2.actor) ∙ read.own (cut_of cut e.0.actor)
             ∙ ap past_of (prefix_take d.part.items e.0.part.items (cut_of cut e.0.actor) e.2.part (ap (cut_of cut) e.2.actor ∙ count d i));
       }
@@ -134,14 +144,17 @@ module _ (script : Script) (now : List Crew) (merged : List Stamped) (o : AreOwn
     sums = λ f. whole_adds_up script (parts_of now) merged o w m f ∙ total_of_map part_of (λ (p : ActorPart). total_over f p.part) (desks_of now);
     own = λ d i.
         first_all (entries_of d.actor (past_of merged)) (own_entries d.actor (past_of merged)) (omega (arith, count-own d.actor (past_of merged)))
-        ∙ each_in (λ (p : ActorPart). own_entries p.actor (past_of merged) ≡ past_of p.part) (parts_of now) (part_of d) own_are (in_map part_of (desks_of now) d i);
+        ∙ each_in (λ (p : ActorPart). own_entries p.actor (past_of merged) ≡ past_of p.part) (parts_of now)
+        (part_of d) own_are (in_map part_of (desks_of now) d i);
   }
 
   -- each post that a desk made by then is found by its name
-  pub found_before : (cut : List Crew) → AreLater cut now → (d : Desk) → IsIn d (desks_of cut) → (m : Mailed) → IsIn m (made_by d.part.items) → post_named m.id (past_of merged) ≡ Some m.post
+  pub found_before : (cut : List Crew) → AreLater cut now → (d : Desk) → IsIn d (desks_of cut) → (m : Mailed)
+      → IsIn m (made_by d.part.items) → post_named m.id (past_of merged) ≡ Some m.post
   found_before cut later d i mail j =
       let e = both_in IsLater (desks_of cut) (desks_of now) d (later_desks cut now later) i in
       let z = made_in_part d.part.items mail j in
       posts_found (parts_in (parts_of now)) merged w m z.0 mail.id mail.post
       (in_flat (λ (part : List Stamped). part) (parts_in (parts_of now)) e.0.part.items z.0
-      (in_map (λ (p : ActorPart). p.part) (parts_of now) (part_of e.0) (in_map part_of (desks_of now) e.0 e.1)) (prefix_in z.0 d.part.items e.0.part.items e.2.part z.1)) z.2
+      (in_map (λ (p : ActorPart). p.part) (parts_of now) (part_of e.0) (in_map part_of (desks_of now) e.0 e.1))
+      (prefix_in z.0 d.part.items e.0.part.items e.2.part z.1)) z.2

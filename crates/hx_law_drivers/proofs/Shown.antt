@@ -38,7 +38,8 @@ module _ (script : Script) (clock : TableId) (boxes : List Boxed) (w : ℕ) (sta
       let p = of_map (λ (p : ActorPart). p.part) (parts_of now) part.0 part.1 in
       let d = of_map part_of (desks_of now) p.0 p.1 in
       let c = of_flat (λ (y : Crew). y.desks.items) now d.0 d.1 in
-      let desk = (each_in (IsDeskOf script clock boxes w c.0) c.0.desks.items d.0 (each_in (IsCrew script clock boxes w) now c.0 run.crews c.1).desks c.2).broken.desk in
+      let desk = (each_in (IsDeskOf script clock boxes w c.0) c.0.desks.items d.0
+      (each_in (IsCrew script clock boxes w) now c.0 run.crews c.1).desks c.2).broken.desk in
       let same : part.0 ≡ d.0.part.items = p.2 ∙ ap (λ (q : ActorPart). q.part) d.2 in
       let fed = fed_in script (reverse d.0.part.items) z.0 desk.fed (in_reverse d.0.part.items z.0 (subst (IsIn z.0) same part.2)) in
       subst (λ (y : Entry). y.input ≢ Halt) (sym z.2) (no_halt script z.0.stamp.0 z.0.entry.actor z.0.entry.input fed)
@@ -47,7 +48,8 @@ module _ (script : Script) (clock : TableId) (boxes : List Boxed) (w : ℕ) (sta
   shows_desks =
       let made = merged_run script (parts_of now) merged (own_parts script clock boxes w start now run) whole is in
       let own : (d : Desk) → IsIn d (desks_of now) → own_entries d.actor (past_of merged) ≡ past_of d.part.items =
-      λ d i. each_in (λ (p : ActorPart). own_entries p.actor (past_of merged) ≡ past_of p.part) (parts_of now) (part_of d) made.own (in_map part_of (desks_of now) d i) in
+      λ d i. each_in (λ (p : ActorPart). own_entries p.actor (past_of merged) ≡ past_of p.part) (parts_of now)
+      (part_of d) made.own (in_map part_of (desks_of now) d i) in
       record {
         run = made.run;
         no_halts = each_all (λ (x : Entry). x.input ≢ Halt) (past_of merged) no_halts;

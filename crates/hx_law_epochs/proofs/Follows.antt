@@ -19,7 +19,8 @@ pub member-listed : (c : Config) (g : RegionId) (s : ServerId) (m : Member) → 
 member-listed c g s m i e = in-listed c g s (subst (λ (x : ServerId). IsIn x (servers_of (members_of c g))) e (member-server (members_of c g) m i))
 
 -- a ready one has a ready member
-pub ready-member : (c : Config) (g : RegionId) (s : ServerId) → lists_ready c g s ≡ true → (m : Member) × IsIn m (members_of c g) × (m.server ≡ s) × (m.ready ≡ true)
+pub ready-member : (c : Config) (g : RegionId) (s : ServerId) → lists_ready c g s ≡ true → (m : Member)
+    × IsIn m (members_of c g) × (m.server ≡ s) × (m.ready ≡ true)
 ready-member c g s t =
     let r = any-in (λ (m : Member). same_server m.server s && m.ready) (members_of c g) t in
     let a = and_parts (same_server r.0.server s) r.0.ready r.2 in
@@ -27,11 +28,14 @@ ready-member c g s t =
 
 pub member-ready : (c : Config) (g : RegionId) (s : ServerId) (m : Member) → IsIn m (members_of c g) → m.server ≡ s → m.ready ≡ true → lists_ready c g s ≡ true
 member-ready c g s m i e r =
-    any-of (λ (m : Member). same_server m.server s && m.ready) (members_of c g) m i (and_from (same_server m.server s) m.ready (eq-eqb m.server.0 s.0 (ap (λ (y : ServerId). y.0) e)) r)
+    any-of (λ (m : Member). same_server m.server s && m.ready) (members_of c g) m i
+    (and_from (same_server m.server s) m.ready (eq-eqb m.server.0 s.0 (ap (λ (y : ServerId). y.0) e)) r)
 
-pub member-joining : (c : Config) (g : RegionId) (s : ServerId) (m : Member) → IsIn m (members_of c g) → m.server ≡ s → m.ready ≡ false → lists_joining c g s ≡ true
+pub member-joining : (c : Config) (g : RegionId) (s : ServerId) (m : Member) → IsIn m (members_of c g) → m.server ≡ s
+    → m.ready ≡ false → lists_joining c g s ≡ true
 member-joining c g s m i e r =
-    any-of (λ (m : Member). same_server m.server s && not m.ready) (members_of c g) m i (and_from (same_server m.server s) (not m.ready) (eq-eqb m.server.0 s.0 (ap (λ (y : ServerId). y.0) e)) (ap not r))
+    any-of (λ (m : Member). same_server m.server s && not m.ready) (members_of c g) m i
+    (and_from (same_server m.server s) (not m.ready) (eq-eqb m.server.0 s.0 (ap (λ (y : ServerId). y.0) e)) (ap not r))
 
 -- a region with a ready member isn't lost
 pub ready-not_lost : (c : Config) (g : RegionId) (m : Member) → IsIn m (members_of c g) → m.ready ≡ true → is_lost c g ≡ false
@@ -71,7 +75,8 @@ module _ (test : Member → Bool) (after : Member → Member) (same : (m : Membe
   some ms = map after (filter test ms)
 
   -- who stays stands in the same order
-  stay-before : (ms : List Member) (x y : ServerId) → ((m : Member) → IsIn m ms → m.server ≡ x → test m ≡ true) → ((m : Member) → IsIn m ms → m.server ≡ y → test m ≡ true)
+  stay-before : (ms : List Member) (x y : ServerId) → ((m : Member) → IsIn m ms → m.server ≡ x → test m ≡ true)
+      → ((m : Member) → IsIn m ms → m.server ≡ y → test m ≡ true)
       → IsBefore x y (servers_of ms) → IsBefore x y (servers_of (some ms))
   stay-before [] x y f h b = absurd b
   stay-before (m ∷ rest) x y f h b =
@@ -80,7 +85,9 @@ module _ (test : Member → Bool) (after : Member → Member) (same : (m : Membe
         | inl (e, i) ↦ inl (
           e ∙ sym (same m),
           (let z = server-member y rest i in
-              subst (λ (w : ServerId). IsIn w (servers_of (some rest))) (same z.0 ∙ z.2) (member-server (some rest) (after z.0) (map-in after (filter test rest) z.0 (filter-in test rest z.0 z.1 (h z.0 (inr z.1) z.2))))),
+              subst (λ (w : ServerId). IsIn w (servers_of (some rest))) (same z.0 ∙ z.2)
+              (member-server (some rest) (after z.0) (map-in after (filter test rest) z.0
+              (filter-in test rest z.0 z.1 (h z.0 (inr z.1) z.2))))),
         )
         | inr c ↦ inr (stay-before rest x y (λ k i. f k (inr i)) (λ k i. h k (inr i)) c)
       ])
@@ -93,7 +100,8 @@ module _ (test : Member → Bool) (after : Member → Member) (same : (m : Membe
   some-before : (ms : List Member) (x y : Member) → IsBefore x y (some ms) → (a b : Member) × IsBefore a b ms × (x ≡ after a) × (y ≡ after b)
   some-before [] x y = λ b. absurd b
   some-before (m ∷ rest) x y =
-      cond_both (test m) (m ∷ filter test rest) (filter test rest) (λ l. IsBefore x y (map after l) → (a b : Member) × IsBefore a b (m ∷ rest) × (x ≡ after a) × (y ≡ after b))
+      cond_both (test m) (m ∷ filter test rest) (filter test rest)
+      (λ l. IsBefore x y (map after l) → (a b : Member) × IsBefore a b (m ∷ rest) × (x ≡ after a) × (y ≡ after b))
       (λ t b. elim b [
         | inl (e, i) ↦ (let z = in-map after (filter test rest) y i in (m, z.0, inl (refl, (in-filter test rest z.0 z.1).0), e, z.2))
         | inr c ↦ (let r = some-before rest x y c in (r.0, r.1, inr r.2, r.3, r.4))
@@ -108,9 +116,13 @@ pub record ComesNext (c n : Config) (turns : RegionId → ServerId → Bool) : T
 
 -- ---- the next configuration, before a server joins: without the departed, and with those ready who became so
 
-module _ (c w : Config) (ok : IsOrderly c) (out : ServerId → Bool) (turns : RegionId → ServerId → Bool) (present : (g : RegionId) (s : ServerId) → turns g s ≡ true → is_lost c g ≡ false)
+module _ (c w : Config) (ok : IsOrderly c) (out : ServerId → Bool) (turns : RegionId → ServerId → Bool)
+    (present : (g : RegionId) (s : ServerId) → turns g s ≡ true → is_lost c g ≡ false)
     (epoch : w.epoch.0 ≡ c.epoch.0 + 1) (servers : w.servers ≡ filter (λ (y : ServerId). not (out y)) c.servers)
-    (left : (g : RegionId) → members_of w g ≡ map (λ (m : Member). record { server = m.server; ready = m.ready || turns g m.server }) (filter (λ (m : Member). not (out m.server)) (members_of c g))) where
+    (left : (g : RegionId) → members_of w g ≡ map (λ (m : Member). record {
+      server = m.server;
+      ready = m.ready || turns g m.server;
+    }) (filter (λ (m : Member). not (out m.server)) (members_of c g))) where
   -- who hasn't departed
   abbrev keep : Member → Bool
   keep m = not (out m.server)
@@ -134,7 +146,9 @@ module _ (c w : Config) (ok : IsOrderly c) (out : ServerId → Bool) (turns : Re
   left-there : (g : RegionId) (x : Member) → IsIn x (members_of c g) → IsIn x.server w.servers → IsIn (made g x) (members_of w g)
   left-there g x i s =
       subst (λ (l : List Member). IsIn (made g x) l) (sym (left g))
-      (map-in (made g) (filter keep (members_of c g)) x (filter-in keep (members_of c g) x i (in-filter (λ (y : ServerId). not (out y)) c.servers x.server (in-now x.server s)).1))
+      (map-in (made g) (filter keep (members_of c g)) x
+      (filter-in keep (members_of c g) x i (in-filter (λ (y : ServerId). not (out y)) c.servers x.server
+      (in-now x.server s)).1))
 
   -- who is ready now was, or joined
   ready-from : (g : RegionId) (x : Member) → (made g x).ready ≡ true → (x.ready ≡ true) ⊎ (turns g x.server ≡ true)
@@ -172,7 +186,9 @@ module _ (c w : Config) (ok : IsOrderly c) (out : ServerId → Bool) (turns : Re
   left-orderly : IsOrderly w
   left-orderly = record {
     members = λ g m i. (let b = left-from g m i in
-        subst (λ (x : Member). IsIn x.server w.servers) (sym b.3) (subst (λ (l : List ServerId). IsIn b.0.server l) (sym servers) (filter-in (λ (y : ServerId). not (out y)) c.servers b.0.server (ok.members g b.0 b.1) b.2)));
+        subst (λ (x : Member). IsIn x.server w.servers) (sym b.3)
+        (subst (λ (l : List ServerId). IsIn b.0.server l) (sym servers)
+        (filter-in (λ (y : ServerId). not (out y)) c.servers b.0.server (ok.members g b.0 b.1) b.2)));
     differ = λ g. subst Differ (sym (left g)) (fewer-differ keep (made g) (λ m. refl) (members_of c g) (ok.differ g));
     joins_last = λ g m x b. (let r = some-before keep (made g) (λ m. refl) (members_of c g) m x (subst (λ (l : List Member). IsBefore m x l) (left g) b) in
         ap (λ (y : Member). y.ready) r.3 ∙ ap (λ b. b || turns g r.0.server) (ok.joins_last g r.0 r.1 r.2));
@@ -196,13 +212,18 @@ module _ (c w : Config) (ok : IsOrderly c) (out : ServerId → Bool) (turns : Re
     ]
 
     -- and each member is one of those or joins
-    grown-from : (g : RegionId) (m : Member) → IsIn m (members_of n g) → IsIn m (members_of w g) ⊎ ((m ≡ joiner m.server) × MayJoin w m.server g × (members_of n g ≡ members_of w g ++ joiner m.server ∷ []))
+    grown-from : (g : RegionId) (m : Member) → IsIn m (members_of n g) → IsIn m (members_of w g)
+        ⊎ ((m ≡ joiner m.server) × MayJoin w m.server g × (members_of n g ≡ members_of w g ++ joiner m.server ∷ []))
     grown-from g m i = elim (grown.lists g) [
       | inl e ↦ inl (subst (λ (l : List Member). IsIn m l) e i)
       | inr (s, e, may) ↦ elim (in-append (members_of w g) (joiner s ∷ []) m (subst (λ (l : List Member). IsIn m l) e i)) [
         | inl j ↦ inl j
         | inr (inl q) ↦ (let z : m.server ≡ s = ap (λ (x : Member). x.server) q in
-            inr (q ∙ ap joiner (sym z), subst (λ (x : ServerId). MayJoin w x g) (sym z) may, e ∙ ap (λ (x : ServerId). members_of w g ++ joiner x ∷ []) (sym z)))
+            inr (
+              q ∙ ap joiner (sym z),
+              subst (λ (x : ServerId). MayJoin w x g) (sym z) may,
+              e ∙ ap (λ (x : ServerId). members_of w g ++ joiner x ∷ []) (sym z),
+            ))
         | inr (inr k) ↦ absurd k
       ]
     ]
@@ -214,16 +235,18 @@ module _ (c w : Config) (ok : IsOrderly c) (out : ServerId → Bool) (turns : Re
     grown-order : (g : RegionId) (x y : ServerId) → IsBefore x y (order n g) → IsBefore x y (order w g) ⊎ ((IsIn x (order w g)) × MayJoin w y g)
     grown-order g x y b = elim (grown.lists g) [
       | inl e ↦ inl (subst (λ (l : List Member). IsBefore x y (servers_of l)) e b)
-      | inr (s, e, may) ↦ elim (before-more (order w g) s x y (subst (λ (l : List ServerId). IsBefore x y l) (ap servers_of e ∙ more-servers (members_of w g) s) b)) [
-        | inl c ↦ inl c
-        | inr (i, q) ↦ inr (i, subst (λ (z : ServerId). MayJoin w z g) (sym q) may)
-      ]
+      | inr (s, e, may) ↦ elim (before-more (order w g) s x y
+          (subst (λ (l : List ServerId). IsBefore x y l) (ap servers_of e ∙ more-servers (members_of w g) s) b)) [
+            | inl c ↦ inl c
+            | inr (i, q) ↦ inr (i, subst (λ (z : ServerId). MayJoin w z g) (sym q) may)
+          ]
     ]
 
     order-grown : (g : RegionId) (x y : ServerId) → IsBefore x y (order w g) → IsBefore x y (order n g)
     order-grown g x y b = elim (grown.lists g) [
       | inl e ↦ subst (λ (l : List Member). IsBefore x y (servers_of l)) (sym e) b
-      | inr (s, e, may) ↦ subst (λ (l : List ServerId). IsBefore x y l) (sym (ap servers_of e ∙ more-servers (members_of w g) s)) (more-before (order w g) s x y b)
+      | inr (s, e, may) ↦ subst (λ (l : List ServerId). IsBefore x y l)
+          (sym (ap servers_of e ∙ more-servers (members_of w g) s)) (more-before (order w g) s x y b)
     ]
 
     -- who may join isn't among those left
@@ -244,7 +267,8 @@ module _ (c w : Config) (ok : IsOrderly c) (out : ServerId → Bool) (turns : Re
     ]
 
     -- a member that was before is left
-    was-left : (g : RegionId) (s : ServerId) → IsIn s n.servers → lists c g s ≡ true → (m : Member) × IsIn m (members_of c g) × (m.server ≡ s) × IsIn (made g m) (members_of n g)
+    was-left : (g : RegionId) (s : ServerId) → IsIn s n.servers → lists c g s ≡ true → (m : Member)
+        × IsIn m (members_of c g) × (m.server ≡ s) × IsIn (made g m) (members_of n g)
     was-left g s i t =
         let m = listed-member c g s t in
         (m.0, m.1, m.2, grown-in g (made g m.0) (left-there g m.0 m.1 (subst (λ (x : ServerId). IsIn x w.servers) (sym m.2) (server-left s i))))
@@ -305,7 +329,8 @@ module _ (c w : Config) (ok : IsOrderly c) (out : ServerId → Bool) (turns : Re
     grown-ready : (g : RegionId) (s : ServerId) → lists_ready n g s ≡ true → (lists_ready c g s ≡ true) ⊎ (turns g s ≡ true)
     grown-ready g s t = let m = ready-member n g s t in by m.0 m.2 m.3 (grown-from g m.0 m.1)
       where
-        by : (m : Member) → m.server ≡ s → m.ready ≡ true → IsIn m (members_of w g) ⊎ ((m ≡ joiner m.server) × MayJoin w m.server g × (members_of n g ≡ members_of w g ++ joiner m.server ∷ []))
+        by : (m : Member) → m.server ≡ s → m.ready ≡ true → IsIn m (members_of w g)
+            ⊎ ((m ≡ joiner m.server) × MayJoin w m.server g × (members_of n g ≡ members_of w g ++ joiner m.server ∷ []))
             → (lists_ready c g s ≡ true) ⊎ (turns g s ≡ true)
         by m e r (inr (q, may, l)) = absurd (false≢true (sym (ap (λ (x : Member). x.ready) q) ∙ r))
         by m e r (inl i) =

@@ -9,7 +9,8 @@ use Rattle.hx_law_epochs.proofs.Next.{IsOrderly}
 abbrev pub ListsServers : Config → Type 0
 ListsServers c = (g : RegionId) (s : ServerId) → IsIn s (order c g) → IsIn s c.servers
 
--- the later of two configurations of a run: what is lost stays lost, who stays a server stays listed, in the same order, and whoever is listed since stands last
+-- the later of two configurations of a run: what is lost stays lost, who stays a server stays
+-- listed, in the same order, and whoever is listed since stands last
 pub record GrownOut (c n : Config) : Type 0 where
   pub epoch : c.epoch.0 ≤ n.epoch.0
   pub servers : (s : ServerId) → IsIn s n.servers → IsIn s c.servers

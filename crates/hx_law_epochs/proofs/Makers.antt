@@ -18,7 +18,8 @@ turned turn m = record { server = m.server; ready = m.ready || turn m.server }
 -- members for whom the test doesn't hold stay as they are
 none-turned : (ms : List Member) → ms ≡ map (turned (λ x. false)) ms
 none-turned [] = refl
-none-turned (m ∷ ms) = ap (λ (b : Bool). record { server = m.server; ready = b } ∷ ms) (or-false m.ready) ∙ ap (λ (l : List Member). turned (λ x. false) m ∷ l) (none-turned ms)
+none-turned (m ∷ ms) = ap (λ (b : Bool). record { server = m.server; ready = b } ∷ ms) (or-false m.ready)
+    ∙ ap (λ (l : List Member). turned (λ x. false) m ∷ l) (none-turned ms)
   where
     or-false : (b : Bool) → b ≡ (b || false)
     or-false true = refl
@@ -47,7 +48,8 @@ map-at f e (x ∷ xs) zero = refl
 map-at f e (x ∷ xs) (suc k) = map-at f e xs k
 
 module _ (c : Config) (s : ServerId) where
-  without-left : (g : RegionId) → members_of (config_without c s) g ≡ map (turned (nobody g)) (filter (λ (m : Member). not (same_server m.server s)) (members_of c g))
+  without-left : (g : RegionId) → members_of (config_without c s) g
+      ≡ map (turned (nobody g)) (filter (λ (m : Member). not (same_server m.server s)) (members_of c g))
   without-left g = map-at (members_without s) refl c.regions g.0 ∙ none-turned (members_without s (members_of c g))
 
   pub without-comes : IsOrderly c → ComesNext c (config_without c s) nobody
@@ -67,7 +69,8 @@ module _ (c : Config) (s : ServerId) (g : RegionId) where
 
   pub with-comes : IsOrderly c → judged c s g ≡ None → ComesNext c (config_with c s g) nobody
   with-comes ok free =
-      grown-comes c (renumbered c) ok (λ (y : ServerId). false) nobody (λ h x t. absurd (false≢true t)) refl (none-out c.servers) (λ h. all-stay (members_of c h))
+      grown-comes c (renumbered c) ok (λ (y : ServerId). false) nobody (λ h x t. absurd (false≢true t)) refl
+      (none-out c.servers) (λ h. all-stay (members_of c h))
       (config_with c s g) (config_with-grown c s g (judged-may c s g free))
 
   -- ---- a server is ready in a region
@@ -96,9 +99,11 @@ module _ (c : Config) (s : ServerId) (g : RegionId) where
       ready-of : Option (List Member) → Bool
       ready-of o = not (list_any (λ (m : Member). m.ready) (when_some o [] (λ (ms : List Member). ms)))
 
-      at : (o : Option (List Member)) → slice_get c.regions g.0 ≡ o → is_lost c g ≡ false → members_of (config_ready c s g) g ≡ map (ready_if s) (members_of c g)
+      at : (o : Option (List Member)) → slice_get c.regions g.0 ≡ o → is_lost c g ≡ false
+          → members_of (config_ready c s g) g ≡ map (ready_if s) (members_of c g)
       at None e l = absurd (false≢true (sym l ∙ ap ready-of e))
-      at (Some ms) e l = ap (λ (o : Option (List Member)). when_some o [] (λ (xs : List Member). xs)) (set-here c.regions g.0 ms (map (ready_if s) (members_of c g)) e)
+      at (Some ms) e l = ap (λ (o : Option (List Member)). when_some o [] (λ (xs : List Member). xs))
+          (set-here c.regions g.0 ms (map (ready_if s) (members_of c g)) e)
 
   -- and of others
   left-other : (h : RegionId) → (h.0 ≡ g.0 → ⊥) → Left h
@@ -130,7 +135,8 @@ without-follows c s ok = (without-comes c s ok).follows
 pub without-orderly : (c : Config) (s : ServerId) → IsOrderly c → IsOrderly (config_without c s)
 without-orderly c s ok = (without-comes c s ok).orderly
 
-pub without-ready : (c : Config) (s : ServerId) → IsOrderly c → (h : RegionId) (x : ServerId) → lists_ready (config_without c s) h x ≡ true → lists_ready c h x ≡ true
+pub without-ready : (c : Config) (s : ServerId) → IsOrderly c → (h : RegionId) (x : ServerId)
+    → lists_ready (config_without c s) h x ≡ true → lists_ready c h x ≡ true
 without-ready c s ok h x t = elim ((without-comes c s ok).ready h x t) [ inl u ↦ u | inr u ↦ absurd (false≢true u) ]
 
 pub with-follows : (c : Config) (s : ServerId) (g : RegionId) → IsOrderly c → judged c s g ≡ None → FollowsOn c (config_with c s g)

@@ -69,20 +69,27 @@ set-other (a ∷ xs) (suc k) (suc j) y n = set-other xs k j y (λ e. n (ap (λ i
 pub appended-here : (c : Config) (s : ServerId) (g : RegionId) → is_lost c g ≡ false → members_of (config_with c s g) g ≡ members_of c g ++ joiner s ∷ []
 appended-here c s g l = by (slice_get c.regions g.0) refl l
   where
-    by : (o : Option (List Member)) → slice_get c.regions g.0 ≡ o → not (any_ready (when_some o [] (λ (ms : List Member). ms))) ≡ false → members_of (config_with c s g) g ≡ members_of c g ++ joiner s ∷ []
+    by : (o : Option (List Member)) → slice_get c.regions g.0 ≡ o
+        → not (any_ready (when_some o [] (λ (ms : List Member). ms))) ≡ false
+        → members_of (config_with c s g) g ≡ members_of c g ++ joiner s ∷ []
     by None e f = absurd (false≢true (sym f))
-    by (Some ms) e f = ap (λ (o : Option (List Member)). when_some o [] (λ (xs : List Member). xs)) (set-here c.regions g.0 ms (members_of c g ++ joiner s ∷ []) e)
+    by (Some ms) e f = ap (λ (o : Option (List Member)). when_some o [] (λ (xs : List Member). xs))
+        (set-here c.regions g.0 ms (members_of c g ++ joiner s ∷ []) e)
 
 -- and those of another region
 appended-other : (c : Config) (s : ServerId) (g h : RegionId) → (h.0 ≡ g.0 → ⊥) → members_of (config_with c s g) h ≡ members_of c h
-appended-other c s g h n = ap (λ (o : Option (List Member)). when_some o [] (λ (xs : List Member). xs)) (set-other c.regions g.0 h.0 (members_of c g ++ joiner s ∷ []) n)
+appended-other c s g h n = ap (λ (o : Option (List Member)). when_some o [] (λ (xs : List Member). xs))
+    (set-other c.regions g.0 h.0 (members_of c g ++ joiner s ∷ []) n)
 
 -- where nothing speaks against it, the server may join
 pub judged-may : (c : Config) (s : ServerId) (g : RegionId) → judged c s g ≡ None → MayJoin c s g
 judged-may c s g = by (server_in s c.servers) refl (is_lost c g) refl (lists_ready c g s) refl (any_joining (members_of c g)) refl
   where
-    by : (a : Bool) → server_in s c.servers ≡ a → (b : Bool) → is_lost c g ≡ b → (x : Bool) → lists_ready c g s ≡ x → (d : Bool) → any_joining (members_of c g) ≡ d
-        → cond (not a) (Some (an_answer.Stopped c.epoch)) (cond b (Some (an_answer.Lost c.epoch)) (cond x (Some (an_answer.Member c.epoch)) (cond d (Some (an_answer.Joining c.epoch)) None))) ≡ None → MayJoin c s g
+    by : (a : Bool) → server_in s c.servers ≡ a → (b : Bool) → is_lost c g ≡ b → (x : Bool) → lists_ready c g s ≡ x
+        → (d : Bool) → any_joining (members_of c g) ≡ d
+        → cond (not a) (Some (an_answer.Stopped c.epoch))
+        (cond b (Some (an_answer.Lost c.epoch)) (cond x (Some (an_answer.Member c.epoch))
+        (cond d (Some (an_answer.Joining c.epoch)) None))) ≡ None → MayJoin c s g
     by false p b q x r d t e = absurd (cc)
     by true p true q x r d t e = absurd (cc)
     by true p false q true r d t e = absurd (cc)
@@ -91,7 +98,9 @@ judged-may c s g = by (server_in s c.servers) refl (is_lost c g) refl (lists_rea
       known = server-in s c.servers p;
       not_lost = q;
       all_ready = ready;
-      no_member = λ m i z. false≢true (sym r ∙ any-of (λ (x : Member). same_server x.server s && x.ready) (members_of c g) m i (and_from (same_server m.server s) m.ready (eq-eqb m.server.0 s.0 (ap (λ (y : ServerId). y.0) z)) (ready m i)));
+      no_member = λ m i z. false≢true (sym r ∙ any-of (λ (x : Member). same_server x.server s && x.ready)
+          (members_of c g) m i (and_from (same_server m.server s) m.ready
+          (eq-eqb m.server.0 s.0 (ap (λ (y : ServerId). y.0) z)) (ready m i)));
     }
       where
         ready : (m : Member) → IsIn m (members_of c g) → m.ready ≡ true
@@ -111,8 +120,19 @@ config_with-grown c s g may = record {
   servers = refl;
   lists = λ k. elim (cases_eq k.0 g.0) [
     | inl e ↦ (let z : k ≡ g = λ j. record { 0 = e j } in
-        subst (λ (q : RegionId). (members_of (config_with c s g) q ≡ members_of c q) ⊎ ((x : ServerId) × (members_of (config_with c s g) q ≡ members_of c q ++ joiner x ∷ []) × MayJoin (renumbered c) x q)) (sym z)
-        (inr (s, appended-here c s g may.not_lost, record { known = may.known; not_lost = may.not_lost; all_ready = may.all_ready; no_member = may.no_member })))
+        subst (λ (q : RegionId). (members_of (config_with c s g) q ≡ members_of c q)
+        ⊎ ((x : ServerId) × (members_of (config_with c s g) q ≡ members_of c q ++ joiner x ∷ [])
+        × MayJoin (renumbered c) x q)) (sym z)
+        (inr (
+          s,
+          appended-here c s g may.not_lost,
+          record {
+            known = may.known;
+            not_lost = may.not_lost;
+            all_ready = may.all_ready;
+            no_member = may.no_member;
+          },
+        )))
     | inr n ↦ inl (appended-other c s g k n)
   ];
 }

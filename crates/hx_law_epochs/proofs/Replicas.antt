@@ -106,7 +106,8 @@ module _ (space : Space) (s : ServerId) (st : ServerState) (shaped : Shaped s st
   kept-region : (g : RegionId) → (replica_or_new st.replicas g).region ≡ g
   kept-region g = by (replica_of g st.replicas) refl
     where
-      by : (o : Option Replica) → replica_of g st.replicas ≡ o → (when_some o (record { region = g; installed = false; states = [] }) (λ (r : Replica). r)).region ≡ g
+      by : (o : Option Replica) → replica_of g st.replicas ≡ o
+          → (when_some o (record { region = g; installed = false; states = [] }) (λ (r : Replica). r)).region ≡ g
       by None e = refl
       by (Some r) e = (replica-found g st.replicas r e).1
 
@@ -115,34 +116,40 @@ module _ (space : Space) (s : ServerId) (st : ServerState) (shaped : Shaped s st
   kept-empty g = by (replica_of g st.replicas) refl
     where
       by : (o : Option Replica) → replica_of g st.replicas ≡ o
-          → (when_some o (record { region = g; installed = false; states = [] }) (λ (r : Replica). r)).installed ≡ false → (when_some o (record { region = g; installed = false; states = [] }) (λ (r : Replica). r)).states ≡ []
+          → (when_some o (record { region = g; installed = false; states = [] }) (λ (r : Replica). r)).installed
+          ≡ false → (when_some o (record { region = g; installed = false; states = [] }) (λ (r : Replica). r)).states ≡ []
       by None e t = refl
       by (Some r) e t = shaped.empty r (replica-found g st.replicas r e).0 t
 
   -- each region in which the configuration lists the server is found
   mid-there : (g : RegionId) → lists config g s ≡ true → replica_of g mid.replicas ≡ Some (replica_or_new st.replicas g)
-  mid-there g t = made-found (replica_or_new st.replicas) kept-region g (listed_regions config st.id) (listed-there config g st.id (subst (λ (x : ServerId). lists config g x ≡ true) (sym shaped.id) t))
+  mid-there g t = made-found (replica_or_new st.replicas) kept-region g (listed_regions config st.id)
+      (listed-there config g st.id (subst (λ (x : ServerId). lists config g x ≡ true) (sym shaped.id) t))
 
   pub mid-shaped : Shaped s mid
   mid-shaped = record {
     id = shaped.id;
     there = λ g t. (replica_or_new st.replicas g, mid-there g t);
-    only = λ g r e. subst (λ (x : ServerId). lists config g x ≡ true) shaped.id (listed-only config g st.id (made-in (replica_or_new st.replicas) kept-region g (listed_regions config st.id) r e));
+    only = λ g r e. subst (λ (x : ServerId). lists config g x ≡ true) shaped.id
+        (listed-only config g st.id (made-in (replica_or_new st.replicas) kept-region g (listed_regions config st.id) r e));
     once = made-once (replica_or_new st.replicas) kept-region (listed_regions config st.id) (listed-apart config st.id);
-    empty = λ r i. (let m = in-map (replica_or_new st.replicas) (listed_regions config st.id) r i in subst (λ (x : Replica). x.installed ≡ false → x.states ≡ []) (sym m.2) (kept-empty m.0));
+    empty = λ r i. (let m = in-map (replica_or_new st.replicas) (listed_regions config st.id) r i in
+        subst (λ (x : Replica). x.installed ≡ false → x.states ≡ []) (sym m.2) (kept-empty m.0));
   }
 
   pub mid-installed : (g : RegionId) → lists config g s ≡ true → Installed st g → Installed mid g
   mid-installed g t i = record {
     replica = i.replica;
-    found = mid-there g t ∙ ap (λ (o : Option Replica). Some (when_some o (record { region = g; installed = false; states = [] }) (λ (r : Replica). r))) i.found;
+    found = mid-there g t ∙ ap (λ (o : Option Replica). Some
+        (when_some o (record { region = g; installed = false; states = [] }) (λ (r : Replica). r))) i.found;
     installed = i.installed;
   }
 
   pub done-shaped : Shaped s done
   done-shaped = record {
     id = shaped.id;
-    there = λ g t. (let k = mid-shaped.there g t in (adopted_replica space mid k.0, mapped-found (adopted_replica space mid) (λ r. refl) g mid.replicas k.0 k.1));
+    there = λ g t. (let k = mid-shaped.there g t in
+        (adopted_replica space mid k.0, mapped-found (adopted_replica space mid) (λ r. refl) g mid.replicas k.0 k.1));
     only = λ g r e. (let k = mapped-from (adopted_replica space mid) (λ r. refl) g mid.replicas r e in mid-shaped.only g k.0 k.1);
     once = mapped-once (adopted_replica space mid) (λ r. refl) mid.replicas mid-shaped.once;
     empty = λ r i. (let m = in-map (adopted_replica space mid) mid.replicas r i in
@@ -152,4 +159,8 @@ module _ (space : Space) (s : ServerId) (st : ServerState) (shaped : Shaped s st
 
   -- what was installed and is still listed stays installed
   pub done-installed : (g : RegionId) → Installed mid g → Installed done g
-  done-installed g i = record { replica = adopted_replica space mid i.replica; found = mapped-found (adopted_replica space mid) (λ r. refl) g mid.replicas i.replica i.found; installed = i.installed }
+  done-installed g i = record {
+    replica = adopted_replica space mid i.replica;
+    found = mapped-found (adopted_replica space mid) (λ r. refl) g mid.replicas i.replica i.found;
+    installed = i.installed;
+  }

@@ -82,7 +82,9 @@ start-run script valid = record {
     own = λ s. refl;
     home = λ g s i. listed-in (first_config script.space) g s ((start-shaped script.space s).only g i.replica i.found);
     listed = λ s r l. first-there script.space s (real-server script s r);
-    ready = λ k a g s t. start-installed script.space s g (ready-listed (first_config script.space) g s (subst (λ (x : Config). lists_ready x g s ≡ true) (first-known script k a) t));
+    ready = λ k a g s t. start-installed script.space s g
+        (ready-listed (first_config script.space) g s
+        (subst (λ (x : Config). lists_ready x g s ≡ true) (first-known script k a) t));
     real = λ k a s i. first-real s (subst (λ (x : Config). IsIn s x.servers) (first-known script k a) i);
     says = λ p i. absurd i;
   };
@@ -93,9 +95,17 @@ start-run script valid = record {
     sessions = λ u. refl;
     installs = λ p config i. absurd i;
     on = record {
-      each = λ epoch a b. (first_config script.space, cond-true (eqb epoch.0 1) (Some (first_config script.space)) None (eq-eqb epoch.0 1 (omega (arith, a, b))));
+      each = λ epoch a b. (
+        first_config script.space,
+        cond-true (eqb epoch.0 1) (Some (first_config script.space)) None (eq-eqb epoch.0 1 (omega (arith, a, b))),
+      );
       only = λ epoch c. cond_both (eqb epoch.0 1) (Some (first_config script.space)) None (λ o. o ≡ Some c → (1 ≤ epoch.0) × (epoch.0 ≤ 1) × (c.epoch ≡ epoch))
-          (λ t e. (let q = eqb-true epoch.0 1 t in (omega (arith, q), omega (arith, q), (let z : first_config script.space ≡ c = cc in ap (λ (x : Config). x.epoch) (sym z) ∙ (λ j. record { 0 = sym q j })))))
+          (λ t e. (let q = eqb-true epoch.0 1 t in (
+            omega (arith, q),
+            omega (arith, q),
+            (let z : first_config script.space ≡ c = cc in
+                ap (λ (x : Config). x.epoch) (sym z) ∙ (λ j. record { 0 = sym q j })),
+          )))
           (λ t e. absurd (cc));
     };
   };
@@ -103,7 +113,8 @@ start-run script valid = record {
   where
     orderly : IsOrderly (first_config script.space)
     orderly = record {
-      members = λ g m i. first-there script.space m.server (member-server script.space (first_config script.space) (first-of_space script.space valid.space) g m i);
+      members = λ g m i. first-there script.space m.server
+          (member-server script.space (first_config script.space) (first-of_space script.space valid.space) g m i);
       differ = members-differ script.space valid.space;
       joins_last = λ g m x b. all-ready script.space g m (before-first (members_of (first_config script.space) g) m x b);
     }
@@ -112,7 +123,9 @@ start-run script valid = record {
     first-real s i =
         let m = in-map (λ n. record { 0 = n + 1 }) (below script.space.servers) s i in
         let b = in-below script.space.servers m.0 m.1 in
-        subst (λ (x : ServerId). Real script x) (sym m.2) (and_from (ltb 0 (m.0 + 1)) (leb (m.0 + 1) script.space.servers) (lt-ltb 0 (m.0 + 1) (omega arith)) (le-leb (m.0 + 1) script.space.servers (omega (arith, b))))
+        subst (λ (x : ServerId). Real script x) (sym m.2)
+        (and_from (ltb 0 (m.0 + 1)) (leb (m.0 + 1) script.space.servers) (lt-ltb 0 (m.0 + 1) (omega arith))
+        (le-leb (m.0 + 1) script.space.servers (omega (arith, b))))
 
 -- ---- an entry
 
@@ -148,7 +161,8 @@ module _ (script : Script) (valid : IsScript script) (older : List Entry) (kept 
   arrives a id from m h = arrived id older (post from a m) h
 
   -- and says what posts say
-  arrives-says : (a : Actor) (input : Input) → MayTake older a input → (id : PostId) (from : Actor) (m : Message) → input ≡ Deliver id from m → Says N (IsKnown script older) d.config from a m
+  arrives-says : (a : Actor) (input : Input) → MayTake older a input → (id : PostId) (from : Actor) (m : Message)
+      → input ≡ Deliver id from m → Says N (IsKnown script older) d.config from a m
   arrives-says a input may id from m e = kept.epochs.says (post from a m) (arrives a id from m (subst (MayTake older a) e may))
 
   -- ---- a server
@@ -158,12 +172,15 @@ module _ (script : Script) (valid : IsScript script) (older : List Entry) (kept 
   server-here i input = cond-true (same_server i i) (server_step script.space (N i) input).state (N i) (eq-eqb i.0 i.0 refl)
 
   server-others : (i : ServerId) (input : Input) (j : ServerId) → (j ≡ i → ⊥) → server_after script.space j (Server i) input (N j) ≡ N j
-  server-others i input j n = cond-false (same_server i j) (server_step script.space (N j) input).state (N j) (ne_eqb i.0 j.0 (λ e. n (λ k. record { 0 = sym e k })))
+  server-others i input j n = cond-false (same_server i j) (server_step script.space (N j) input).state (N j)
+      (ne_eqb i.0 j.0 (λ e. n (λ k. record { 0 = sym e k })))
 
   pub server-does-well : (i : ServerId) (input : Input) → Real script i → (N i).halted ≡ false → MayTake older (Server i) input
       → Does i (N i) (IsKnown script older) (server_step script.space (N i) input)
   server-does-well i input real up may =
-      server-does script.space i (N i) (kept.shaped i) (leads-installed (Real script) N (IsKnown script older) d.config (posts_of older) kept.epochs i real up script.space (kept.shaped i).id)
+      server-does script.space i (N i) (kept.shaped i)
+      (leads-installed (Real script) N (IsKnown script older) d.config
+      (posts_of older) kept.epochs i real up script.space (kept.shaped i).id)
       (IsKnown script older) input (λ id from config e. arrives-says (Server i) input may id from (a_message.Install config) e)
 
   server-keeps : (i : ServerId) (input : Input) → Real script i → (N i).halted ≡ false → MayTake older (Server i) input
@@ -174,9 +191,11 @@ module _ (script : Script) (valid : IsScript script) (older : List Entry) (kept 
       let after = serving-kept (Real script) N (IsKnown script older) d.config (posts_of older) kept.epochs i real up step does
       (λ s. server_after script.space s (Server i) input (N s)) (server-here i input) (server-others i input) in
       record {
-        epochs = λ known w. same-kept (Real script) (λ s. server_after script.space s (Server i) input (N s)) (IsKnown script older) d.config (step.posts ++ posts_of older) after known d.config w refl;
+        epochs = λ known w. same-kept (Real script) (λ s. server_after script.space s (Server i) input (N s))
+            (IsKnown script older) d.config (step.posts ++ posts_of older) after known d.config w refl;
         shaped = λ s. cond_both (same_server i s) (server_step script.space (N s) input).state (N s) (Shaped s)
-            (λ t. (let e = eqb-true i.0 s.0 t in let q : i ≡ s = (λ k. record { 0 = e k }) in subst (λ (x : ServerId). Shaped x (server_step script.space (N x) input).state) q does.shaped))
+            (λ t. (let e = eqb-true i.0 s.0 t in let q : i ≡ s = (λ k. record { 0 = e k }) in
+            subst (λ (x : ServerId). Shaped x (server_step script.space (N x) input).state) q does.shaped))
             (λ t. kept.shaped s);
         notes = inl (refl, does.notes);
         installs = λ p config j e. absurd (subst IsOfServer e (server-posts script.space (N i) input p j));
@@ -186,7 +205,8 @@ module _ (script : Script) (valid : IsScript script) (older : List Entry) (kept 
 
   coordinator-keeps : (input : Input) → MayTake older Coordinator input → let step = coordinator_step d input in Keeps Coordinator input step.posts step.notes
   coordinator-keeps input may =
-      let c = coordinates N d (kept.epochs.orderly d.config kept.epochs.newest) (IsKnown script older) input (λ id from m e. arrives-says Coordinator input may id from m e) in
+      let c = coordinates N d (kept.epochs.orderly d.config kept.epochs.newest) (IsKnown script older) input
+      (λ id from m e. arrives-says Coordinator input may id from m e) in
       record {
         epochs = λ known w. coordinating-kept (Real script) N (IsKnown script older) d.config (posts_of older) kept.epochs (coordinator_step d input) c known w;
         shaped = kept.shaped;
@@ -199,7 +219,8 @@ module _ (script : Script) (valid : IsScript script) (older : List Entry) (kept 
 
   -- ---- a session
 
-  session-keeps : (u : SessionId) (input : Input) → let step = session_step script.space (session_of script u older) input in Keeps (Session u) input step.posts step.notes
+  session-keeps : (u : SessionId) (input : Input) → let step =
+      session_step script.space (session_of script u older) input in Keeps (Session u) input step.posts step.notes
   session-keeps u input =
       let s = session_of script u older in
       let step = session_step script.space s input in
@@ -216,7 +237,9 @@ module _ (script : Script) (valid : IsScript script) (older : List Entry) (kept 
       }
 
   -- each entry
-  keeps : (a : Actor) (input : Input) (ps : List Post) (ns : List Note) → is_actor script a ≡ true → has_halted script older a ≡ false → MayTake older a input → made_of script older a input ≡ record { posts = ps; notes = ns } → Keeps a input ps ns
+  keeps : (a : Actor) (input : Input) (ps : List Post) (ns : List Note) → is_actor script a ≡ true
+      → has_halted script older a ≡ false → MayTake older a input
+      → made_of script older a input ≡ record { posts = ps; notes = ns } → Keeps a input ps ns
   keeps Coordinator input ps ns real up may made = subst (λ (m : Output). Keeps Coordinator input m.posts m.notes) made (coordinator-keeps input may)
   keeps (Server i) input ps ns real up may made = subst (λ (m : Output). Keeps (Server i) input m.posts m.notes) made (server-keeps i input real up may)
   keeps (Session u) input ps ns real up may made = subst (λ (m : Output). Keeps (Session u) input m.posts m.notes) made (session-keeps u input)
@@ -240,14 +263,17 @@ module _ (script : Script) (valid : IsScript script) (older : List Entry) (kept 
 
   -- the configurations of an epoch after the entry
   after-is : (n : Config) → Notes script valid older kept n x.notes → (epoch : Epoch)
-      → (config_of script epoch (x ∷ older) ≡ config_of script epoch older) ⊎ ((epoch.0 ≡ was.epoch.0 + 1) × (n.epoch.0 ≡ was.epoch.0 + 1) × (config_of script epoch (x ∷ older) ≡ Some n))
+      → (config_of script epoch (x ∷ older) ≡ config_of script epoch older)
+      ⊎ ((epoch.0 ≡ was.epoch.0 + 1) × (n.epoch.0 ≡ was.epoch.0 + 1) × (config_of script epoch (x ∷ older) ≡ Some n))
   after-is n (inl (e, f)) epoch = inl (ap (λ (o : Option Config). first_some o (config_of script epoch older)) (f epoch))
   after-is n (inr i) epoch =
       let q = i.follows.epoch in
       by (eqb n.epoch.0 epoch.0) refl q (ap (λ (l : List Note). first_some (config_noted epoch l) (config_of script epoch older)) i.notes)
     where
-      by : (b : Bool) → eqb n.epoch.0 epoch.0 ≡ b → n.epoch.0 ≡ was.epoch.0 + 1 → config_of script epoch (x ∷ older) ≡ first_some (cond b (Some n) None) (config_of script epoch older)
-          → (config_of script epoch (x ∷ older) ≡ config_of script epoch older) ⊎ ((epoch.0 ≡ was.epoch.0 + 1) × (n.epoch.0 ≡ was.epoch.0 + 1) × (config_of script epoch (x ∷ older) ≡ Some n))
+      by : (b : Bool) → eqb n.epoch.0 epoch.0 ≡ b → n.epoch.0 ≡ was.epoch.0 + 1
+          → config_of script epoch (x ∷ older) ≡ first_some (cond b (Some n) None) (config_of script epoch older)
+          → (config_of script epoch (x ∷ older) ≡ config_of script epoch older)
+          ⊎ ((epoch.0 ≡ was.epoch.0 + 1) × (n.epoch.0 ≡ was.epoch.0 + 1) × (config_of script epoch (x ∷ older) ≡ Some n))
       by true t q e = inr (sym (eqb-true n.epoch.0 epoch.0 t) ∙ q, q, e)
       by false t q e = inl e
 
@@ -269,8 +295,10 @@ module _ (script : Script) (valid : IsScript script) (older : List Entry) (kept 
       -- the note itself shows it
       old : (o : Option Config) → config_of script now.epoch older ≡ o → config_of script now.epoch (x ∷ older) ≡ config_of script now.epoch older → ⊥
       old o q e =
-          let h : config_of script now.epoch (x ∷ older) ≡ Some now = ap (λ (l : List Note). first_some (config_noted now.epoch l) (config_of script now.epoch older)) i.notes
-          ∙ ap (λ (o : Option Config). first_some o (config_of script now.epoch older)) (cond-true (eqb now.epoch.0 now.epoch.0) (Some now) None (eq-eqb now.epoch.0 now.epoch.0 refl)) in
+          let h : config_of script now.epoch (x ∷ older) ≡ Some now =
+          ap (λ (l : List Note). first_some (config_noted now.epoch l) (config_of script now.epoch older)) i.notes
+          ∙ ap (λ (o : Option Config). first_some o (config_of script now.epoch older))
+          (cond-true (eqb now.epoch.0 now.epoch.0) (Some now) None (eq-eqb now.epoch.0 now.epoch.0 refl)) in
           let k = kept.known.on.only now.epoch now (sym e ∙ h) in
           let l = k.1 in let f = i.follows.epoch in omega (arith, l, f)
 
@@ -288,13 +316,18 @@ module _ (script : Script) (valid : IsScript script) (older : List Entry) (kept 
     ];
     only = λ epoch c k. elim (after-is now notes epoch) [
       | inl e ↦ (let r = kept.known.on.only epoch c (sym e ∙ k) in let l = r.1 in let g = grows notes in (r.0, omega (arith, l, g), r.2))
-      | inr (p, q, e) ↦ (let z : Some now ≡ Some c = sym e ∙ k in let y : now ≡ c = cc in
-          (omega (arith, p), omega (arith, p, q), ap (λ (w : Config). w.epoch) (sym y) ∙ (let r : now.epoch.0 ≡ epoch.0 = omega (arith, p, q) in λ j. record { 0 = r j })))
+      | inr (p, q, e) ↦ (let z : Some now ≡ Some c = sym e ∙ k in let y : now ≡ c = cc in (
+        omega (arith, p),
+        omega (arith, p, q),
+        ap (λ (w : Config). w.epoch) (sym y)
+            ∙ (let r : now.epoch.0 ≡ epoch.0 = omega (arith, p, q) in λ j. record { 0 = r j }),
+      ))
     ];
   }
     where
       -- an epoch that isn't the new one is no later than before
-      low : Notes script valid older kept now x.notes → (epoch : Epoch) → epoch.0 ≤ now.epoch.0 → config_of script epoch (x ∷ older) ≡ config_of script epoch older → epoch.0 ≤ was.epoch.0
+      low : Notes script valid older kept now x.notes → (epoch : Epoch) → epoch.0 ≤ now.epoch.0
+          → config_of script epoch (x ∷ older) ≡ config_of script epoch older → epoch.0 ≤ was.epoch.0
       low (inl (e, f)) epoch l same = let q = ap (λ (c : Config). c.epoch.0) e in omega (arith, q, l)
       low (inr i) epoch l same = elim (cases_lt epoch.0 now.epoch.0) [
         | inl m ↦ (let q = i.follows.epoch in omega (arith, q, m))
@@ -331,15 +364,19 @@ module _ (script : Script) (valid : IsScript script) (older : List Entry) (kept 
     on = now-on here.notes;
   }
     where
-      install : (a : Actor) (input : Input) → MayTake older a input → (id : PostId) (from : Actor) (config : Config) → input ≡ Deliver id from (a_message.Install config) → IsKnown script older config
+      install : (a : Actor) (input : Input) → MayTake older a input → (id : PostId) (from : Actor) (config : Config)
+          → input ≡ Deliver id from (a_message.Install config) → IsKnown script older config
       install a input may id from config e = arrives-says script valid older kept a input may id from (a_message.Install config) e
 
-      session : (u : SessionId) (a : Actor) (input : Input) → ((id : PostId) (from : Actor) (config : Config) → input ≡ Deliver id from (a_message.Install config) → IsKnown script older config)
+      session : (u : SessionId) (a : Actor) (input : Input)
+          → ((id : PostId) (from : Actor) (config : Config) → input ≡ Deliver id from (a_message.Install config)
+          → IsKnown script older config)
           → IsKnown script (x ∷ older) (session_after script.space u a input (session_of script u older)).config
       session u Coordinator input f = known-still _ (kept.known.sessions u)
       session u (Server i) input f = known-still _ (kept.known.sessions u)
       session u (Session v) input f =
-          cond_both (eqb v.0 u.0) (session_step script.space (session_of script u older) input).state (session_of script u older) (λ (s : SessionState). IsKnown script (x ∷ older) s.config)
+          cond_both (eqb v.0 u.0) (session_step script.space (session_of script u older) input).state
+          (session_of script u older) (λ (s : SessionState). IsKnown script (x ∷ older) s.config)
           (λ t. elim (session-config script.space (session_of script u older) input) [
             | inl e ↦ subst (IsKnown script (x ∷ older)) (sym e) (known-still _ (kept.known.sessions u))
             | inr (id, from, config, e, q, l) ↦ subst (IsKnown script (x ∷ older)) (sym q) (known-still config (f id from config e))
@@ -355,21 +392,25 @@ epochs-run script valid (x ∷ older) run =
     record { epochs = epochs-after script valid older kept x run.0; shaped = k.shaped; known = known-after script valid older kept x run.0 }
 
 -- each configuration is issued as it should be
-pub issued-well : (script : Script) → IsScript script → (x : Entry) (older : List Entry) → IsRun script (x ∷ older) → (next : Config) → IsIn (a_note.Issued next) x.notes → WasIssued script older next
+pub issued-well : (script : Script) → IsScript script → (x : Entry) (older : List Entry) → IsRun script (x ∷ older)
+    → (next : Config) → IsIn (a_note.Issued next) x.notes → WasIssued script older next
 issued-well script valid x older run next i =
     let kept = epochs-run script valid older run.1 in
     by kept (keeps-entry script valid older kept x run.0).notes
   where
     noted : (ns : List Note) → IsIn (a_note.Issued next) ns → config_noted next.epoch ns ≡ None → ⊥
     noted [] i = absurd i
-    noted (n ∷ ns) (inl e) = λ q. none (sym (ap (λ (m : Note). config_noted next.epoch (m ∷ ns)) (sym e) ∙ cond-true (eqb next.epoch.0 next.epoch.0) (Some next) (config_noted next.epoch ns) (eq-eqb next.epoch.0 next.epoch.0 refl)) ∙ q)
+    noted (n ∷ ns) (inl e) = λ q. none (sym (ap (λ (m : Note). config_noted next.epoch (m ∷ ns)) (sym e)
+        ∙ cond-true (eqb next.epoch.0 next.epoch.0) (Some next) (config_noted next.epoch ns)
+        (eq-eqb next.epoch.0 next.epoch.0 refl)) ∙ q)
       where
         none : Some next ≡ None → ⊥
         none e = absurd (cc)
     noted (n ∷ ns) (inr i) = λ q. noted ns i (later n q)
       where
         later : (n : Note) → config_noted next.epoch (n ∷ ns) ≡ None → config_noted next.epoch ns ≡ None
-        later (a_note.Issued c) = cond_both (eqb c.epoch.0 next.epoch.0) (Some c) (config_noted next.epoch ns) (λ o. o ≡ None → config_noted next.epoch ns ≡ None) (λ t e. absurd (cc)) (λ t e. e)
+        later (a_note.Issued c) = cond_both (eqb c.epoch.0 next.epoch.0) (Some c) (config_noted next.epoch ns)
+            (λ o. o ≡ None → config_noted next.epoch ns ≡ None) (λ t e. absurd (cc)) (λ t e. e)
         later other = λ q. q
 
     by : (kept : EpochsRun script older) → Notes script valid older kept (coordinator_of script (x ∷ older)).config x.notes → WasIssued script older next

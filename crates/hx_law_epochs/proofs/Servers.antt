@@ -76,7 +76,8 @@ module _ (space : Space) (s : ServerId) (st : ServerState) (shaped : Shaped s st
   of-slot after g e p h = (h.0 ∙ ap Server shaped.id, slot-tells s after st.config p.to p.message (sym e) h.1)
 
   -- a step of one slot
-  slot-does : (r : Replica) (t : KeyState) (step : SlotStep) → replica_of r.region st.replicas ≡ Some r → r.installed ≡ true → SlotTells (context_of space st r.region) step → Does s st May (at_slot st r t step)
+  slot-does : (r : Replica) (t : KeyState) (step : SlotStep) → replica_of r.region st.replicas ≡ Some r
+      → r.installed ≡ true → SlotTells (context_of space st r.region) step → Does s st May (at_slot st r t step)
   slot-does r t step found there tells = record {
     shaped = replaced-shaped s st shaped r (with_slot_at r (moved_all step.moves t)) found (λ e. absurd (false≢true (sym e ∙ there)));
     change = inl (record {
@@ -100,7 +101,8 @@ module _ (space : Space) (s : ServerId) (st : ServerState) (shaped : Shaped s st
     shaped = does.shaped;
     change = does.change;
     posts = each-append (Mine step.state) _ step.posts
-        (each-provided (Mine step.state) (ltb st.config.epoch.0 epoch.0) (poll_post st ∷ []) (each-one (Mine step.state) (poll_post st) (ap Server shaped.id, no-earlier))) does.posts;
+        (each-provided (Mine step.state) (ltb st.config.epoch.0 epoch.0) (poll_post st ∷ [])
+        (each-one (Mine step.state) (poll_post st) (ap Server shaped.id, no-earlier))) does.posts;
     notes = does.notes;
   }
     where
@@ -114,7 +116,8 @@ module _ (space : Space) (s : ServerId) (st : ServerState) (shaped : Shaped s st
   ready-mine : (after : ServerState) (g : RegionId) → after.config ≡ st.config → Installed after g → (p : Post) → IsIn p (ready_post st g) → Mine after p
   ready-mine after g e h =
       each-provided (Mine after) (lists_joining st.config g st.id) _
-      (each-one (Mine after) (post (Server st.id) Coordinator (a_message.Ready st.config.epoch g)) (ap Server shaped.id, (ap (λ (c : Config). c.epoch) (sym e), h)))
+      (each-one (Mine after) (post (Server st.id) Coordinator (a_message.Ready st.config.epoch g))
+      (ap Server shaped.id, (ap (λ (c : Config). c.epoch) (sym e), h)))
 
   -- a replica that isn't installed goes on with a snapshot
   installs : (r : Replica) → replica_of r.region st.replicas ≡ Some r → (snapshot : List Kept) (pending : List Update)
@@ -157,38 +160,43 @@ module _ (space : Space) (s : ServerId) (st : ServerState) (shaped : Shaped s st
   active-is r t = let a = and_parts r.installed (not (is_lost st.config r.region)) t in (a.0, not-true (is_lost st.config r.region) a.1)
 
   -- a snapshot to a joiner
-  snap-mine : (after : ServerState) (r : Replica) → after.config ≡ st.config → Installed after r.region → is_lost st.config r.region ≡ false → (p : Post) → IsIn p (snap_posts st r) → Mine after p
+  snap-mine : (after : ServerState) (r : Replica) → after.config ≡ st.config → Installed after r.region
+      → is_lost st.config r.region ≡ false → (p : Post) → IsIn p (snap_posts st r) → Mine after p
   snap-mine after r e h l p = by (joiner_for st.config r.region st.id) refl
     where
       by : (o : Option ServerId) → joiner_for st.config r.region st.id ≡ o → IsIn p (snap_to st r o) → Mine after p
       by None q i = absurd i
-      by (Some j) q i = each-one (Mine after) (post (Server st.id) (Server j) (a_message.Snap st.config.epoch r.region (snapshot_of r.region r.states) (pending_of_all r.states))) (
-        ap Server shaped.id,
-        (
-          ap (λ (c : Config). c.epoch) (sym e),
-          record {
-            config = st.config;
-            known = sym e;
-            epoch_is = refl;
-            sender = subst (λ (x : ServerId). joiner_for st.config r.region x ≡ Some j) shaped.id q;
-            not_lost = l;
-            installed = h;
-          },
-        ),
-      ) p i
+      by (Some j) q i = each-one (Mine after) (post (Server st.id) (Server j)
+          (a_message.Snap st.config.epoch r.region (snapshot_of r.region r.states) (pending_of_all r.states))) (
+            ap Server shaped.id,
+            (
+              ap (λ (c : Config). c.epoch) (sym e),
+              record {
+                config = st.config;
+                known = sym e;
+                epoch_is = refl;
+                sender = subst (λ (x : ServerId). joiner_for st.config r.region x ≡ Some j) shaped.id q;
+                not_lost = l;
+                installed = h;
+              },
+            ),
+          ) p i
 
   -- what a replica of a list of the server's is found as
   listed-found : (r : Replica) → IsIn r st.replicas → replica_of r.region st.replicas ≡ Some r
   listed-found r i = once-found st.replicas shaped.once r i
 
   -- what an active replica posts, of a snapshot, of its slots, and that it is ready, with the server that it has become
-  active-mine : (after : ServerState) → after.config ≡ st.config → ((g : RegionId) → Installed st g → Installed after g) → (r : Replica) → IsIn r st.replicas → (ps : List Post) → ((p : Post) → IsIn p ps → Mine after p)
+  active-mine : (after : ServerState) → after.config ≡ st.config
+      → ((g : RegionId) → Installed st g → Installed after g) → (r : Replica) → IsIn r st.replicas → (ps : List Post)
+      → ((p : Post) → IsIn p ps → Mine after p)
       → (p : Post) → IsIn p (provided (is_active st.config r) (snap_posts st r ++ ps ++ ready_post st r.region)) → Mine after p
   active-mine after e up r i ps f p j =
       let a = in-provided (is_active st.config r) (snap_posts st r ++ ps ++ ready_post st r.region) p j in
       let b = active-is r a.0 in
       let h : Installed after r.region = up r.region (record { replica = r; found = listed-found r i; installed = b.0 }) in
-      each-append (Mine after) (snap_posts st r ++ ps) (ready_post st r.region) (each-append (Mine after) (snap_posts st r) ps (snap-mine after r e h b.1) f) (ready-mine after r.region e h) p a.1
+      each-append (Mine after) (snap_posts st r ++ ps) (ready_post st r.region)
+      (each-append (Mine after) (snap_posts st r) ps (snap-mine after r e h b.1) f) (ready-mine after r.region e h) p a.1
 
   -- what a replica sends again
   replica-mine : (r : Replica) → IsIn r st.replicas → (p : Post) → IsIn p (replica_tick space st r) → Mine st p
@@ -207,14 +215,18 @@ module _ (space : Space) (s : ServerId) (st : ServerState) (shaped : Shaped s st
   ticks = says _ (asking-mine (flat_map (replica_tick space st) st.replicas) (each-flat (Mine st) (replica_tick space st) st.replicas replica-mine))
 
   -- what a replica posts when a configuration is adopted, with the server that it has become
-  adopted-mine : (after : ServerState) → after.config ≡ st.config → ((g : RegionId) → Installed st g → Installed after g) → (r : Replica) → IsIn r st.replicas → (p : Post) → IsIn p (adopted_posts space st r) → Mine after p
+  adopted-mine : (after : ServerState) → after.config ≡ st.config
+      → ((g : RegionId) → Installed st g → Installed after g) → (r : Replica) → IsIn r st.replicas → (p : Post)
+      → IsIn p (adopted_posts space st r) → Mine after p
   adopted-mine after e up r i =
       active-mine after e up r i (flat_map (resumed_posts (context_of space st r.region)) r.states)
-      (each-flat (Mine after) (resumed_posts (context_of space st r.region)) r.states (λ t j p k. of-slot after r.region e p (resumed-of (context_of space st r.region) t p k)))
+      (each-flat (Mine after) (resumed_posts (context_of space st r.region)) r.states
+      (λ t j p k. of-slot after r.region e p (resumed-of (context_of space st r.region) t p k)))
 
 -- each step of a server
 pub server-does : (space : Space) (s : ServerId) (st : ServerState) → Shaped s st → ((g : RegionId) → leads space st.config st.id g ≡ true → Installed st g)
-    → (May : Config → Type 0) (input : Input) → ((id : PostId) (from : Actor) (config : Config) → input ≡ Deliver id from (a_message.Install config) → May config) → Does s st May (server_step space st input)
+    → (May : Config → Type 0) (input : Input) → ((id : PostId) (from : Actor) (config : Config)
+    → input ≡ Deliver id from (a_message.Install config) → May config) → Does s st May (server_step space st input)
 server-does space s st shaped l May input f = server-cases space st input (Does s st May) (record {
   rests = rests space s st shaped May;
   met = meets space s st shaped May;

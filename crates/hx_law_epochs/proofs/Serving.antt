@@ -27,7 +27,8 @@ head-ready c ok g s l h = by (members_of c g) refl l h
         of x (inl q) r = ap (λ (y : Member). y.ready) (sym q) ∙ r
         of x (inr i) r = ok.joins_last g m x (subst (λ (l : List Member). IsBefore m x l) (sym e) (inl (refl, i)))
 
-    by : (ms : List Member) → members_of c g ≡ ms → not (any_ready ms) ≡ false → when_some (first_of_list ms) None (λ (m : Member). Some m.server) ≡ Some s → lists_ready c g s ≡ true
+    by : (ms : List Member) → members_of c g ≡ ms → not (any_ready ms) ≡ false
+        → when_some (first_of_list ms) None (λ (m : Member). Some m.server) ≡ Some s → lists_ready c g s ≡ true
     by [] e l h = absurd (cc)
     by (m ∷ rest) e l h =
         let q : m.server ≡ s = cc in
@@ -139,7 +140,8 @@ module _ (Real : ServerId → Type 0) (S : ServerId → ServerState) (known : Co
         }
 
     -- of a server that a post is from
-    of-sender : (from : Actor) (P : ServerId → ServerState → Type 0) → (P i (S i) → P i step.state) → FromServer from (λ s. P s (S s)) → FromServer from (λ s. P s (S' s))
+    of-sender : (from : Actor) (P : ServerId → ServerState → Type 0) → (P i (S i) → P i step.state)
+        → FromServer from (λ s. P s (S s)) → FromServer from (λ s. P s (S' s))
     of-sender from P f h = from-map from (λ s. P s (S s)) (λ s. P s (S' s)) (each P f) h
 
     -- each earlier post

@@ -71,7 +71,8 @@ module _ (context : SlotContext) where
   -- a doubt of a write that waits
   waiting-of : (caller : Caller) (v : Version) (o : Option StuckAt) (p : Post) → IsIn p (waiting_doubt context caller v o) → OfSlot p
   waiting-of caller v None p i = absurd i
-  waiting-of caller v (Some x) p i = one (doubt_in context caller v x.region) (refl, tt) p (in-provided (leb x.version.0 v.0) (doubt_in context caller v x.region ∷ []) p i).1
+  waiting-of caller v (Some x) p i = one (doubt_in context caller v x.region) (refl, tt) p
+      (in-provided (leb x.version.0 v.0) (doubt_in context caller v x.region ∷ []) p i).1
 
   -- what a step of a slot posts and notes
   pub record SlotTells (step : SlotStep) : Type 0 where
@@ -130,6 +131,9 @@ module _ (context : SlotContext) where
   -- a slot goes on in a new configuration
   pub resumed-of : (s : KeyState) (p : Post) → IsIn p (resumed_posts context s) → OfSlot p
   resumed-of s =
-      each-append OfSlot (flat_map (passed_on context) (pending_of s) ++ flat_map (move_posts context) (resumed context s)) (leader_doubts context (moved_all (resumed context s) s))
-      (each-append OfSlot (flat_map (passed_on context) (pending_of s)) (flat_map (move_posts context) (resumed context s)) (pending-of (pending_of s)) (moves-of (resumed context s)))
-      (each-provided OfSlot (leads context.space context.config context.server context.region) _ (doubts-of (moved_all (resumed context s) s) (stuck_of context.config (moved_all (resumed context s) s))))
+      each-append OfSlot (flat_map (passed_on context) (pending_of s)
+      ++ flat_map (move_posts context) (resumed context s)) (leader_doubts context (moved_all (resumed context s) s))
+      (each-append OfSlot (flat_map (passed_on context) (pending_of s))
+      (flat_map (move_posts context) (resumed context s)) (pending-of (pending_of s)) (moves-of (resumed context s)))
+      (each-provided OfSlot (leads context.space context.config context.server context.region) _
+      (doubts-of (moved_all (resumed context s) s) (stuck_of context.config (moved_all (resumed context s) s))))

@@ -54,7 +54,8 @@ module _ (S : ServerId → ServerState) (known after : Config → Type 0) (c n :
   Sends k epoch g to s = FromServer to (SendsSnapshot k (S s) epoch g s)
 
   sends-on : (epoch : Epoch) (g : RegionId) (to : Actor) (s : ServerId) → Sends known epoch g to s → Sends after epoch g to s
-  sends-on epoch g to s h = from-map to (SendsSnapshot known (S s) epoch g s) (SendsSnapshot after (S s) epoch g s) (λ j. sends-still known after w.still (S s) epoch g s j) h
+  sends-on epoch g to s h = from-map to (SendsSnapshot known (S s) epoch g s) (SendsSnapshot after (S s) epoch g s)
+      (λ j. sends-still known after w.still (S s) epoch g s j) h
 
   -- posts say no less
   pub says-still : (from to : Actor) (m : Message) → Says S known c from to m → Says S after n from to m
@@ -65,7 +66,8 @@ module _ (S : ServerId → ServerState) (known after : Config → Type 0) (c n :
   says-still from to (a_message.Ready epoch g) h =
       from-map from (And c epoch (λ s. Installed (S s) g)) (And n epoch (λ s. Installed (S s) g)) (λ s l. (later-still epoch s l.0, l.1)) h
   says-still from to (a_message.Snap epoch g snapshot pending) h =
-      from-map from (And c epoch (Sends known epoch g to)) (And n epoch (Sends after epoch g to)) (λ s l. (later-still epoch s l.0, sends-on epoch g to s l.1)) h
+      from-map from (And c epoch (Sends known epoch g to)) (And n epoch (Sends after epoch g to))
+      (λ s l. (later-still epoch s l.0, sends-on epoch g to s l.1)) h
   says-still from to other h = tt
 
 module _ (Real : ServerId → Type 0) (S : ServerId → ServerState) (known : Config → Type 0) (c : Config) (posts : List Post)

@@ -15,14 +15,17 @@ use Rattle.hx_model.specs.ServerSteps.{ServerState, if_installed, replica_of}
 abbrev pub order : Config → RegionId → List ServerId
 order c g = map (λ (m : Member). m.server) (members_of c g)
 
--- a configuration follows on another: the next epoch; servers only leave; each list is the one before without the departed, with at most one member more, who isn't ready and stands last; who is ready stays so
+-- a configuration follows on another: the next epoch; servers only leave; each list is the one
+-- before without the departed, with at most one member more, who isn't ready and stands last; who
+-- is ready stays so
 pub record FollowsOn (c next : Config) : Type 0 where
   pub epoch : next.epoch.0 ≡ c.epoch.0 + 1
   pub servers : (s : ServerId) → IsIn s next.servers → IsIn s c.servers
   pub stays : (g : RegionId) (s : ServerId) → IsIn s next.servers → lists c g s ≡ true → lists next g s ≡ true
   pub same_order : (g : RegionId) (x y : ServerId) → lists c g y ≡ true → IsBefore x y (order next g) → IsBefore x y (order c g)
   pub keeps_order : (g : RegionId) (x y : ServerId) → IsIn x next.servers → IsIn y next.servers → IsBefore x y (order c g) → IsBefore x y (order next g)
-  pub joins : (g : RegionId) (s : ServerId) → lists next g s ≡ true → (lists c g s ≡ true) ⊎ (lists_joining next g s ≡ true) × (is_lost c g ≡ false) × ((x : ServerId) → IsBefore s x (order next g) → ⊥)
+  pub joins : (g : RegionId) (s : ServerId) → lists next g s ≡ true → (lists c g s ≡ true)
+      ⊎ (lists_joining next g s ≡ true) × (is_lost c g ≡ false) × ((x : ServerId) → IsBefore s x (order next g) → ⊥)
   pub ready : (g : RegionId) (s : ServerId) → IsIn s next.servers → lists_ready c g s ≡ true → lists_ready next g s ≡ true
   pub lost : (g : RegionId) → is_lost c g ≡ true → is_lost next g ≡ true
 
@@ -44,7 +47,8 @@ RunsFollowOn =
 -- in every run the configurations from epoch 1 to that of the coordinator are there, and no others
 pub record RunsOn (script : Script) (trace : List Entry) : Type 0 where
   pub each : (epoch : Epoch) → 1 ≤ epoch.0 → epoch.0 ≤ (coordinator_of script trace).config.epoch.0 → (c : Config) × (config_of script epoch trace ≡ Some c)
-  pub only : (epoch : Epoch) (c : Config) → config_of script epoch trace ≡ Some c → (1 ≤ epoch.0) × (epoch.0 ≤ (coordinator_of script trace).config.epoch.0) × (c.epoch ≡ epoch)
+  pub only : (epoch : Epoch) (c : Config) → config_of script epoch trace ≡ Some c → (1 ≤ epoch.0)
+      × (epoch.0 ≤ (coordinator_of script trace).config.epoch.0) × (c.epoch ≡ epoch)
 
 abbrev pub RunsNumberEpochs : Type 0
 RunsNumberEpochs = (script : Script) → IsScript script → (trace : List Entry) → IsRun script trace → RunsOn script trace
@@ -59,17 +63,22 @@ HasTold script trace s a_message.Gone = (server_of script s trace).halted ≡ tr
 HasTold script trace s (a_message.Ready epoch g) = IsInstalled (server_of script s trace) g
 HasTold script trace s other = ⊤
 
--- what holds of epochs after a run: configurations of actors are known, and none is newer than the coordinator's; a server that hasn't halted is in the newest; installed replicas are listed by their server's own configuration; ready members of every known configuration are installed
+-- what holds of epochs after a run: configurations of actors are known, and none is newer than the
+-- coordinator's; a server that hasn't halted is in the newest; installed replicas are listed by
+-- their server's own configuration; ready members of every known configuration are installed
 pub record EpochsHold (script : Script) (trace : List Entry) : Type 0 where
   pub servers_known : (s : ServerId) → config_of script (server_of script s trace).config.epoch trace ≡ Some (server_of script s trace).config
   pub sessions_known : (u : SessionId) → config_of script (session_of script u trace).config.epoch trace ≡ Some (session_of script u trace).config
   pub newest_known : config_of script (coordinator_of script trace).config.epoch trace ≡ Some (coordinator_of script trace).config
   pub older : (s : ServerId) → (server_of script s trace).config.epoch.0 ≤ (coordinator_of script trace).config.epoch.0
-  pub listed : (s : ServerId) → is_actor script (Server s) ≡ true → (server_of script s trace).halted ≡ false → IsIn s (coordinator_of script trace).config.servers
+  pub listed : (s : ServerId) → is_actor script (Server s) ≡ true → (server_of script s trace).halted ≡ false
+      → IsIn s (coordinator_of script trace).config.servers
   pub home : (s : ServerId) (g : RegionId) → IsInstalled (server_of script s trace) g → lists (server_of script s trace).config g s ≡ true
-  pub ready : (epoch : Epoch) (c : Config) → config_of script epoch trace ≡ Some c → (g : RegionId) (s : ServerId) → lists_ready c g s ≡ true → IsInstalled (server_of script s trace) g
+  pub ready : (epoch : Epoch) (c : Config) → config_of script epoch trace ≡ Some c → (g : RegionId) (s : ServerId)
+      → lists_ready c g s ≡ true → IsInstalled (server_of script s trace) g
   pub told : (s : ServerId) (to : Actor) (m : Message) → IsPosted trace (post (Server s) to m) → HasTold script trace s m
-  pub installs : (from to : Actor) (config : Config) → IsPosted trace (post from to (a_message.Install config)) → (config_of script config.epoch trace ≡ Some config) × (config.epoch.0 ≤ (coordinator_of script trace).config.epoch.0)
+  pub installs : (from to : Actor) (config : Config) → IsPosted trace (post from to (a_message.Install config))
+      → (config_of script config.epoch trace ≡ Some config) × (config.epoch.0 ≤ (coordinator_of script trace).config.epoch.0)
 
 -- in every run
 abbrev pub RunsKeepEpochs : Type 0

@@ -32,14 +32,22 @@ bare-take : (g : RegionId) (s : KeyState) (u : Update) → IsBare g s → s.floo
 bare-take g s u h l =
     let e = cond-false (leb u.version.0 s.floor) (u ∷ s.accepted) (upto s.floor s.accepted) (lt-leb u.version.0 s.floor l) in
     record {
-      base = (λ j. record { key = s.base.key; floor = record { 0 = s.floor }; object = kept_row g s.base.object (e j); marks = provided s.marks (marks_after s.base.marks (e j)); touches = provided s.marks (touches_after s.base.touches (e j)) }) ∙ h.base;
+      base = (λ j. record {
+        key = s.base.key;
+        floor = record { 0 = s.floor };
+        object = kept_row g s.base.object (e j);
+        marks = provided s.marks (marks_after s.base.marks (e j));
+        touches = provided s.marks (touches_after s.base.touches (e j));
+      }) ∙ h.base;
       only = cond-false (leb u.version.0 s.floor) _ _ (lt-leb u.version.0 s.floor l) ∙ ap (λ (us : List Update). u ∷ us) h.only;
     }
 
 -- so it stays without a past by moves that commit nothing
-pub bare-moved_all : (g : RegionId) (ms : List Move) (s : KeyState) → s.floor ≤ top_of s → CommitsNothing ms → AllFit g s ms → IsBare g s → IsBare g (moved_all ms s)
+pub bare-moved_all : (g : RegionId) (ms : List Move) (s : KeyState) → s.floor ≤ top_of s → CommitsNothing ms
+    → AllFit g s ms → IsBare g s → IsBare g (moved_all ms s)
 bare-moved_all g [] s l n f h = h
-bare-moved_all g (Take u ∷ ms) s l n f h = (let t = f.0 in bare-moved_all g ms (moved (Take u) s) (omega (arith, l, t)) n f.1 (bare-take g s u h (omega (arith, l, t))))
+bare-moved_all g (Take u ∷ ms) s l n f h = (let t = f.0 in
+    bare-moved_all g ms (moved (Take u) s) (omega (arith, l, t)) n f.1 (bare-take g s u h (omega (arith, l, t))))
 bare-moved_all g (Hold u ∷ ms) s l n f h = bare-moved_all g ms (moved (Hold u) s) l n f.1 (record { base = h.base; only = h.only })
 bare-moved_all g (Acknowledge v ∷ ms) s l n f h = bare-moved_all g ms (moved (Acknowledge v) s) l n f.1 (record { base = h.base; only = h.only })
 bare-moved_all g (Commit u ∷ ms) s l n f h = absurd n
@@ -47,18 +55,22 @@ bare-moved_all g (Forget ∷ ms) s l n f h = bare-moved_all g ms (moved Forget s
 
 turns-nothing : (g : RegionId) (n top : ℕ) (early : List Update) → CommitsNothing (turns g n top early)
 turns-nothing g zero top early = tt
-turns-nothing g (suc n) top early = when_some_both (find (follows g top) early) [] (λ (u : Update). Take u ∷ turns g n u.version.0 early) CommitsNothing (λ e. tt) (λ u e. turns-nothing g n u.version.0 early)
+turns-nothing g (suc n) top early = when_some_both (find (follows g top) early) []
+    (λ (u : Update). Take u ∷ turns g n u.version.0 early) CommitsNothing (λ e. tt) (λ u e. turns-nothing g n u.version.0 early)
 
 offered-nothing : (g : RegionId) (s : KeyState) (u : Update) → CommitsNothing (offered g s u)
 offered-nothing g s u =
     cond_both (leb u.version.0 (top_of s)) [] _ CommitsNothing (λ e. tt)
-    (λ e. cond_both (follows g (top_of s) u) (Take u ∷ turns g (length s.early) u.version.0 s.early) (Hold u ∷ []) CommitsNothing (λ b. turns-nothing g (length s.early) u.version.0 s.early) (λ b. tt))
+    (λ e. cond_both (follows g (top_of s) u) (Take u ∷ turns g (length s.early) u.version.0 s.early)
+    (Hold u ∷ []) CommitsNothing (λ b. turns-nothing g (length s.early) u.version.0 s.early) (λ b. tt))
 
 -- an offer leaves a slot without a past so
-pub bare-offered : (g : RegionId) (s : KeyState) (u : Update) → IsSlotOf g s → IsBare g s → IsLater g u → folded g (moved_all (offered g s u) s) ≡ moved_all (offered g s u) s
+pub bare-offered : (g : RegionId) (s : KeyState) (u : Update) → IsSlotOf g s → IsBare g s → IsLater g u
+    → folded g (moved_all (offered g s u) s) ≡ moved_all (offered g s u) s
 bare-offered g s u h b l =
     bare-folded g (moved_all (offered g s u) s)
-    (bare-moved_all g (offered g s u) s (stands-below s.base.floor.0 s.floor s.accepted h.descends h.floor) (offered-nothing g s u) (offered-good (fit-walk g) s u h l) b)
+    (bare-moved_all g (offered g s u) s (stands-below s.base.floor.0 s.floor s.accepted h.descends h.floor)
+    (offered-nothing g s u) (offered-good (fit-walk g) s u h l) b)
 
 -- what is above the newest of some older updates
 top-grows : (b : ℕ) (ns os : List Update) → Descends b (ns ++ os) → top_above b os ≤ top_above b (ns ++ os)
@@ -87,7 +99,13 @@ above-past v (n ∷ ns) os h = cond-false (leb n.version.0 v) _ _ (lt-leb n.vers
 
 -- the slot where just the older updates are committed, without its past: they are folded over the base, one after another
 pub front-folded : (g : RegionId) (s : KeyState) (newer older : List Update) (acked : List ℕ) → s.accepted ≡ newer ++ older → Descends s.base.floor.0 s.accepted
-    → folded g (record s { floor = top_above s.base.floor.0 older; acked = acked }) ≡ record s { base = kept_over g s.marks s.base older; accepted = newer; floor = top_above s.base.floor.0 older; acked = acked }
+    → folded g (record s { floor = top_above s.base.floor.0 older; acked = acked })
+    ≡ record s {
+      base = kept_over g s.marks s.base older;
+      accepted = newer;
+      floor = top_above s.base.floor.0 older;
+      acked = acked;
+    }
 front-folded g s newer older acked e h =
     let v = top_above s.base.floor.0 older in
     let high = newer-above s.base.floor.0 newer older (subst (Descends s.base.floor.0) e h) in
@@ -95,7 +113,13 @@ front-folded g s newer older acked e h =
     let rest = ap (above v) e ∙ above-past v newer older high ∙ ap (λ (l : List Update). newer ++ l) (above-newest s.base.floor.0 older) ∙ append-nil newer in
     λ j. record {
       marks = s.marks;
-      base = record { key = s.base.key; floor = record { 0 = v }; object = kept_row g s.base.object (front j); marks = provided s.marks (marks_after s.base.marks (front j)); touches = provided s.marks (touches_after s.base.touches (front j)) };
+      base = record {
+        key = s.base.key;
+        floor = record { 0 = v };
+        object = kept_row g s.base.object (front j);
+        marks = provided s.marks (marks_after s.base.marks (front j));
+        touches = provided s.marks (touches_after s.base.touches (front j));
+      };
       accepted = rest j;
       floor = v;
       acked = acked;

@@ -90,7 +90,17 @@ abbrev mark : ℕ → ℕ → Mark
 mark session number = record { session = record { 0 = session }; number = number; version = record { 0 = 1 }; answer = an_answer.Done }
 
 abbrev unordered : KeyState
-unordered = record { marks = true; base = record (no_kept []) { floor = record { 0 = 1 }; marks = mark 2 1 ∷ mark 1 9 ∷ [] }; accepted = update 2 1 1 1 ∷ []; floor = 1; acked = []; early = [] }
+unordered = record {
+  marks = true;
+  base = record (no_kept []) {
+    floor = record { 0 = 1 };
+    marks = mark 2 1 ∷ mark 1 9 ∷ [];
+  };
+  accepted = update 2 1 1 1 ∷ [];
+  floor = 1;
+  acked = [];
+  early = [];
+}
 
 mark_unordered : numbers (mark_of first unordered) ≡ Some 1
 mark_unordered = refl
@@ -130,7 +140,15 @@ sender_pending = refl
 
 -- a base of version 0 with an object is left out of a snapshot
 abbrev strange : KeyState
-strange = record { marks = true; base = record (no_kept []) { object = Some (record { key = []; version = record { 0 = 0 }; object = [] }) }; accepted = []; floor = 0; acked = []; early = [] }
+strange = record {
+  marks = true;
+  base = record (no_kept [])
+      { object = Some (record { key = []; version = record { 0 = 0 }; object = [] }) };
+  accepted = [];
+  floor = 0;
+  acked = [];
+  early = [];
+}
 
 left_out : length (snapshot_of here (strange ∷ [])) ≡ 0
 left_out = refl

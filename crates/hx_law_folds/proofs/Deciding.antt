@@ -28,7 +28,8 @@ assigned_by space config key top touches old caller op =
 
 abbrev fresh_by : Space → Config → List ℕ → ℕ → List Update → List Touch → Option (List Value) → Caller → Op → Decision
 fresh_by space config key top pending touches old caller op =
-    when_some (stuck_among config pending) (a_decision.Assign (assigned_by space config key top touches old caller op)) (λ (x : StuckAt). a_decision.Stuck x.region)
+    when_some (stuck_among config pending) (a_decision.Assign
+    (assigned_by space config key top touches old caller op)) (λ (x : StuckAt). a_decision.Stuck x.region)
 
 abbrev decided_by : Space → Config → List ℕ → ℕ → ℕ → List Update → List Touch → Option (List Value) → Caller → Op → Option Mark → Decision
 decided_by space config key floor top pending touches old caller op None = fresh_by space config key top pending touches old caller op
@@ -41,11 +42,13 @@ decided_by space config key floor top pending touches old caller op (Some m) =
 
 -- the decision reads the key, the floor, the top, what is pending, the touches, the latest object and the session's mark
 pub decide-by : (space : Space) (config : Config) (g : RegionId) (s : KeyState) (caller : Caller) (op : Op)
-    → decide space config g s caller op ≡ decided_by space config s.base.key s.floor (top_of s) (pending_of s) (touches_of s) (latest_of g s) caller op (mark_of caller.session s)
+    → decide space config g s caller op ≡ decided_by space config s.base.key s.floor (top_of s) (pending_of s)
+    (touches_of s) (latest_of g s) caller op (mark_of caller.session s)
 decide-by space config g s caller op = refl
 
 -- slots that show the same decide the same
-pub decide-same : (space : Space) (config : Config) (g : RegionId) (s t : KeyState) → s.marks ≡ true → ShowSame g s t → (caller : Caller) (op : Op) → decide space config g s caller op ≡ decide space config g t caller op
+pub decide-same : (space : Space) (config : Config) (g : RegionId) (s t : KeyState) → s.marks ≡ true → ShowSame g s t
+    → (caller : Caller) (op : Op) → decide space config g s caller op ≡ decide space config g t caller op
 decide-same space config g s t m a caller op =
     let touches = a.touches m in
     let mark = a.mark m caller.session in
@@ -95,10 +98,12 @@ assigned-later space config key top touches old caller op =
     (λ q. granted-later space key top caller e e.object _)
     (λ g q. granted-later space key top caller (record { object = old; answer = an_answer.Refused g config.epoch; changes = false }) old [])
 
-pub decide-later : (space : Space) (config : Config) (g : RegionId) (s : KeyState) → g ≡ key_region space s.base.key → (caller : Caller) (op : Op) → IfAssigned (IsLater g) (decide space config g s caller op)
+pub decide-later : (space : Space) (config : Config) (g : RegionId) (s : KeyState) → g ≡ key_region space s.base.key
+    → (caller : Caller) (op : Op) → IfAssigned (IsLater g) (decide space config g s caller op)
 decide-later space config g s e caller op =
     subst (λ (h : RegionId). IfAssigned (IsLater h) (decide space config g s caller op)) (sym e)
-    (decide-of (IsLater (key_region space s.base.key)) space config g s caller op (assigned-later space config s.base.key (top_of s) (touches_of s) (latest_of g s) caller op))
+    (decide-of (IsLater (key_region space s.base.key)) space config g s caller op
+    (assigned-later space config s.base.key (top_of s) (touches_of s) (latest_of g s) caller op))
 
 -- and it is of the slot's key
 assigned-key : (space : Space) (config : Config) (key : List ℕ) (top : ℕ) (touches : List Touch) (old : Option (List Value)) (caller : Caller) (op : Op)
@@ -106,8 +111,11 @@ assigned-key : (space : Space) (config : Config) (key : List ℕ) (top : ℕ) (t
 assigned-key space config key top touches old caller op =
     let e = effect_of space old op in
     let places = places_of space key old e.object e.changes top touches in
-    when_some_both (first_lost config places) (granted_by key top caller e places) (refused_by space config key top caller old) (λ (u : Update). u.key ≡ key) (λ q. refl) (λ g q. refl)
+    when_some_both (first_lost config places) (granted_by key top caller e places)
+    (refused_by space config key top caller old) (λ (u : Update). u.key ≡ key) (λ q. refl) (λ g q. refl)
 
-pub decide-key : (space : Space) (config : Config) (g : RegionId) (s : KeyState) (caller : Caller) (op : Op) → IfAssigned (λ (u : Update). u.key ≡ s.base.key) (decide space config g s caller op)
+pub decide-key : (space : Space) (config : Config) (g : RegionId) (s : KeyState) (caller : Caller) (op : Op)
+    → IfAssigned (λ (u : Update). u.key ≡ s.base.key) (decide space config g s caller op)
 decide-key space config g s caller op =
-    decide-of (λ (u : Update). u.key ≡ s.base.key) space config g s caller op (assigned-key space config s.base.key (top_of s) (touches_of s) (latest_of g s) caller op)
+    decide-of (λ (u : Update). u.key ≡ s.base.key) space config g s caller op
+    (assigned-key space config s.base.key (top_of s) (touches_of s) (latest_of g s) caller op)

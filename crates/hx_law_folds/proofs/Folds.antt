@@ -6,11 +6,13 @@ use Rattle.hx_law_folds.proofs.Vocabulary.{touches_of, true, Update, upto, ℕ, 
 use Rattle.hx_law_folds.proofs.Lists.{above-later, marks-append, parted, pending-above, row-append, top-append, touches-append, upto-above, upto-later}
 
 -- folds of the marks and touches that are kept, in two parts
-pub marks-parts : (b : Bool) (base : List Mark) (us vs ws : List Update) → us ++ vs ≡ ws → provided b (marks_after (provided b (marks_after base vs)) us) ≡ provided b (marks_after base ws)
+pub marks-parts : (b : Bool) (base : List Mark) (us vs ws : List Update) → us ++ vs ≡ ws
+    → provided b (marks_after (provided b (marks_after base vs)) us) ≡ provided b (marks_after base ws)
 marks-parts true base us vs ws e = sym (marks-append base us vs) ∙ ap (marks_after base) e
 marks-parts false base us vs ws e = refl
 
-pub touches-parts : (b : Bool) (base : List Touch) (us vs ws : List Update) → us ++ vs ≡ ws → provided b (touches_after (provided b (touches_after base vs)) us) ≡ provided b (touches_after base ws)
+pub touches-parts : (b : Bool) (base : List Touch) (us vs ws : List Update) → us ++ vs ≡ ws
+    → provided b (touches_after (provided b (touches_after base vs)) us) ≡ provided b (touches_after base ws)
 touches-parts true base us vs ws e = sym (touches-append base us vs) ∙ ap (touches_after base) e
 touches-parts false base us vs ws e = refl
 
@@ -34,7 +36,8 @@ top-folded g s e =
     ∙ ap (top_above s.base.floor.0) (parted s.floor s.accepted)
 
 -- where marks are kept, those of all accepted updates
-pub marks-folded : (g : RegionId) (s : KeyState) → s.marks ≡ true → marks_after (folded g s).base.marks (folded g s).accepted ≡ marks_after s.base.marks s.accepted
+pub marks-folded : (g : RegionId) (s : KeyState) → s.marks ≡ true
+    → marks_after (folded g s).base.marks (folded g s).accepted ≡ marks_after s.base.marks s.accepted
 marks-folded g s m =
     ap (λ b. marks_after (provided b (marks_after s.base.marks (upto s.floor s.accepted))) (above s.floor s.accepted)) m
     ∙ sym (marks-append s.base.marks (above s.floor s.accepted) (upto s.floor s.accepted))

@@ -17,7 +17,8 @@ abbrev pub last_of : ℕ → List Update → ℕ
 last_of v [] = v
 last_of v (u ∷ us) = last_of u.version.0 us
 
-follow-last : (g : RegionId) (v : ℕ) (us : List Update) (u : Update) → Follow g v us → follows g (last_of v us) u ≡ true → last_of v us < u.version.0 → Follow g v (us ++ u ∷ [])
+follow-last : (g : RegionId) (v : ℕ) (us : List Update) (u : Update) → Follow g v us
+    → follows g (last_of v us) u ≡ true → last_of v us < u.version.0 → Follow g v (us ++ u ∷ [])
 follow-last g v [] u h f l = (f, l, tt)
 follow-last g v (w ∷ us) u h f l = (h.0, h.1, follow-last g w.version.0 us u h.2 f l)
 
@@ -25,10 +26,12 @@ last-append : (v : ℕ) (us : List Update) (u : Update) → last_of v (us ++ u �
 last-append v [] u = refl
 last-append v (w ∷ us) u = last-append w.version.0 us u
 
-pub pending-follow : (g : RegionId) (b v : ℕ) (us : List Update) → Descends b us → InTurn g b us → Stands b us v → Follow g v (pending_above v us) × (last_of v (pending_above v us) ≡ top_above b us)
+pub pending-follow : (g : RegionId) (b v : ℕ) (us : List Update) → Descends b us → InTurn g b us → Stands b us v
+    → Follow g v (pending_above v us) × (last_of v (pending_above v us) ≡ top_above b us)
 pending-follow g b v [] h t = λ e. (tt, sym e)
 pending-follow g b v (u ∷ older) h t =
-    cond_both (leb u.version.0 v) [] (pending_above v older ++ u ∷ []) (λ (x : List Update). Stands b (u ∷ older) v → Follow g v x × (last_of v x ≡ u.version.0))
+    cond_both (leb u.version.0 v) [] (pending_above v older ++ u ∷ [])
+    (λ (x : List Update). Stands b (u ∷ older) v → Follow g v x × (last_of v x ≡ u.version.0))
     (λ q e. (tt, sym e ∙ ap (top_above b) (cond-true (leb u.version.0 v) (u ∷ older) (upto v older) q)))
     (
     λ q e. let f : Stands b older v = ap (top_above b) (sym (cond-false (leb u.version.0 v) (u ∷ older) (upto v older) q)) ∙ e in
@@ -55,10 +58,12 @@ all-taken g (u ∷ us) k e f =
     ∙ ap (λ (ms : List Move). Take u ∷ ms) (all-taken g us (moved (Take u) k) (ap (filter (λ (w : Update). not (eqb w.version.0 u.version.0))) e) f.2)
 
 -- what pending updates leave that are taken
-pub takes-state : (v : ℕ) (us : List Update) (k : KeyState) → k.early ≡ [] → moved_all (takes (pending_above v us)) k ≡ record k { accepted = above v us ++ k.accepted }
+pub takes-state : (v : ℕ) (us : List Update) (k : KeyState) → k.early ≡ []
+    → moved_all (takes (pending_above v us)) k ≡ record k { accepted = above v us ++ k.accepted }
 takes-state v [] k e = refl
 takes-state v (u ∷ older) k e =
-    cond_both (leb u.version.0 v) [] (pending_above v older ++ u ∷ []) (λ (x : List Update). moved_all (takes x) k ≡ record k { accepted = above v (u ∷ older) ++ k.accepted })
+    cond_both (leb u.version.0 v) [] (pending_above v older ++ u ∷ [])
+    (λ (x : List Update). moved_all (takes x) k ≡ record k { accepted = above v (u ∷ older) ++ k.accepted })
     (λ q. λ j. record k { accepted = sym (cond-true (leb u.version.0 v) [] (u ∷ above v older) q) j ++ k.accepted })
     (
     λ q. ap (λ (ms : List Move). moved_all ms k) (map-append (λ (w : Update). Take w) (pending_above v older) (u ∷ []))
@@ -90,15 +95,34 @@ pub base-over : (g : RegionId) (s : KeyState) → (over g s).base ≡ kept_of g 
 base-over g s =
     cond_both s.marks (kept_of g s) (record (kept_of g s) { marks = []; touches = [] }) (λ (k : Kept). k ≡ kept_of g s)
     (λ e. refl)
-    (λ e. λ j. record (kept_of g s) { marks = sym (provided-false s.marks (marks_after s.base.marks (upto s.floor s.accepted)) e) j; touches = sym (provided-false s.marks (touches_after s.base.touches (upto s.floor s.accepted)) e) j })
+    (λ e. λ j. record (kept_of g s) {
+      marks = sym (provided-false s.marks
+          (marks_after s.base.marks (upto s.floor s.accepted)) e) j;
+      touches = sym (provided-false s.marks (touches_after s.base.touches (upto s.floor s.accepted)) e) j;
+    })
 
 -- a slot over the committed state that takes what was pending is the slot without its past, with nothing acknowledged and nothing early
-pub joined : (g : RegionId) (s : KeyState) → IsSlotOf g s → InTurn g s.base.floor.0 s.accepted → moved_all (offered_all g (over g s) (pending_of s)) (over g s) ≡ moved Forget (folded g s)
+pub joined : (g : RegionId) (s : KeyState) → IsSlotOf g s → InTurn g s.base.floor.0 s.accepted
+    → moved_all (offered_all g (over g s) (pending_of s)) (over g s) ≡ moved Forget (folded g s)
 joined g s h t =
     let f = (pending-follow g s.base.floor.0 s.floor s.accepted h.descends t h.floor).0 in
     let base = base-over g s in
     let top : top_of (over g s) ≡ s.floor = ap (λ (k : Kept). k.floor.0) base in
-    let fresh : over g s ≡ record { marks = s.marks; base = kept_of g s; accepted = []; floor = s.floor; acked = []; early = [] } = λ j. record { marks = s.marks; base = base j; accepted = []; floor = (base j).floor.0; acked = []; early = [] } in
+    let fresh : over g s ≡ record {
+      marks = s.marks;
+      base = kept_of g s;
+      accepted = [];
+      floor = s.floor;
+      acked = [];
+      early = [];
+    } = λ j. record {
+      marks = s.marks;
+      base = base j;
+      accepted = [];
+      floor = (base j).floor.0;
+      acked = [];
+      early = [];
+    } in
     ap (λ (ms : List Move). moved_all ms (over g s)) (all-taken g (pending_of s) (over g s) refl (subst (λ v. Follow g v (pending_of s)) (sym top) f))
     ∙ ap (moved_all (takes (pending_of s))) fresh
     ∙ takes-state s.floor s.accepted _ refl
@@ -117,13 +141,19 @@ flat_map-append f [] ys = refl
 flat_map-append f (x ∷ xs) ys = ap (λ l. f x ++ l) (flat_map-append f xs ys) ∙ sym (append_assoc (f x) (flat_map f xs) (flat_map f ys))
 
 module _ (context : SlotContext) (s : KeyState) (h : IsSlotOf context.region s) (t : InTurn context.region s.base.floor.0 s.accepted) where
-  marks-same : tail_acks context (taken (offered_all context.region (over context.region s) (pending_of s))) ≡ tail_acks context (pending_of (folded context.region s))
-  marks-same = ap (λ (ms : List Move). tail_acks context (taken ms)) all ∙ ap (tail_acks context) (taken-takes (pending_of s) ∙ sym (pending-folded context.region s))
+  marks-same : tail_acks context (taken (offered_all context.region (over context.region s) (pending_of s)))
+      ≡ tail_acks context (pending_of (folded context.region s))
+  marks-same = ap (λ (ms : List Move). tail_acks context (taken ms)) all
+      ∙ ap (tail_acks context) (taken-takes (pending_of s) ∙ sym (pending-folded context.region s))
     where
       all : offered_all context.region (over context.region s) (pending_of s) ≡ takes (pending_of s)
-      all = all-taken context.region (pending_of s) (over context.region s) refl (subst (λ v. Follow context.region v (pending_of s)) (sym (ap (λ (k : Kept). k.floor.0) (base-over context.region s))) (pending-follow context.region s.base.floor.0 s.floor s.accepted h.descends t h.floor).0)
+      all = all-taken context.region (pending_of s) (over context.region s) refl
+          (subst (λ v. Follow context.region v (pending_of s))
+          (sym (ap (λ (k : Kept). k.floor.0) (base-over context.region s)))
+          (pending-follow context.region s.base.floor.0 s.floor s.accepted h.descends t h.floor).0)
 
-  before : moved_all (offered_all context.region (over context.region s) (pending_of s) ++ tail_acks context (taken (offered_all context.region (over context.region s) (pending_of s)))) (over context.region s)
+  before : moved_all (offered_all context.region (over context.region s) (pending_of s)
+      ++ tail_acks context (taken (offered_all context.region (over context.region s) (pending_of s)))) (over context.region s)
       ≡ moved_all (Forget ∷ tail_acks context (pending_of (folded context.region s))) (folded context.region s)
   before =
       moved_all-++ (offered_all context.region (over context.region s) (pending_of s)) _ (over context.region s)
@@ -132,25 +162,40 @@ module _ (context : SlotContext) (s : KeyState) (h : IsSlotOf context.region s) 
   -- the joiner's slot is the sender's without its past, as it goes on in the joiner's place
   pub joining-state : moved_all (joining context s) (over context.region s) ≡ moved_all (resumed context (folded context.region s)) (folded context.region s)
   joining-state =
-      moved_all-++ (offered_all context.region (over context.region s) (pending_of s) ++ tail_acks context (taken (offered_all context.region (over context.region s) (pending_of s)))) _ (over context.region s)
+      moved_all-++ (offered_all context.region (over context.region s) (pending_of s)
+      ++ tail_acks context (taken (offered_all context.region (over context.region s) (pending_of s)))) _
+      (over context.region s)
       ∙ ap (λ (x : KeyState). moved_all (settled x) x) before
       ∙ sym (moved_all-++ (Forget ∷ tail_acks context (pending_of (folded context.region s))) _ (folded context.region s))
 
   -- and it posts what that slot posts
-  pub joining-posts : flat_map (move_posts context) (joining context s) ≡ flat_map (passed_on context) (pending_of (folded context.region s)) ++ flat_map (move_posts context) (resumed context (folded context.region s))
+  pub joining-posts : flat_map (move_posts context) (joining context s)
+      ≡ flat_map (passed_on context) (pending_of (folded context.region s))
+      ++ flat_map (move_posts context) (resumed context (folded context.region s))
   joining-posts =
-      flat_map-append (move_posts context) (offered_all context.region (over context.region s) (pending_of s) ++ tail_acks context (taken (offered_all context.region (over context.region s) (pending_of s)))) _
-      ∙ ap (λ (l : List Post). l ++ flat_map (move_posts context) (settled (moved_all (offered_all context.region (over context.region s) (pending_of s) ++ tail_acks context (taken (offered_all context.region (over context.region s) (pending_of s)))) (over context.region s))))
+      flat_map-append (move_posts context) (offered_all context.region (over context.region s) (pending_of s)
+      ++ tail_acks context (taken (offered_all context.region (over context.region s) (pending_of s)))) _
+      ∙ ap (λ (l : List Post). l ++ flat_map (move_posts context)
+      (settled (moved_all (offered_all context.region (over context.region s) (pending_of s)
+      ++ tail_acks context (taken (offered_all context.region (over context.region s) (pending_of s))))
+      (over context.region s))))
       (
       flat_map-append (move_posts context) (offered_all context.region (over context.region s) (pending_of s)) _
       ∙ (λ j. taken-posts j ++ flat_map (move_posts context) (marks-same j))
       )
-      ∙ ap (λ (x : KeyState). (flat_map (passed_on context) (pending_of (folded context.region s)) ++ flat_map (move_posts context) (tail_acks context (pending_of (folded context.region s)))) ++ flat_map (move_posts context) (settled x)) before
+      ∙ ap (λ (x : KeyState). (flat_map (passed_on context) (pending_of (folded context.region s))
+      ++ flat_map (move_posts context) (tail_acks context (pending_of (folded context.region s))))
+      ++ flat_map (move_posts context) (settled x)) before
       ∙ append_assoc (flat_map (passed_on context) (pending_of (folded context.region s))) _ _
-      ∙ ap (λ (l : List Post). flat_map (passed_on context) (pending_of (folded context.region s)) ++ l) (sym (flat_map-append (move_posts context) (Forget ∷ tail_acks context (pending_of (folded context.region s))) _))
+      ∙ ap (λ (l : List Post). flat_map (passed_on context) (pending_of (folded context.region s)) ++ l)
+      (sym (flat_map-append (move_posts context) (Forget ∷ tail_acks context (pending_of (folded context.region s))) _))
     where
-      taken-posts : flat_map (move_posts context) (offered_all context.region (over context.region s) (pending_of s)) ≡ flat_map (passed_on context) (pending_of (folded context.region s))
+      taken-posts : flat_map (move_posts context) (offered_all context.region (over context.region s) (pending_of s))
+          ≡ flat_map (passed_on context) (pending_of (folded context.region s))
       taken-posts =
-          ap (flat_map (move_posts context)) (all-taken context.region (pending_of s) (over context.region s) refl (subst (λ v. Follow context.region v (pending_of s)) (sym (ap (λ (k : Kept). k.floor.0) (base-over context.region s))) (pending-follow context.region s.base.floor.0 s.floor s.accepted h.descends t h.floor).0))
+          ap (flat_map (move_posts context)) (all-taken context.region (pending_of s) (over context.region s) refl
+          (subst (λ v. Follow context.region v (pending_of s))
+          (sym (ap (λ (k : Kept). k.floor.0) (base-over context.region s)))
+          (pending-follow context.region s.base.floor.0 s.floor s.accepted h.descends t h.floor).0))
           ∙ posts-takes context (pending_of s)
           ∙ ap (flat_map (passed_on context)) (sym (pending-folded context.region s))

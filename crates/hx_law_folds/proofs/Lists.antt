@@ -37,7 +37,8 @@ pub all-made : {A B : Type 0} (Q : B → Type 0) (f : A → B) → ((x : A) → 
 all-made Q f k [] = tt
 all-made Q f k (x ∷ xs) = (k x, all-made Q f k xs)
 
-pub when_some_both : {A B : Type 0} (o : Option A) (d : B) (g : A → B) (P : B → Type 0) → (o ≡ None → P d) → ((x : A) → o ≡ Some x → P (g x)) → P (when_some o d g)
+pub when_some_both : {A B : Type 0} (o : Option A) (d : B) (g : A → B) (P : B → Type 0) → (o ≡ None → P d)
+    → ((x : A) → o ≡ Some x → P (g x)) → P (when_some o d g)
 when_some_both None d g P n f = n refl
 when_some_both (Some x) d g P n f = f x refl
 
@@ -94,15 +95,18 @@ upto-later v w [] (u ∷ older) l =
     (
     λ e. cond_both (leb u.version.0 w) (u ∷ above v older) (upto w (above v older)) (λ (k : List Update). k ++ upto v (u ∷ older) ≡ upto w (u ∷ older))
     (λ b. parted_false u v older e ∙ sym (cond-true (leb u.version.0 w) _ _ b))
-    (λ b. ap (λ (k : List Update). upto w (above v older) ++ k) (cond-false (leb u.version.0 v) _ _ e) ∙ upto-later v w [] older l ∙ sym (cond-false (leb u.version.0 w) _ _ b))
+    (λ b. ap (λ (k : List Update). upto w (above v older) ++ k) (cond-false (leb u.version.0 v) _ _ e)
+    ∙ upto-later v w [] older l ∙ sym (cond-false (leb u.version.0 w) _ _ b))
     )
   where
     parted_false : (u : Update) (v : ℕ) (older : List Update) → leb u.version.0 v ≡ false → (u ∷ above v older) ++ upto v (u ∷ older) ≡ u ∷ older
-    parted_false u v older e = ap (λ (k : List Update). u ∷ (above v older ++ k)) (cond-false (leb u.version.0 v) _ _ e) ∙ ap (λ (k : List Update). u ∷ k) (parted v older)
+    parted_false u v older e = ap (λ (k : List Update). u ∷ (above v older ++ k))
+        (cond-false (leb u.version.0 v) _ _ e) ∙ ap (λ (k : List Update). u ∷ k) (parted v older)
 upto-later v w (n ∷ ns) us l =
     cond_both (leb n.version.0 w) (n ∷ (ns ++ above v us)) (upto w (ns ++ above v us)) (λ (k : List Update). k ++ upto v us ≡ upto w (n ∷ (ns ++ us)))
     (
-    λ e. ap (λ (k : List Update). n ∷ k) (append_assoc ns (above v us) (upto v us) ∙ ap (λ (k : List Update). ns ++ k) (parted v us)) ∙ sym (cond-true (leb n.version.0 w) _ _ e)
+    λ e. ap (λ (k : List Update). n ∷ k) (append_assoc ns (above v us) (upto v us)
+    ∙ ap (λ (k : List Update). ns ++ k) (parted v us)) ∙ sym (cond-true (leb n.version.0 w) _ _ e)
     )
     (λ e. upto-later v w ns us l ∙ sym (cond-false (leb n.version.0 w) _ _ e))
 

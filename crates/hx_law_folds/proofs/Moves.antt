@@ -43,7 +43,8 @@ module _ {g : RegionId} {Good : KeyState → Move → Type 0} {Slot : KeyState �
   turns-good (suc n) top early s e h =
       when_some_both (find (follows g top) early) [] (λ (u : Update). Take u ∷ turns g n u.version.0 early) (AllGood Good s)
       (λ q. tt)
-      (λ u q. let f = all-find Offer (follows g top) early u h q in (w.takes u s f.0 (ap (λ v. follows g v u) e ∙ f.1), turns-good n u.version.0 early (moved (Take u) s) refl h))
+      (λ u q. let f = all-find Offer (follows g top) early u h q in
+      (w.takes u s f.0 (ap (λ v. follows g v u) e ∙ f.1), turns-good n u.version.0 early (moved (Take u) s) refl h))
 
   -- an offered update
   pub offered-good : (s : KeyState) (u : Update) → Slot s → Offer u → AllGood Good s (offered g s u)
@@ -60,7 +61,8 @@ module _ {g : RegionId} {Good : KeyState → Move → Type 0} {Slot : KeyState �
   offered_all-good s [] h o = tt
   offered_all-good s (u ∷ us) h o =
       let f = offered-good s u h o.0 in
-      good-append Good (offered g s u) (offered_all g (moved_all (offered g s u) s) us) s f (offered_all-good (moved_all (offered g s u) s) us (keeps-all (offered g s u) s h f) o.1)
+      good-append Good (offered g s u) (offered_all g (moved_all (offered g s u) s) us) s f
+      (offered_all-good (moved_all (offered g s u) s) us (keeps-all (offered g s u) s h f) o.1)
 
   -- marks of acknowledged updates
   pub tail_acks-good : (context : SlotContext) (us : List Update) (s : KeyState) → AllGood Good s (tail_acks context us)
@@ -77,7 +79,8 @@ module _ {g : RegionId} {Good : KeyState → Move → Type 0} {Slot : KeyState �
   -- newly taken updates, an acknowledgement, and a slot that goes on, with what they bring
   pub accepting-good : (context : SlotContext) (ms : List Move) (s : KeyState) → Slot s → AllGood Good s ms → AllGood Good s (accepting context s ms)
   accepting-good context ms s h f =
-      with_commits-good (ms ++ tail_acks context (taken ms)) s h (good-append Good ms (tail_acks context (taken ms)) s f (tail_acks-good context (taken ms) (moved_all ms s)))
+      with_commits-good (ms ++ tail_acks context (taken ms)) s h
+      (good-append Good ms (tail_acks context (taken ms)) s f (tail_acks-good context (taken ms) (moved_all ms s)))
 
   pub acknowledged-good : (s : KeyState) (v : ℕ) → Slot s → AllGood Good s (acknowledged s v)
   acknowledged-good s v h =
@@ -89,7 +92,8 @@ module _ {g : RegionId} {Good : KeyState → Move → Type 0} {Slot : KeyState �
       by true true = (w.marks v s, w.settles (moved (Acknowledge v) s) (w.keeps (Acknowledge v) s h (w.marks v s)))
 
   pub resumed-good : (context : SlotContext) (s : KeyState) → Slot s → AllGood Good s (resumed context s)
-  resumed-good context s h = with_commits-good (Forget ∷ tail_acks context (pending_of s)) s h (w.forgets s, tail_acks-good context (pending_of s) (moved Forget s))
+  resumed-good context s h = with_commits-good (Forget ∷ tail_acks context (pending_of s)) s h
+      (w.forgets s, tail_acks-good context (pending_of s) (moved Forget s))
 
 module _ {Good : KeyState → Move → Type 0} {Slot : KeyState → Type 0} {Offer : Update → Type 0} (context : SlotContext)
     (w : Walk context.region Good Slot Offer) (s : KeyState) (h : Slot s) where
@@ -109,7 +113,8 @@ module _ {Good : KeyState → Move → Type 0} {Slot : KeyState → Type 0} {Off
   pub call-good : (caller : Caller) (op : Op) → IfAssigned Offer (decide context.space context.config context.region s caller op)
       → AllGood Good s (call_step context s caller op).moves
   call-good caller op o =
-      cond_both (is_write op) _ _ (λ (x : SlotStep). AllGood Good s x.moves) (λ e. by (decide context.space context.config context.region s caller op) o) (λ e. tt)
+      cond_both (is_write op) _ _ (λ (x : SlotStep). AllGood Good s x.moves)
+      (λ e. by (decide context.space context.config context.region s caller op) o) (λ e. tt)
     where
       by : (d : Decision) → IfAssigned Offer d → AllGood Good s (decided context s caller d).moves
       by (a_decision.Assign u) o = accepted-good u o

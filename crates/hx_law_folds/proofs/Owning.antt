@@ -31,7 +31,12 @@ record IsOwn (g : RegionId) (key : List ℕ) (s : KeyState) : Type 0 where
 own-moved : (g : RegionId) (key : List ℕ) (m : Move) (s : KeyState) → IsOwn g key s → Goes g key s m → IsOwn g key (moved m s)
 own-moved g key (Take u) s h f = record { turns = (f.0, h.turns); keys = (f.1, h.keys); early = all-filter (λ (w : Update). w.key ≡ key) _ s.early h.early }
 own-moved g key (Hold u) s h f =
-    record { turns = h.turns; keys = h.keys; early = all-append (λ (w : Update). w.key ≡ key) _ (u ∷ []) (all-filter (λ (w : Update). w.key ≡ key) _ s.early h.early) (f, tt) }
+    record {
+      turns = h.turns;
+      keys = h.keys;
+      early =
+          all-append (λ (w : Update). w.key ≡ key) _ (u ∷ []) (all-filter (λ (w : Update). w.key ≡ key) _ s.early h.early) (f, tt);
+    }
 own-moved g key Forget s h f = record { turns = h.turns; keys = h.keys; early = tt }
 own-moved g key other s h f = record { turns = h.turns; keys = h.keys; early = h.early }
 
@@ -83,14 +88,17 @@ module _ (context : SlotContext) (b : Bool) (s : KeyState) (h : IsJoinable conte
   own = own-of g b s h
 
   pub update-joinable : (u : Update) → IsLater g u → u.key ≡ s.base.key → IsJoinable g b (moved_all (update_step context s u).moves s)
-  update-joinable u l k = joinable-moved g b (update_step context s u).moves s h (update-good context (fit-walk g) s h.slot u l) (update-good context (go-walk g s.base.key) s own u k)
+  update-joinable u l k = joinable-moved g b (update_step context s u).moves s h
+      (update-good context (fit-walk g) s h.slot u l) (update-good context (go-walk g s.base.key) s own u k)
 
   pub ack-joinable : (v : ℕ) → IsJoinable g b (moved_all (ack_step context s v).moves s)
-  ack-joinable v = joinable-moved g b (ack_step context s v).moves s h (ack-good context (fit-walk g) s h.slot v) (ack-good context (go-walk g s.base.key) s own v)
+  ack-joinable v = joinable-moved g b (ack_step context s v).moves s h (ack-good context (fit-walk g) s h.slot v)
+      (ack-good context (go-walk g s.base.key) s own v)
 
   pub call-joinable : g ≡ key_region context.space s.base.key → (caller : Caller) (op : Op) → IsJoinable g b (moved_all (call_step context s caller op).moves s)
   call-joinable q caller op =
-      joinable-moved g b (call_step context s caller op).moves s h (call-good context (fit-walk g) s h.slot caller op (decide-later context.space context.config g s q caller op))
+      joinable-moved g b (call_step context s caller op).moves s h
+      (call-good context (fit-walk g) s h.slot caller op (decide-later context.space context.config g s q caller op))
       (call-good context (go-walk g s.base.key) s own caller op (decide-key context.space context.config g s caller op))
 
   pub adopted-joinable : (active : Bool) → IsJoinable g b (adopted_state context active s)
@@ -99,25 +107,43 @@ module _ (context : SlotContext) (b : Bool) (s : KeyState) (h : IsJoinable conte
       (λ e. joinable-moved g b (resumed context s) s h (resumed-good (fit-walk g) context s h.slot) (resumed-good (go-walk g s.base.key) context s own))
       (λ e. joinable-moved g b (Forget ∷ []) s h (tt, tt) (tt, tt))
 
-  pub join-joinable : (us : List Update) → AllByRecursion IsAfter us → OfKey s.base.key us → IsJoinable g b (moved_all (accepting context s (offered_all g s us)) s)
+  pub join-joinable : (us : List Update) → AllByRecursion IsAfter us → OfKey s.base.key us
+      → IsJoinable g b (moved_all (accepting context s (offered_all g s us)) s)
   join-joinable us after k =
-      joinable-moved g b (accepting context s (offered_all g s us)) s h (joined-good context (fit-walk g) s h.slot us (all-weaker IsAfter (IsLater g) (later-of g) us after))
+      joinable-moved g b (accepting context s (offered_all g s us)) s h
+      (joined-good context (fit-walk g) s h.slot us (all-weaker IsAfter (IsLater g) (later-of g) us after))
       (joined-good context (go-walk g s.base.key) s own us k)
 
 pub joinable-new : (g : RegionId) (b : Bool) (key : List ℕ) → IsJoinable g b (new_state b key)
-joinable-new g b key = record { slot = record { descends = tt; floor = refl; early = tt }; turns = tt; marks = refl; keys = tt; early_keys = tt; empty = λ e. refl }
+joinable-new g b key = record {
+  slot = record { descends = tt; floor = refl; early = tt };
+  turns = tt;
+  marks = refl;
+  keys = tt;
+  early_keys = tt;
+  empty = λ e. refl;
+}
 
 pub joinable-from : (g : RegionId) (b : Bool) (k : Kept) → 0 < k.floor.0 → IsJoinable g b (state_from b k)
 joinable-from g b k l =
-    by (cond b k (record k { marks = []; touches = [] })) (cond_both b k (record k { marks = []; touches = [] }) (λ (x : Kept). 0 < x.floor.0) (λ e. l) (λ e. l))
+    by (cond b k (record k { marks = []; touches = [] }))
+    (cond_both b k (record k { marks = []; touches = [] }) (λ (x : Kept). 0 < x.floor.0) (λ e. l) (λ e. l))
   where
     by : (x : Kept) → 0 < x.floor.0 → IsJoinable g b (state_of_kept b x)
-    by x p = record { slot = record { descends = tt; floor = refl; early = tt }; turns = tt; marks = refl; keys = tt; early_keys = tt; empty = λ e. absurd (omega (arith, e, p)) }
+    by x p = record {
+      slot = record { descends = tt; floor = refl; early = tt };
+      turns = tt;
+      marks = refl;
+      keys = tt;
+      early_keys = tt;
+      empty = λ e. absurd (omega (arith, e, p));
+    }
 
 -- such a slot can be sent
 upto-base : (v : ℕ) (us : List Update) → Descends v us → upto v us ≡ []
 upto-base v [] h = refl
-upto-base v (u ∷ older) h = let t = base-top v older h.1 in let d = h.0 in cond-false (leb u.version.0 v) _ _ (lt-leb u.version.0 v (omega (arith, t, d))) ∙ upto-base v older h.1
+upto-base v (u ∷ older) h = let t = base-top v older h.1 in let d = h.0 in
+    cond-false (leb u.version.0 v) _ _ (lt-leb u.version.0 v (omega (arith, t, d))) ∙ upto-base v older h.1
 
 pub joinable-sent : (g : RegionId) (b : Bool) (s : KeyState) → IsJoinable g b s → CanJoin g b s
 joinable-sent g b s h = record {
@@ -131,10 +157,23 @@ joinable-sent g b s h = record {
         let same : s.floor ≡ s.base.floor.0 = omega (arith, z, low) in
         let past = ap (λ v. upto v s.accepted) same ∙ upto-base s.base.floor.0 s.accepted h.slot.descends in
         (λ j. kept_of g (record s { accepted = s.accepted; floor = s.floor; base = s.base }))
-        ∙ (λ j. record { key = s.base.key; floor = record { 0 = z j }; object = kept_row g s.base.object (past j); marks = provided s.marks (marks_after s.base.marks (past j)); touches = provided s.marks (touches_after s.base.touches (past j)) })
-        ∙ (λ j. record { key = s.base.key; floor = record { 0 = 0 }; object = (none j).object; marks = provided s.marks (none j).marks; touches = provided s.marks (none j).touches })
+        ∙ (λ j. record {
+          key = s.base.key;
+          floor = record { 0 = z j };
+          object = kept_row g s.base.object (past j);
+          marks = provided s.marks (marks_after s.base.marks (past j));
+          touches = provided s.marks (touches_after s.base.touches (past j));
+        })
+        ∙ (λ j. record {
+          key = s.base.key;
+          floor = record { 0 = 0 };
+          object = (none j).object;
+          marks = provided s.marks (none j).marks;
+          touches = provided s.marks (none j).touches;
+        })
         ∙ (λ j. record { key = s.base.key; floor = record { 0 = 0 }; object = None; marks = provided-nothing s.marks j; touches = provided-nothing s.marks j })
         );
-    keys = all-weaker (λ (u : Update). u.key ≡ s.base.key) (λ (u : Update). same_text u.key s.base.key ≡ true) (λ u e. ap (λ (k : List ℕ). same_text k s.base.key) e ∙ same_text_self s.base.key) s.accepted h.keys;
+    keys = all-weaker (λ (u : Update). u.key ≡ s.base.key) (λ (u : Update). same_text u.key s.base.key ≡ true)
+        (λ u e. ap (λ (k : List ℕ). same_text k s.base.key) e ∙ same_text_self s.base.key) s.accepted h.keys;
   };
 }

@@ -20,8 +20,11 @@ upto-whole v (u ∷ us) h = cond-true (leb u.version.0 v) _ _ (le-leb u.version.
 -- versions that descend are at most the first
 below-top : (b : ℕ) (us : List Update) → Descends b us → UpTo (top_above b us) us
 below-top b [] h = tt
-below-top b (u ∷ older) h =
-    (omega arith, all-weaker (λ (w : Update). w.version.0 ≤ top_above b older) (λ (w : Update). w.version.0 ≤ u.version.0) (λ w k. (let d = h.0 in omega (arith, d, k))) older (below-top b older h.1))
+below-top b (u ∷ older) h = (
+  omega arith,
+  all-weaker (λ (w : Update). w.version.0 ≤ top_above b older)
+      (λ (w : Update). w.version.0 ≤ u.version.0) (λ w k. (let d = h.0 in omega (arith, d, k))) older (below-top b older h.1),
+)
 
 descends-upto : (b v : ℕ) (us : List Update) → Descends b us → Descends b (upto v us)
 descends-upto b v [] h = tt
@@ -31,7 +34,8 @@ upto-below : (b v : ℕ) (us : List Update) → Descends b us → UpTo v (upto v
 upto-below b v [] h = tt
 upto-below b v (u ∷ older) h =
     cond_both (leb u.version.0 v) (u ∷ older) (upto v older) (UpTo v)
-    (λ e. let l = leb-true u.version.0 v e in all-weaker (λ (w : Update). w.version.0 ≤ u.version.0) (λ (w : Update). w.version.0 ≤ v) (λ w k. omega (arith, l, k)) (u ∷ older) (below-top b (u ∷ older) h))
+    (λ e. let l = leb-true u.version.0 v e in all-weaker (λ (w : Update). w.version.0 ≤ u.version.0)
+    (λ (w : Update). w.version.0 ≤ v) (λ w k. omega (arith, l, k)) (u ∷ older) (below-top b (u ∷ older) h))
     (λ e. upto-below b v older h.1)
 
 upto-upto : (v w : ℕ) (us : List Update) → v ≤ w → upto v (upto w us) ≡ upto v us
@@ -50,7 +54,8 @@ upto-filter b v test (u ∷ older) h =
     upto-whole v (filter test (u ∷ older))
     (
     all-filter (λ (w : Update). w.version.0 ≤ v) test (u ∷ older)
-    (all-weaker (λ (w : Update). w.version.0 ≤ u.version.0) (λ (w : Update). w.version.0 ≤ v) (λ w k. omega (arith, l, k)) (u ∷ older) (below-top b (u ∷ older) h))
+    (all-weaker (λ (w : Update). w.version.0 ≤ u.version.0) (λ (w : Update). w.version.0 ≤ v)
+    (λ w k. omega (arith, l, k)) (u ∷ older) (below-top b (u ∷ older) h))
     )
     )
     (
@@ -72,7 +77,8 @@ base-top b [] h = omega arith
 base-top b (u ∷ older) h = let t = base-top b older h.1 in let d = h.0 in omega (arith, t, d)
 
 pub base-floor : (g : RegionId) (s : KeyState) → IsSlotOf g s → s.base.floor.0 ≤ s.floor
-base-floor g s h = let t = base-top s.base.floor.0 (upto s.floor s.accepted) (descends-upto s.base.floor.0 s.floor s.accepted h.descends) in let e = h.floor in omega (arith, t, e)
+base-floor g s h = let t = base-top s.base.floor.0 (upto s.floor s.accepted)
+    (descends-upto s.base.floor.0 s.floor s.accepted h.descends) in let e = h.floor in omega (arith, t, e)
 
 module _ (g : RegionId) (line : List Update) (down : Descends 0 line) (s : KeyState) (h : IsSlotOf g s) (p : IsPrefix g line s) where
   -- the line's updates up to the floor are those of the base with the committed ones
@@ -80,7 +86,9 @@ module _ (g : RegionId) (line : List Update) (down : Descends 0 line) (s : KeySt
   committed-line =
       let low = base-floor g s h in
       let rest = only_in g (upto s.base.floor.0 line) in
-      let few = all-weaker (λ (u : Update). u.version.0 ≤ s.base.floor.0) (λ (u : Update). u.version.0 ≤ s.floor) (λ u k. omega (arith, low, k)) rest (all-filter (λ (u : Update). u.version.0 ≤ s.base.floor.0) (has_place g) (upto s.base.floor.0 line) (upto-below 0 s.base.floor.0 line down)) in
+      let few = all-weaker (λ (u : Update). u.version.0 ≤ s.base.floor.0) (λ (u : Update). u.version.0 ≤ s.floor)
+      (λ u k. omega (arith, low, k)) rest (all-filter (λ (u : Update). u.version.0 ≤ s.base.floor.0) (has_place g)
+      (upto s.base.floor.0 line) (upto-below 0 s.base.floor.0 line down)) in
       sym (upto-over s.floor s.accepted rest few)
       ∙ sym (ap (upto s.floor) p.list)
       ∙ upto-filter 0 s.floor (has_place g) (upto (top_of s) line) (descends-upto 0 (top_of s) line down)
@@ -88,10 +96,13 @@ module _ (g : RegionId) (line : List Update) (down : Descends 0 line) (s : KeySt
 
   -- what is shown are the folds of the line
   pub object-line : object_of g s ≡ kept_row g None (only_in g (upto s.floor line))
-  object-line = ap (λ (o : Option Row). kept_row g o (upto s.floor s.accepted)) p.object ∙ row-parts g None (upto s.floor s.accepted) (only_in g (upto s.base.floor.0 line)) (only_in g (upto s.floor line)) committed-line
+  object-line = ap (λ (o : Option Row). kept_row g o (upto s.floor s.accepted)) p.object
+      ∙ row-parts g None (upto s.floor s.accepted) (only_in g (upto s.base.floor.0 line))
+      (only_in g (upto s.floor line)) committed-line
 
   pub latest-line : latest_of g s ≡ object_in (kept_row g None (only_in g (upto (top_of s) line)))
-  latest-line = ap object_in (ap (λ (o : Option Row). kept_row g o s.accepted) p.object ∙ row-parts g None s.accepted (only_in g (upto s.base.floor.0 line)) (only_in g (upto (top_of s) line)) (sym p.list))
+  latest-line = ap object_in (ap (λ (o : Option Row). kept_row g o s.accepted) p.object
+      ∙ row-parts g None s.accepted (only_in g (upto s.base.floor.0 line)) (only_in g (upto (top_of s) line)) (sym p.list))
 
   pub marks-line : s.marks ≡ true → marks_after s.base.marks s.accepted ≡ marks_after [] (only_in g (upto (top_of s) line))
   marks-line m =

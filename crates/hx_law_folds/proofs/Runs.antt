@@ -9,19 +9,25 @@ use Rattle.hx_law_folds.specs.Folding.{InputsFit, lean_after, lean_of}
 use Rattle.hx_law_folds.proofs.Servers.{server-folds}
 use Rattle.hx_law_folds.proofs.Staying.{server-stays}
 
-start-replicas : (space : Space) (gs : List RegionId) → AllByRecursion (IsReplicaOf space) (map (λ (g : RegionId). record { region = g; installed = true; states = [] }) gs)
+start-replicas : (space : Space) (gs : List RegionId)
+    → AllByRecursion (IsReplicaOf space) (map (λ (g : RegionId). record { region = g; installed = true; states = [] }) gs)
 start-replicas space [] = tt
 start-replicas space (g ∷ gs) = (tt, start-replicas space gs)
 
-start-folded : (gs : List RegionId) → map folded_replica (map (λ (g : RegionId). record { region = g; installed = true; states = [] }) gs) ≡ map (λ (g : RegionId). record { region = g; installed = true; states = [] }) gs
+start-folded : (gs : List RegionId) → map folded_replica
+    (map (λ (g : RegionId). record { region = g; installed = true; states = [] }) gs)
+    ≡ map (λ (g : RegionId). record { region = g; installed = true; states = [] }) gs
 start-folded [] = refl
 start-folded (g ∷ gs) = ap (λ (rs : List Replica). record { region = g; installed = true; states = [] } ∷ rs) (start-folded gs)
 
 -- the slots of each server of a trace are in order
-after-entry : (space : Space) (s : ServerId) (a : Actor) (input : Input) (state : ServerState) → IsServerOf space state → InputFits input → IsServerOf space (server_after space s a input state)
+after-entry : (space : Space) (s : ServerId) (a : Actor) (input : Input) (state : ServerState)
+    → IsServerOf space state → InputFits input → IsServerOf space (server_after space s a input state)
 after-entry space s Coordinator input state h f = h
 after-entry space s (Session u) input state h f = h
-after-entry space s (Server x) input state h f = cond_both (same_server x s) (server_step space state input).state state (IsServerOf space) (λ e. server-stays space state h input f) (λ e. h)
+after-entry space s (Server x) input state h f =
+    cond_both (same_server x s) (server_step space state input).state state (IsServerOf space)
+    (λ e. server-stays space state h input f) (λ e. h)
 
 pub server-of : (script : Script) (s : ServerId) (trace : List Entry) → InputsFit trace → IsServerOf script.space (server_of script s trace)
 server-of script s [] f = start-replicas script.space (listed_regions (first_config script.space) s)
@@ -33,7 +39,8 @@ lean-entry : (space : Space) (s : ServerId) (a : Actor) (input : Input) (state :
 lean-entry space s Coordinator input state h f = refl
 lean-entry space s (Session u) input state h f = refl
 lean-entry space s (Server x) input state h f =
-    cond_both (same_server x s) (server_step space state input).state state (λ (y : ServerState). lean_after space s (Server x) input (folded_server state) ≡ folded_server y)
+    cond_both (same_server x s) (server_step space state input).state state
+    (λ (y : ServerState). lean_after space s (Server x) input (folded_server state) ≡ folded_server y)
     (λ e. cond-true (same_server x s) _ _ e ∙ ap (λ (step : ServerStep). step.state) (server-folds space state h input f))
     (λ e. cond-false (same_server x s) _ _ e)
 

@@ -32,7 +32,8 @@ module _ (P : Replica → Type 0) where
       (λ e. replica-taking g rest h.1)
 
   pub taking : (s : ServerState) → AllByRecursion P s.replicas → (g : RegionId) → IfSome (replica_for s g) (IsTaking g)
-  taking s h g = cond_both (is_lost s.config g) None (replica_of g s.replicas) (λ (o : Option Replica). IfSome o (IsTaking g)) (λ e. tt) (λ e. replica-taking g s.replicas h)
+  taking s h g = cond_both (is_lost s.config g) None (replica_of g s.replicas)
+      (λ (o : Option Replica). IfSome o (IsTaking g)) (λ e. tt) (λ e. replica-taking g s.replicas h)
 
   -- so is the one that is installed
   pub taking_installed : (s : ServerState) → AllByRecursion P s.replicas → (g : RegionId) → IfSome (if_installed (replica_for s g)) (IsTaking g)
@@ -45,7 +46,8 @@ module _ (P : Replica → Type 0) where
   -- the replicas of another configuration
   pub config-replicas : ((g : RegionId) → P (record { region = g; installed = false; states = [] })) → (s : ServerState) (config : Config)
       → AllByRecursion P s.replicas → AllByRecursion P (with_config s config).replicas
-  config-replicas new s config h = all-made P (replica_or_new s.replicas) (λ g. by g (replica_of g s.replicas) (replica-taking g s.replicas h)) (listed_regions config s.id)
+  config-replicas new s config h = all-made P (replica_or_new s.replicas)
+      (λ g. by g (replica_of g s.replicas) (replica-taking g s.replicas h)) (listed_regions config s.id)
     where
       by : (g : RegionId) (o : Option Replica) → IfSome o (IsTaking g)
           → P (when_some o (record { region = g; installed = false; states = [] }) (λ (r : Replica). r))
@@ -56,11 +58,13 @@ module _ (P : Replica → Type 0) where
 filter-keys : (key : List ℕ) (us : List Update) → AllByRecursion (λ (u : Update). u.key ≡ key) (filter (λ (u : Update). same_text u.key key) us)
 filter-keys key [] = tt
 filter-keys key (u ∷ us) =
-    cond_both (same_text u.key key) (u ∷ filter (λ (w : Update). same_text w.key key) us) (filter (λ (w : Update). same_text w.key key) us) (AllByRecursion (λ (w : Update). w.key ≡ key))
+    cond_both (same_text u.key key) (u ∷ filter (λ (w : Update). same_text w.key key) us)
+    (filter (λ (w : Update). same_text w.key key) us) (AllByRecursion (λ (w : Update). w.key ≡ key))
     (λ e. (eq_of_same_text u.key key e, filter-keys key us))
     (λ e. filter-keys key us)
 
--- what is asked of the steps of a slot, where a replica is such as its list of slots is, each slot of such a list is such, and so is a list that is made of what is sent
+-- what is asked of the steps of a slot, where a replica is such as its list of slots is, each slot
+-- of such a list is such, and so is a list that is made of what is sent
 pub record SlotsStay (space : Space) (P : Replica → Type 0) (Has : RegionId → List KeyState → Type 0) (Slot : RegionId → KeyState → Type 0)
     (Sent : List Kept → Type 0) : Type 0 where
   pub shows : (r : Replica) → P r → Has r.region r.states
@@ -97,7 +101,8 @@ module _ {space : Space} {P : Replica → Type 0} {Has : RegionId → List KeySt
 
   slot-stays : (r : Replica) → P r → (key : List ℕ) (step : SlotStep) → Slot r.region (moved_all step.moves (state_in space r key))
       → Stays (at_slot s r (state_in space r key) step)
-  slot-stays r k key step j = with-replicas P _ s.replicas (w.makes _ (w.more r.region (moved_all step.moves (state_in space r key)) r.states j (w.shows r k))) h
+  slot-stays r k key step j = with-replicas P _ s.replicas
+      (w.makes _ (w.more r.region (moved_all step.moves (state_in space r key)) r.states j (w.shows r k))) h
 
   -- Snap: each key's slot takes its pending updates
   join-slots : (g : RegionId) (us : List Update) → AllByRecursion IsAfter us → (slots : Slots) (keys : List (List ℕ)) → Has g slots.states
@@ -107,9 +112,11 @@ module _ {space : Space} {P : Replica → Type 0} {Has : RegionId → List KeySt
       let context = context_of space s g in
       let state = state_among (is_key_region space g) key slots.states in
       let some = filter (λ (u : Update). same_text u.key key) us in
-      let own = subst (λ (x : List ℕ). AllByRecursion (λ (u : Update). u.key ≡ x) some) (sym (among-key (is_key_region space g) key slots.states)) (filter-keys key us) in
+      let own = subst (λ (x : List ℕ). AllByRecursion (λ (u : Update). u.key ≡ x) some)
+      (sym (among-key (is_key_region space g) key slots.states)) (filter-keys key us) in
       let goes = w.joins context state (w.one g key slots.states k) some (all-filter IsAfter (λ (u : Update). same_text u.key key) us after) own in
-      join-slots g us after (join_slot context some slots state) rest (w.more g (moved_all (accepting context state (offered_all g state some)) state) slots.states goes k)
+      join-slots g us after (join_slot context some slots state) rest
+      (w.more g (moved_all (accepting context state (offered_all g state some)) state) slots.states goes k)
 
   -- a replica that takes messages is such
   takes : (g : RegionId) (r : Replica) → replica_for s g ≡ Some r → IsTaking P g r

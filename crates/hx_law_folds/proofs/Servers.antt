@@ -35,19 +35,22 @@ folded-replicas-twice (r ∷ rest) = λ j. record r { states = folded-states-twi
 replica-folded : (g : RegionId) (rs : List Replica) → replica_of g (map folded_replica rs) ≡ option_map folded_replica (replica_of g rs)
 replica-folded g [] = refl
 replica-folded g (r ∷ rest) =
-    cond_both (same_region r.region g) (Some r) (replica_of g rest) (λ (o : Option Replica). replica_of g (map folded_replica (r ∷ rest)) ≡ option_map folded_replica o)
+    cond_both (same_region r.region g) (Some r) (replica_of g rest)
+    (λ (o : Option Replica). replica_of g (map folded_replica (r ∷ rest)) ≡ option_map folded_replica o)
     (λ e. cond-true (same_region r.region g) _ _ e)
     (λ e. cond-false (same_region r.region g) _ _ e ∙ replica-folded g rest)
 
 pub with-replica-folded : (r : Replica) (rs : List Replica) → map folded_replica (with_replica r rs) ≡ with_replica (folded_replica r) (map folded_replica rs)
 with-replica-folded r [] = refl
 with-replica-folded r (x ∷ rest) =
-    cond_both (same_region x.region r.region) (r ∷ rest) (x ∷ with_replica r rest) (λ (l : List Replica). map folded_replica l ≡ with_replica (folded_replica r) (map folded_replica (x ∷ rest)))
+    cond_both (same_region x.region r.region) (r ∷ rest) (x ∷ with_replica r rest)
+    (λ (l : List Replica). map folded_replica l ≡ with_replica (folded_replica r) (map folded_replica (x ∷ rest)))
     (λ e. sym (cond-true (same_region x.region r.region) _ _ e))
     (λ e. ap (λ (l : List Replica). folded_replica x ∷ l) (with-replica-folded r rest) ∙ sym (cond-false (same_region x.region r.region) _ _ e))
 
 -- a replica put among replicas without their past
-replica-put : (x y : Replica) (rs : List Replica) → folded_replica x ≡ folded_replica y → map folded_replica (with_replica x (map folded_replica rs)) ≡ map folded_replica (with_replica y rs)
+replica-put : (x y : Replica) (rs : List Replica) → folded_replica x ≡ folded_replica y
+    → map folded_replica (with_replica x (map folded_replica rs)) ≡ map folded_replica (with_replica y rs)
 replica-put x y rs e =
     with-replica-folded x (map folded_replica rs)
     ∙ (λ j. with_replica (e j) (folded-replicas-twice rs j))
@@ -106,10 +109,13 @@ state-folds s r step state h =
 
 -- a step of one slot, by its key
 slot-folds : (space : Space) (s : ServerState) (r : Replica) (key : List ℕ) (step : KeyState → SlotStep) → StepFolds r.region step (state_in space r key)
-    → folded_step (at_slot (folded_server s) (folded_replica r) (state_in space (folded_replica r) key) (step (state_in space (folded_replica r) key))) ≡ folded_step (at_slot s r (state_in space r key) (step (state_in space r key)))
+    → folded_step (at_slot (folded_server s) (folded_replica r) (state_in space (folded_replica r) key)
+    (step (state_in space (folded_replica r) key)))
+    ≡ folded_step (at_slot s r (state_in space r key) (step (state_in space r key)))
 slot-folds space s r key step h =
     let state = state_in space r key in
-    ap (λ (x : KeyState). folded_step (at_slot (folded_server s) (folded_replica r) x (step x))) (folded-among r.region (is_key_region space r.region) key r.states)
+    ap (λ (x : KeyState). folded_step (at_slot (folded_server s) (folded_replica r) x (step x)))
+    (folded-among r.region (is_key_region space r.region) key r.states)
     ∙ state-folds s r step state h
 
 pub and-left : (a b : Bool) → a && b ≡ true → a ≡ true
@@ -146,7 +152,9 @@ called-folds space s h caller op (Some key) =
     ∙ by (replica_for s (key_region space key)) (taking (IsReplicaOf space) s h (key_region space key))
   where
     by : (o : Option Replica) → IfSome o (IsTaking (IsReplicaOf space) (key_region space key))
-        → folded_step (when_some (option_map folded_replica o) (unmoved (folded_server s)) (λ (r : Replica). call_at space (folded_server s) r key caller op)) ≡ folded_step (when_some o (unmoved s) (λ (r : Replica). call_at space s r key caller op))
+        → folded_step (when_some (option_map folded_replica o) (unmoved (folded_server s))
+        (λ (r : Replica). call_at space (folded_server s) r key caller op))
+        ≡ folded_step (when_some o (unmoved s) (λ (r : Replica). call_at space s r key caller op))
     by None k = unmoved-folds s
     by (Some r) k = call_at-folds space s r key caller op k
 
@@ -165,7 +173,8 @@ updated-folds space s from u after g (Some r) k =
     cond-folds (hears_update s.config u (place_number r.region u.places) s.id from) _ _ _ _
     (
     slot-folds space s r u.key (λ x. update_step (context_of space s r.region) x u)
-    (update-folds (context_of space s r.region) (state_in space r u.key) (among-slot r.region (is_key_region space r.region) u.key r.states k.replica).slot u (later-of r.region u after))
+    (update-folds (context_of space s r.region) (state_in space r u.key)
+    (among-slot r.region (is_key_region space r.region) u.key r.states k.replica).slot u (later-of r.region u after))
     )
     (unmoved-folds s)
 
@@ -204,7 +213,8 @@ asked-folds : (s : ServerState) (from : Actor) (epoch : Epoch) (number : ℕ) (t
 asked-folds s from epoch number terms None = unmoved-folds s
 asked-folds s from epoch number terms (Some r) =
     saying-folds s _ _
-    (ap (λ rows. provided (lists_ready s.config r.region s.id) (post (Server s.id) from (a_message.Found epoch number r.region rows) ∷ [])) (found-folded r.region terms r.states))
+    (ap (λ rows. provided (lists_ready s.config r.region s.id)
+    (post (Server s.id) from (a_message.Found epoch number r.region rows) ∷ [])) (found-folded r.region terms r.states))
 
 -- Snap
 snapped-folds : (space : Space) (s : ServerState) (from : Actor) (snapshot : List Kept) (pending : List Update) (o : Option Replica)
@@ -235,7 +245,9 @@ snaps-folded s r =
   where
     by : (o : Option ServerId) → snap_to (folded_server s) (folded_replica r) o ≡ snap_to s r o
     by None = refl
-    by (Some joiner) = λ j. post (Server s.id) (Server joiner) (a_message.Snap s.config.epoch r.region (snapshot-folded r.region r.states j) (pending_all-folded r.region r.states j)) ∷ []
+    by (Some joiner) = λ j. post (Server s.id) (Server joiner)
+        (a_message.Snap s.config.epoch r.region (snapshot-folded r.region r.states j)
+        (pending_all-folded r.region r.states j)) ∷ []
 
 replica-tick-folded : (space : Space) (s : ServerState) (r : Replica) → replica_tick space (folded_server s) (folded_replica r) ≡ replica_tick space s r
 replica-tick-folded space s r =
@@ -243,7 +255,8 @@ replica-tick-folded space s r =
     let pending = pending-posts-folded (context_of space s r.region) r.states in
     λ j. provided (is_active s.config r) (snaps j ++ pending j ++ ready_post s r.region)
 
-ticks-folded : (space : Space) (s : ServerState) (rs : List Replica) → flat_map (replica_tick space (folded_server s)) (map folded_replica rs) ≡ flat_map (replica_tick space s) rs
+ticks-folded : (space : Space) (s : ServerState) (rs : List Replica)
+    → flat_map (replica_tick space (folded_server s)) (map folded_replica rs) ≡ flat_map (replica_tick space s) rs
 ticks-folded space s [] = refl
 ticks-folded space s (r ∷ rest) = λ j. replica-tick-folded space s r j ++ ticks-folded space s rest j
 
@@ -262,7 +275,9 @@ new-folded rs g =
     ap (λ (o : Option Replica). when_some o (record { region = g; installed = false; states = [] }) (λ (r : Replica). r)) (replica-folded g rs)
     ∙ by (replica_of g rs)
   where
-    by : (o : Option Replica) → when_some (option_map folded_replica o) (record { region = g; installed = false; states = [] }) (λ (r : Replica). r) ≡ folded_replica (when_some o (record { region = g; installed = false; states = [] }) (λ (r : Replica). r))
+    by : (o : Option Replica) → when_some (option_map folded_replica o)
+        (record { region = g; installed = false; states = [] }) (λ (r : Replica). r)
+        ≡ folded_replica (when_some o (record { region = g; installed = false; states = [] }) (λ (r : Replica). r))
     by None = refl
     by (Some r) = refl
 
@@ -275,13 +290,15 @@ config-folded s config =
     let replicas = news-folded s.replicas (listed_regions config s.id) in
     λ j. record { id = s.id; config = config; halted = s.halted; replicas = replicas j }
 
-adopted-posts-folded : (space : Space) (s : ServerState) (r : Replica) → IsReplicaOf space r → adopted_posts space (folded_server s) (folded_replica r) ≡ adopted_posts space s r
+adopted-posts-folded : (space : Space) (s : ServerState) (r : Replica) → IsReplicaOf space r
+    → adopted_posts space (folded_server s) (folded_replica r) ≡ adopted_posts space s r
 adopted-posts-folded space s r h =
     let snaps = snaps-folded s r in
     let posts = resumed-all-folded (is_key_region space r.region) (context_of space s r.region) r.states h in
     λ j. provided (is_active s.config r) (snaps j ++ posts j ++ ready_post s r.region)
 
-adopted-all-posts : (space : Space) (s : ServerState) (rs : List Replica) → AllByRecursion (IsReplicaOf space) rs → flat_map (adopted_posts space (folded_server s)) (map folded_replica rs) ≡ flat_map (adopted_posts space s) rs
+adopted-all-posts : (space : Space) (s : ServerState) (rs : List Replica) → AllByRecursion (IsReplicaOf space) rs
+    → flat_map (adopted_posts space (folded_server s)) (map folded_replica rs) ≡ flat_map (adopted_posts space s) rs
 adopted-all-posts space s [] h = refl
 adopted-all-posts space s (r ∷ rest) h =
     let a = adopted-posts-folded space s r h.0 in
@@ -302,14 +319,17 @@ adopted-folds space s h =
     let posts = adopted-all-posts space s s.replicas h in
     λ j. record { state = record s { replicas = replicas j }; posts = posts j; notes = [] }
 
-install-folds : (space : Space) (s : ServerState) → IsServerOf space s → (config : Config) → folded_step (install_at space (folded_server s) config) ≡ folded_step (install_at space s config)
+install-folds : (space : Space) (s : ServerState) → IsServerOf space s → (config : Config)
+    → folded_step (install_at space (folded_server s) config) ≡ folded_step (install_at space s config)
 install-folds space s h config =
     cond-folds (ltb s.config.epoch.0 config.epoch.0) _ _ _ _
-    (ap (λ (x : ServerState). folded_step (adopted space x)) (config-folded s config) ∙ adopted-folds space (with_config s config) (config-replicas (IsReplicaOf space) (λ g. tt) s config h))
+    (ap (λ (x : ServerState). folded_step (adopted space x)) (config-folded s config)
+    ∙ adopted-folds space (with_config s config) (config-replicas (IsReplicaOf space) (λ g. tt) s config h))
     (unmoved-folds s)
 
 -- the rows of the table
-message-folds : (space : Space) (s : ServerState) → IsServerOf space s → (from : Actor) (m : Message) → MessageFits m → folded_step (message_step space (folded_server s) from m) ≡ folded_step (message_step space s from m)
+message-folds : (space : Space) (s : ServerState) → IsServerOf space s → (from : Actor) (m : Message) → MessageFits m
+    → folded_step (message_step space (folded_server s) from m) ≡ folded_step (message_step space s from m)
 message-folds space s h from (a_message.Call epoch number op) f = meeting-folds s epoch _ _ (called_by-folds space s h from number op)
 message-folds space s h from (a_message.Update epoch g u) f =
     meeting-folds s epoch _ _
@@ -339,20 +359,25 @@ message-folds space s h from (a_message.Snap epoch g snapshot pending) f =
     )
 message-folds space s h from other f = unmoved-folds s
 
-input-folds : (space : Space) (s : ServerState) → IsServerOf space s → (input : Input) → InputFits input → folded_step (input_step space (folded_server s) input) ≡ folded_step (input_step space s input)
+input-folds : (space : Space) (s : ServerState) → IsServerOf space s → (input : Input) → InputFits input
+    → folded_step (input_step space (folded_server s) input) ≡ folded_step (input_step space s input)
 input-folds space s h Tick f = tick-folds space s
 input-folds space s h Halt f = halting-folds s
 input-folds space s h (Deliver id from m) f = message-folds space s h from m f
 
 -- the step of a server without its past is that of the server, without its past
-pub server-folds : (space : Space) (s : ServerState) → IsServerOf space s → (input : Input) → InputFits input → folded_step (server_step space (folded_server s) input) ≡ folded_step (server_step space s input)
+pub server-folds : (space : Space) (s : ServerState) → IsServerOf space s → (input : Input) → InputFits input
+    → folded_step (server_step space (folded_server s) input) ≡ folded_step (server_step space s input)
 server-folds space s h input f = cond-folds s.halted _ _ _ _ (unmoved-folds s) (input-folds space s h input f)
 
 -- a server without a past: what a step of one of its slots leaves, without its past
-pub with-slot-lean : (s : ServerState) (r : Replica) (x y : KeyState) → folded_server s ≡ s → folded_replica r ≡ r → folded r.region x ≡ y → folded_server (with_slot s r x) ≡ with_slot s r y
+pub with-slot-lean : (s : ServerState) (r : Replica) (x y : KeyState) → folded_server s ≡ s → folded_replica r ≡ r
+    → folded r.region x ≡ y → folded_server (with_slot s r x) ≡ with_slot s r y
 with-slot-lean s r x y bare here e =
-    let states : map (folded r.region) (with_state x r.states) ≡ with_state y r.states = folded-with r.region x r.states ∙ (λ j. with_state (e j) (here j).states) in
-    let replicas = with-replica-folded (record r { states = with_state x r.states }) s.replicas ∙ (λ j. with_replica (record r { states = states j }) (bare j).replicas) in
+    let states : map (folded r.region) (with_state x r.states) ≡ with_state y r.states =
+    folded-with r.region x r.states ∙ (λ j. with_state (e j) (here j).states) in
+    let replicas = with-replica-folded (record r { states = with_state x r.states }) s.replicas
+    ∙ (λ j. with_replica (record r { states = states j }) (bare j).replicas) in
     λ j. record s { replicas = replicas j }
 
 get-folded : (rs : List Replica) (place : ℕ) → slice_get (map folded_replica rs) place ≡ option_map folded_replica (slice_get rs place)
@@ -367,4 +392,5 @@ found-lean s place r bare e =
     same_Some (folded_replica r) r same
 
 pub state-lean : (space : Space) (r : Replica) (key : List ℕ) → folded_replica r ≡ r → folded r.region (state_in space r key) ≡ state_in space r key
-state-lean space r key e = sym (folded-among r.region (is_key_region space r.region) key r.states) ∙ ap (λ (x : Replica). state_among (is_key_region space r.region) key x.states) e
+state-lean space r key e = sym (folded-among r.region (is_key_region space r.region) key r.states)
+    ∙ ap (λ (x : Replica). state_among (is_key_region space r.region) key x.states) e

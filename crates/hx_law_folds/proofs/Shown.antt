@@ -55,11 +55,15 @@ module _ (g : RegionId) where
   stuck-same s t a config = ap (stuck_among config) a.pending
 
   -- slots that are alike after moves that are allowed
-  pub show-moved : (s t : KeyState) → IsSlotOf g s → IsSlotOf g t → AreAlike g s t → (ms : List Move) → AllFit g s ms → AllFit g t ms → ShowSame g (moved_all ms s) (moved_all ms t)
-  show-moved s t h k e ms a b = alike-show (moved_all ms s) (moved_all ms t) (keeps-all (fit-walk g) ms s h a) (keeps-all (fit-walk g) ms t k b) (alike-moved_all g ms s t e a b)
+  pub show-moved : (s t : KeyState) → IsSlotOf g s → IsSlotOf g t → AreAlike g s t → (ms : List Move) → AllFit g s ms
+      → AllFit g t ms → ShowSame g (moved_all ms s) (moved_all ms t)
+  show-moved s t h k e ms a b = alike-show (moved_all ms s) (moved_all ms t) (keeps-all (fit-walk g) ms s h a)
+      (keeps-all (fit-walk g) ms t k b) (alike-moved_all g ms s t e a b)
 
-  pub acknowledged-settled : (s t : KeyState) → IsSlotOf g s → IsSlotOf g t → AreAlike g s t → (v : ℕ) → settled (moved (Acknowledge v) s) ≡ settled (moved (Acknowledge v) t)
-  acknowledged-settled s t h k e v = settled-same (moved (Acknowledge v) s) (moved (Acknowledge v) t) (show-moved s t h k e (Acknowledge v ∷ []) (tt, tt) (tt, tt))
+  pub acknowledged-settled : (s t : KeyState) → IsSlotOf g s → IsSlotOf g t → AreAlike g s t → (v : ℕ)
+      → settled (moved (Acknowledge v) s) ≡ settled (moved (Acknowledge v) t)
+  acknowledged-settled s t h k e v = settled-same (moved (Acknowledge v) s) (moved (Acknowledge v) t)
+      (show-moved s t h k e (Acknowledge v ∷ []) (tt, tt) (tt, tt))
 
   pub waits-same : (s t : KeyState) → ShowSame g s t → (v : ℕ) → waits_below s.acked v (pending_of s) ≡ waits_below t.acked v (pending_of t)
   waits-same s t a v = λ j. waits_below (a.acked j) v (a.pending j)
@@ -76,23 +80,29 @@ module _ (g : RegionId) where
       let moves = acknowledged-settled s t h k e v in
       λ j. cond (not (pending j)) an_ack.Unknown (cond (waits j) an_ack.Kept (an_ack.Committed (length (moves j))))
 
-  pub with_commits-same : (s t : KeyState) → IsSlotOf g s → IsSlotOf g t → AreAlike g s t → (ms : List Move) → AllFit g s ms → AllFit g t ms → with_commits s ms ≡ with_commits t ms
+  pub with_commits-same : (s t : KeyState) → IsSlotOf g s → IsSlotOf g t → AreAlike g s t → (ms : List Move)
+      → AllFit g s ms → AllFit g t ms → with_commits s ms ≡ with_commits t ms
   with_commits-same s t h k e ms a b = ap (λ (ns : List Move). ms ++ ns) (settled-same (moved_all ms s) (moved_all ms t) (show-moved s t h k e ms a b))
 
-  pub accepting-same : (context : SlotContext) (s t : KeyState) → IsSlotOf g s → IsSlotOf g t → AreAlike g s t → (ms : List Move) → AllFit g s ms → AllFit g t ms → accepting context s ms ≡ accepting context t ms
+  pub accepting-same : (context : SlotContext) (s t : KeyState) → IsSlotOf g s → IsSlotOf g t → AreAlike g s t
+      → (ms : List Move) → AllFit g s ms → AllFit g t ms → accepting context s ms ≡ accepting context t ms
   accepting-same context s t h k e ms a b =
-      let more = λ (x : KeyState) (f : AllFit g x ms). good-append (Fits g) ms (tail_acks context (taken ms)) x f (tail_acks-good (fit-walk g) context (taken ms) (moved_all ms x)) in
+      let more = λ (x : KeyState) (f : AllFit g x ms). good-append (Fits g) ms (tail_acks context (taken ms)) x f
+      (tail_acks-good (fit-walk g) context (taken ms) (moved_all ms x)) in
       with_commits-same s t h k e (ms ++ tail_acks context (taken ms)) (more s a) (more t b)
 
   -- what an update that is offered brings
-  pub accepted-same : (context : SlotContext) (s t : KeyState) → IsSlotOf g s → IsSlotOf g t → AreAlike g s t → (u : Update) → IsLater g u → accepting context s (offered g s u) ≡ accepting context t (offered g t u)
+  pub accepted-same : (context : SlotContext) (s t : KeyState) → IsSlotOf g s → IsSlotOf g t → AreAlike g s t
+      → (u : Update) → IsLater g u → accepting context s (offered g s u) ≡ accepting context t (offered g t u)
   accepted-same context s t h k e u l =
       let same = offered-same s t (alike-show s t h k e) u in
-      accepting-same context s t h k e (offered g s u) (offered-good (fit-walk g) s u h l) (subst (AllFit g t) (sym same) (offered-good (fit-walk g) t u k l)) ∙ ap (accepting context t) same
+      accepting-same context s t h k e (offered g s u) (offered-good (fit-walk g) s u h l)
+      (subst (AllFit g t) (sym same) (offered-good (fit-walk g) t u k l)) ∙ ap (accepting context t) same
 
   -- what goes on in a new configuration
   pub resumed-same : (context : SlotContext) (s t : KeyState) → IsSlotOf g s → IsSlotOf g t → AreAlike g s t → resumed context s ≡ resumed context t
   resumed-same context s t h k e =
       let ms = Forget ∷ tail_acks context (pending_of s) in
-      with_commits-same s t h k e ms (tt, tail_acks-good (fit-walk g) context (pending_of s) (moved Forget s)) (tt, tail_acks-good (fit-walk g) context (pending_of s) (moved Forget t))
+      with_commits-same s t h k e ms (tt, tail_acks-good (fit-walk g) context (pending_of s) (moved Forget s))
+      (tt, tail_acks-good (fit-walk g) context (pending_of s) (moved Forget t))
       ∙ ap (λ (us : List Update). with_commits t (Forget ∷ tail_acks context us)) (alike-show s t h k e).pending

@@ -16,10 +16,12 @@ pub later-of : (g : RegionId) (u : Update) → IsAfter u → IsLater g u
 later-of g u h =
     by u.places h
   where
-    by : (ps : List Place) → All (λ (p : Place). p.after.0 < u.version.0) ps → IfSome (option_map (λ (p : Place). p.after.0) (place_in g ps)) (λ after. after < u.version.0)
+    by : (ps : List Place) → All (λ (p : Place). p.after.0 < u.version.0) ps
+        → IfSome (option_map (λ (p : Place). p.after.0) (place_in g ps)) (λ after. after < u.version.0)
     by [] h = tt
     by (p ∷ ps) h =
-        cond_both (same_region p.region g) (Some p) (place_in g ps) (λ (o : Option Place). IfSome (option_map (λ (p : Place). p.after.0) o) (λ after. after < u.version.0))
+        cond_both (same_region p.region g) (Some p) (place_in g ps)
+        (λ (o : Option Place). IfSome (option_map (λ (p : Place). p.after.0) o) (λ after. after < u.version.0))
         (λ e. All-head (λ (p : Place). p.after.0 < u.version.0) p ps h)
         (λ e. by ps (All-tail (λ (p : Place). p.after.0 < u.version.0) p ps h))
 
@@ -52,7 +54,8 @@ pub all-stand : (b : ℕ) (us : List Update) → Descends b us → AllByRecursio
 all-stand b [] h = tt
 all-stand b (x ∷ older) h = (
   (ap (top_above b) (cond-true (leb x.version.0 x.version.0) _ _ (le-leb x.version.0 x.version.0 (omega arith))), omega arith),
-  all-weaker (λ (u : Update). Stands b older u.version.0 × (u.version.0 ≤ top_above b older)) (λ (u : Update). Stands b (x ∷ older) u.version.0 × (u.version.0 ≤ x.version.0))
+  all-weaker (λ (u : Update). Stands b older u.version.0 × (u.version.0 ≤ top_above b older))
+      (λ (u : Update). Stands b (x ∷ older) u.version.0 × (u.version.0 ≤ x.version.0))
       (λ u k. (let d = h.0 in let l = k.1 in (ap (top_above b) (upto-newer u.version.0 x older (omega (arith, d, l))) ∙ k.0, omega (arith, d, l))))
       older
       (all-stand b older h.1),
@@ -71,7 +74,8 @@ abbrev Climbs : ℕ → List Update → Type 0
 Climbs v [] = ⊤
 Climbs v (u ∷ rest) = (v ≤ u.version.0) × Climbs u.version.0 rest
 
-climbs-last : (v : ℕ) (us : List Update) (u : Update) → Climbs v us → v ≤ u.version.0 → AllByRecursion (λ (w : Update). w.version.0 ≤ u.version.0) us → Climbs v (us ++ u ∷ [])
+climbs-last : (v : ℕ) (us : List Update) (u : Update) → Climbs v us → v ≤ u.version.0
+    → AllByRecursion (λ (w : Update). w.version.0 ≤ u.version.0) us → Climbs v (us ++ u ∷ [])
 climbs-last v [] u h l k = (l, tt)
 climbs-last v (w ∷ us) u h l k = (h.0, climbs-last w.version.0 us u h.1 k.0 k.1)
 
@@ -114,18 +118,25 @@ slot-moved g (Take u) s h f =
       floor = ap (top_above s.base.floor.0) (upto-newer s.floor u s.accepted (omega (arith, l, f))) ∙ h.floor;
       early = all-filter (IsLater g) _ s.early h.early;
     }
-slot-moved g (Hold u) s h f = record { descends = h.descends; floor = h.floor; early = all-append (IsLater g) _ (u ∷ []) (all-filter (IsLater g) _ s.early h.early) (f, tt) }
+slot-moved g (Hold u) s h f = record {
+  descends = h.descends;
+  floor = h.floor;
+  early = all-append (IsLater g) _ (u ∷ []) (all-filter (IsLater g) _ s.early h.early) (f, tt);
+}
 slot-moved g (Acknowledge v) s h f = record { descends = h.descends; floor = h.floor; early = h.early }
 slot-moved g (Commit u) s h f = record { descends = h.descends; floor = f.1; early = h.early }
 slot-moved g Forget s h f = record { descends = h.descends; floor = h.floor; early = tt }
 
 -- slots that are alike stay so by the same moves
-pub alike-moved_all : (g : RegionId) (ms : List Move) (s t : KeyState) → AreAlike g s t → AllFit g s ms → AllFit g t ms → AreAlike g (moved_all ms s) (moved_all ms t)
+pub alike-moved_all : (g : RegionId) (ms : List Move) (s t : KeyState) → AreAlike g s t → AllFit g s ms
+    → AllFit g t ms → AreAlike g (moved_all ms s) (moved_all ms t)
 alike-moved_all g [] s t e a b = e
-alike-moved_all g (m ∷ ms) s t e a b = alike-moved_all g ms (moved m s) (moved m t) (alike-moved g m s t e (may-follow g m s a.0) (may-follow g m t b.0)) a.1 b.1
+alike-moved_all g (m ∷ ms) s t e a b = alike-moved_all g ms (moved m s) (moved m t)
+    (alike-moved g m s t e (may-follow g m s a.0) (may-follow g m t b.0)) a.1 b.1
 
 -- commits of updates that stand, in order
-commits-fit : (g : RegionId) (acked : List ℕ) (us : List Update) (s : KeyState) → Climbs s.floor us → AllByRecursion (λ (u : Update). Stands s.base.floor.0 s.accepted u.version.0) us → AllFit g s (commits acked us)
+commits-fit : (g : RegionId) (acked : List ℕ) (us : List Update) (s : KeyState) → Climbs s.floor us
+    → AllByRecursion (λ (u : Update). Stands s.base.floor.0 s.accepted u.version.0) us → AllFit g s (commits acked us)
 commits-fit g acked [] s c h = tt
 commits-fit g acked (u ∷ us) s c h =
     by (list_any (λ v. eqb v u.version.0) acked) (commits-fit g acked us (moved (Commit u) s) c.1 h.1)
@@ -138,10 +149,12 @@ pub settled-fit : (g : RegionId) (s : KeyState) → IsSlotOf g s → AllFit g s 
 settled-fit g s h =
     commits-fit g s.acked (pending_of s) s (pending-climbs s.base.floor.0 s.floor s.accepted h.descends)
     (
-    all-weaker (λ (u : Update). Stands s.base.floor.0 s.accepted u.version.0 × (u.version.0 ≤ top_of s)) (λ (u : Update). Stands s.base.floor.0 s.accepted u.version.0)
+    all-weaker (λ (u : Update). Stands s.base.floor.0 s.accepted u.version.0 × (u.version.0 ≤ top_of s))
+    (λ (u : Update). Stands s.base.floor.0 s.accepted u.version.0)
     (λ u k. k.0)
     (pending_of s)
-    (all-pending (λ (u : Update). Stands s.base.floor.0 s.accepted u.version.0 × (u.version.0 ≤ top_of s)) s.floor s.accepted (all-stand s.base.floor.0 s.accepted h.descends))
+    (all-pending (λ (u : Update). Stands s.base.floor.0 s.accepted u.version.0 × (u.version.0 ≤ top_of s)) s.floor
+    s.accepted (all-stand s.base.floor.0 s.accepted h.descends))
     )
 
 -- and so do all moves of each step

@@ -11,13 +11,21 @@ use Rattle.hx_law_folds.proofs.Slots.{all-pending}
 use Rattle.hx_law_folds.proofs.States.{provided-nothing}
 
 -- a key that no slot has
-absent : (at_key : Bool) (key : List ℕ) (states : List KeyState) → AllByRecursion (λ (t : KeyState). same_text t.base.key key ≡ false) states → state_among at_key key states ≡ new_state at_key key
+absent : (at_key : Bool) (key : List ℕ) (states : List KeyState)
+    → AllByRecursion (λ (t : KeyState). same_text t.base.key key ≡ false) states
+    → state_among at_key key states ≡ new_state at_key key
 absent at_key key [] h = refl
 absent at_key key (s ∷ rest) h = cond-false (same_text s.base.key key) _ _ h.0 ∙ absent at_key key rest h.1
 
 -- the committed state of a new slot
 kept-new : (g : RegionId) (at_key : Bool) (key : List ℕ) → kept_of g (new_state at_key key) ≡ no_kept key
-kept-new g at_key key = λ j. record { key = key; floor = record { 0 = 0 }; object = None; marks = provided-nothing at_key j; touches = provided-nothing at_key j }
+kept-new g at_key key = λ j. record {
+  key = key;
+  floor = record { 0 = 0 };
+  object = None;
+  marks = provided-nothing at_key j;
+  touches = provided-nothing at_key j;
+}
 
 -- the committed state in a snapshot
 pub kept-sent : (g : RegionId) (at_key : Bool) (key : List ℕ) (states : List KeyState) → AllByRecursion (CanBeSent g at_key) states → KeysDiffer states
@@ -27,7 +35,8 @@ kept-sent g at_key key (s ∷ rest) h d =
     cond_both (ltb 0 s.floor) (s ∷ filter (λ (x : KeyState). ltb 0 x.floor) rest) (filter (λ (x : KeyState). ltb 0 x.floor) rest)
     (λ (l : List KeyState). kept_among key (map (kept_of g) l) ≡ kept_of g (state_among at_key key (s ∷ rest)))
     (
-    λ e. cond_both (same_text s.base.key key) s (state_among at_key key rest) (λ (x : KeyState). cond (same_text s.base.key key) (kept_of g s) (kept_among key (snapshot_of g rest)) ≡ kept_of g x)
+    λ e. cond_both (same_text s.base.key key) s (state_among at_key key rest)
+    (λ (x : KeyState). cond (same_text s.base.key key) (kept_of g s) (kept_among key (snapshot_of g rest)) ≡ kept_of g x)
     (λ t. cond-true (same_text s.base.key key) _ _ t)
     (λ t. cond-false (same_text s.base.key key) _ _ t ∙ kept-sent g at_key key rest h.1 d.1)
     )
@@ -65,14 +74,17 @@ abbrev of_key : List ℕ → Update → Bool
 of_key key u = same_text u.key key
 
 -- the updates of a slot are of its key
-of-slot : (g : RegionId) (at_key : Bool) (s : KeyState) → CanBeSent g at_key s → (key : List ℕ) (b : Bool) → same_text s.base.key key ≡ b → AllByRecursion (λ (u : Update). of_key key u ≡ b) (pending_of s)
+of-slot : (g : RegionId) (at_key : Bool) (s : KeyState) → CanBeSent g at_key s → (key : List ℕ) (b : Bool)
+    → same_text s.base.key key ≡ b → AllByRecursion (λ (u : Update). of_key key u ≡ b) (pending_of s)
 of-slot g at_key s h key b e =
     all-weaker (λ (u : Update). same_text u.key s.base.key ≡ true) (λ (u : Update). of_key key u ≡ b)
     (λ u k. ap (λ (x : List ℕ). same_text x key) (eq_of_same_text u.key s.base.key k) ∙ e)
     (pending_of s)
     (all-pending (λ (u : Update). same_text u.key s.base.key ≡ true) s.floor s.accepted h.keys)
 
-none-pending : (g : RegionId) (at_key : Bool) (key : List ℕ) (states : List KeyState) → AllByRecursion (CanBeSent g at_key) states → AllByRecursion (λ (t : KeyState). same_text t.base.key key ≡ false) states → filter (of_key key) (pending_of_all states) ≡ []
+none-pending : (g : RegionId) (at_key : Bool) (key : List ℕ) (states : List KeyState)
+    → AllByRecursion (CanBeSent g at_key) states → AllByRecursion
+    (λ (t : KeyState). same_text t.base.key key ≡ false) states → filter (of_key key) (pending_of_all states) ≡ []
 none-pending g at_key key [] h a = refl
 none-pending g at_key key (s ∷ rest) h a =
     filter-append (of_key key) (pending_of s) (pending_of_all rest)
@@ -83,20 +95,26 @@ pub pending-sent : (g : RegionId) (at_key : Bool) (key : List ℕ) (states : Lis
 pending-sent g at_key key [] h d = refl
 pending-sent g at_key key (s ∷ rest) h d =
     filter-append (of_key key) (pending_of s) (pending_of_all rest)
-    ∙ cond_both (same_text s.base.key key) s (state_among at_key key rest) (λ (x : KeyState). filter (of_key key) (pending_of s) ++ filter (of_key key) (pending_of_all rest) ≡ pending_of x)
+    ∙ cond_both (same_text s.base.key key) s (state_among at_key key rest)
+    (λ (x : KeyState). filter (of_key key) (pending_of s) ++ filter (of_key key) (pending_of_all rest) ≡ pending_of x)
     (
     λ t. let q = eq_of_same_text s.base.key key t in
-    (λ j. filter-all (of_key key) (pending_of s) (of-slot g at_key s h.0 key true t) j ++ none-pending g at_key key rest h.1 (subst (λ (k : List ℕ). AllByRecursion (λ (x : KeyState). same_text x.base.key k ≡ false) rest) q d.0) j)
+    (λ j. filter-all (of_key key) (pending_of s) (of-slot g at_key s h.0 key true t) j
+    ++ none-pending g at_key key rest h.1 (subst (λ (k : List ℕ). AllByRecursion
+    (λ (x : KeyState). same_text x.base.key k ≡ false) rest) q d.0) j)
     ∙ append-nil (pending_of s)
     )
     (λ t. λ j. filter-none (of_key key) (pending_of s) (of-slot g at_key s h.0 key false t) j ++ pending-sent g at_key key rest h.1 d.1 j)
 
-pub among-marks : (g : RegionId) (at_key : Bool) (key : List ℕ) (states : List KeyState) → AllByRecursion (CanBeSent g at_key) states → (state_among at_key key states).marks ≡ at_key
+pub among-marks : (g : RegionId) (at_key : Bool) (key : List ℕ) (states : List KeyState)
+    → AllByRecursion (CanBeSent g at_key) states → (state_among at_key key states).marks ≡ at_key
 among-marks g at_key key [] h = refl
-among-marks g at_key key (s ∷ rest) h = cond_both (same_text s.base.key key) s (state_among at_key key rest) (λ (x : KeyState). x.marks ≡ at_key) (λ t. h.0.marks) (λ t. among-marks g at_key key rest h.1)
+among-marks g at_key key (s ∷ rest) h = cond_both (same_text s.base.key key) s (state_among at_key key rest)
+    (λ (x : KeyState). x.marks ≡ at_key) (λ t. h.0.marks) (λ t. among-marks g at_key key rest h.1)
 
 -- what a snapshot with its pending updates stands for
-pub sent : (space : Space) (g : RegionId) (key : List ℕ) (states : List KeyState) → AllByRecursion (CanBeSent g (is_key_region space g)) states → KeysDiffer states
+pub sent : (space : Space) (g : RegionId) (key : List ℕ) (states : List KeyState)
+    → AllByRecursion (CanBeSent g (is_key_region space g)) states → KeysDiffer states
     → snap_state space g key (snapshot_of g states) (pending_of_all states) ≡ moved Forget (folded g (state_among (is_key_region space g) key states))
 sent space g key states h d =
     let at_key = is_key_region space g in
@@ -104,4 +122,11 @@ sent space g key states h d =
     let marks = among-marks g at_key key states h in
     let from : state_from at_key (kept_among key (snapshot_of g states)) ≡ over g s = λ j. state_from (sym marks j) (kept-sent g at_key key states h d j) in
     (λ j. record (from j) { accepted = reverse (pending-sent g at_key key states h d j) })
-    ∙ (λ j. record { marks = s.marks; base = base-over g s j; accepted = pending-reversed s.floor s.accepted j; floor = (base-over g s j).floor.0; acked = []; early = [] })
+    ∙ (λ j. record {
+      marks = s.marks;
+      base = base-over g s j;
+      accepted = pending-reversed s.floor s.accepted j;
+      floor = (base-over g s j).floor.0;
+      acked = [];
+      early = [];
+    })

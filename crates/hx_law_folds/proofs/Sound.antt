@@ -11,7 +11,8 @@ use Rattle.hx_law_folds.specs.Folding.{HasFloors}
 pub sound-fits : (b : Bounds) (m : Message) → IsSoundMessage b m → MessageFits m
 sound-fits b (a_message.Update epoch g u) h = h.2.of_space.after
 sound-fits b (a_message.Snap epoch g snapshot pending) h =
-    recursion_from_All IsAfter pending (All-weaker (λ (u : Update). IsSoundUpdate b u × IsTrue (has_place_in g u.places)) IsAfter (λ u k. k.0.of_space.after) pending h.4)
+    recursion_from_All IsAfter pending (All-weaker
+    (λ (u : Update). IsSoundUpdate b u × IsTrue (has_place_in g u.places)) IsAfter (λ u k. k.0.of_space.after) pending h.4)
 sound-fits b other h = tt
 
 -- keys that pass the test ascend
@@ -28,6 +29,11 @@ keys-pass (k ∷ ks) e =
 -- a sound message whose snapshot has no floor 0 keeps slots joinable
 pub sound-joins : (b : Bounds) (m : Message) → IsSoundMessage b m → HasFloors m → MessageJoins m
 sound-joins b (a_message.Update epoch g u) h f = h.2.of_space.after
-sound-joins b (a_message.Snap epoch g snapshot pending) h f =
-    (f, keys-pass snapshot h.3, recursion_from_All IsAfter pending (All-weaker (λ (u : Update). IsSoundUpdate b u × IsTrue (has_place_in g u.places)) IsAfter (λ u k. k.0.of_space.after) pending h.4))
+sound-joins b (a_message.Snap epoch g snapshot pending) h f = (
+  f,
+  keys-pass snapshot h.3,
+  recursion_from_All IsAfter pending
+      (All-weaker (λ (u : Update). IsSoundUpdate b u × IsTrue (has_place_in g u.places)) IsAfter
+      (λ u k. k.0.of_space.after) pending h.4),
+)
 sound-joins b other h f = tt

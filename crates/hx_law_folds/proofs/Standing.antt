@@ -26,15 +26,20 @@ module _ (g : RegionId) (v s : KeyState) (h : StandsFor g v s) where
   }
 
   pub stands-settled : StandsFor g (folded g (moved_all (settled v) v)) (moved_all (settled s) s)
-  stands-settled = stands-moved (settled v) (settled s) (settled-same g v s (alike-show g v s lean-slot h.slot lean-alike)) (settled-fit g v lean-slot) (settled-fit g s h.slot)
+  stands-settled = stands-moved (settled v) (settled s)
+      (settled-same g v s (alike-show g v s lean-slot h.slot lean-alike)) (settled-fit g v lean-slot) (settled-fit g s h.slot)
 
   pub stands-acknowledged : (n : ℕ) → StandsFor g (folded g (moved_all (acknowledged v n) v)) (moved_all (acknowledged s n) s)
-  stands-acknowledged n = stands-moved (acknowledged v n) (acknowledged s n) (acknowledged-same g v s lean-slot h.slot lean-alike n) (acknowledged-good (fit-walk g) v n lean-slot) (acknowledged-good (fit-walk g) s n h.slot)
+  stands-acknowledged n = stands-moved (acknowledged v n) (acknowledged s n)
+      (acknowledged-same g v s lean-slot h.slot lean-alike n) (acknowledged-good (fit-walk g) v n lean-slot)
+      (acknowledged-good (fit-walk g) s n h.slot)
 
   pub stands-offered : (u : Update) → IsLater g u → StandsFor g (moved_all (offered g v u) v) (moved_all (offered g s u) s)
   stands-offered u l =
       subst (λ (x : KeyState). StandsFor g x (moved_all (offered g s u) s)) (bare-offered g v u lean-slot lean-bare l)
-      (stands-moved (offered g v u) (offered g s u) (offered-same g v s (alike-show g v s lean-slot h.slot lean-alike) u) (offered-good (fit-walk g) v u lean-slot l) (offered-good (fit-walk g) s u h.slot l))
+      (stands-moved (offered g v u) (offered g s u)
+      (offered-same g v s (alike-show g v s lean-slot h.slot lean-alike) u)
+      (offered-good (fit-walk g) v u lean-slot l) (offered-good (fit-walk g) s u h.slot l))
 
   -- moves that commit nothing need no folding
   pub stands-marked : (n : ℕ) → StandsFor g (moved (Acknowledge n) v) (moved (Acknowledge n) s)

@@ -28,15 +28,19 @@ folded-new g at_key key =
     }
 
 -- the slot of a key
-pub folded-among : (g : RegionId) (at_key : Bool) (key : List ℕ) (states : List KeyState) → state_among at_key key (map (folded g) states) ≡ folded g (state_among at_key key states)
+pub folded-among : (g : RegionId) (at_key : Bool) (key : List ℕ) (states : List KeyState)
+    → state_among at_key key (map (folded g) states) ≡ folded g (state_among at_key key states)
 folded-among g at_key key [] = sym (folded-new g at_key key)
 folded-among g at_key key (s ∷ rest) =
-    cond_both (same_text s.base.key key) s (state_among at_key key rest) (λ (x : KeyState). cond (same_text s.base.key key) (folded g s) (state_among at_key key (map (folded g) rest)) ≡ folded g x)
+    cond_both (same_text s.base.key key) s (state_among at_key key rest)
+    (λ (x : KeyState). cond (same_text s.base.key key) (folded g s) (state_among at_key key (map (folded g) rest))
+    ≡ folded g x)
     (λ e. cond-true (same_text s.base.key key) _ _ e)
     (λ e. cond-false (same_text s.base.key key) _ _ e ∙ folded-among g at_key key rest)
 
 -- a slot that is put among the others
-pub folded-with : (g : RegionId) (s : KeyState) (states : List KeyState) → map (folded g) (with_state s states) ≡ with_state (folded g s) (map (folded g) states)
+pub folded-with : (g : RegionId) (s : KeyState) (states : List KeyState)
+    → map (folded g) (with_state s states) ≡ with_state (folded g s) (map (folded g) states)
 folded-with g s [] = refl
 folded-with g s (x ∷ rest) =
     cond_both (same_text x.base.key s.base.key) (s ∷ rest) (cond (text_below s.base.key x.base.key) (s ∷ x ∷ rest) (x ∷ with_state s rest))
@@ -57,7 +61,8 @@ folded-states-twice g [] = refl
 folded-states-twice g (s ∷ rest) = λ j. folded-twice g s j ∷ folded-states-twice g rest j
 
 -- a slot put among slots without their past
-pub folded-put : (g : RegionId) (x y : KeyState) (states : List KeyState) → folded g x ≡ folded g y → map (folded g) (with_state x (map (folded g) states)) ≡ map (folded g) (with_state y states)
+pub folded-put : (g : RegionId) (x y : KeyState) (states : List KeyState) → folded g x ≡ folded g y
+    → map (folded g) (with_state x (map (folded g) states)) ≡ map (folded g) (with_state y states)
 folded-put g x y states e =
     folded-with g x (map (folded g) states)
     ∙ (λ j. with_state (e j) (folded-states-twice g states j))
@@ -83,20 +88,25 @@ pub pending_all-folded : (g : RegionId) (states : List KeyState) → pending_of_
 pending_all-folded g [] = refl
 pending_all-folded g (s ∷ rest) = λ j. pending-folded g s j ++ pending_all-folded g rest j
 
-pub pending-posts-folded : (context : SlotContext) (states : List KeyState) → pending_posts context (map (folded context.region) states) ≡ pending_posts context states
+pub pending-posts-folded : (context : SlotContext) (states : List KeyState)
+    → pending_posts context (map (folded context.region) states) ≡ pending_posts context states
 pending-posts-folded context [] = refl
 pending-posts-folded context (s ∷ rest) = λ j. flat_map (passed_on context) (pending-folded context.region s j) ++ pending-posts-folded context rest j
 
 -- a configuration is adopted
-pub resumed-all-folded : (at_key : Bool) (context : SlotContext) (states : List KeyState) → AllByRecursion (IsSlotIn at_key context.region) states → flat_map (resumed_posts context) (map (folded context.region) states) ≡ flat_map (resumed_posts context) states
+pub resumed-all-folded : (at_key : Bool) (context : SlotContext) (states : List KeyState)
+    → AllByRecursion (IsSlotIn at_key context.region) states
+    → flat_map (resumed_posts context) (map (folded context.region) states) ≡ flat_map (resumed_posts context) states
 resumed-all-folded at_key context [] h = refl
 resumed-all-folded at_key context (s ∷ rest) h =
     let a = resumed-posts-fold context s h.0.slot in
     let b = resumed-all-folded at_key context rest h.1 in
     λ j. a j ++ b j
 
-pub adopted-all-folded : (at_key : Bool) (context : SlotContext) (active : Bool) (states : List KeyState) → AllByRecursion (IsSlotIn at_key context.region) states
-    → map (folded context.region) (map (adopted_state context active) (map (folded context.region) states)) ≡ map (folded context.region) (map (adopted_state context active) states)
+pub adopted-all-folded : (at_key : Bool) (context : SlotContext) (active : Bool) (states : List KeyState)
+    → AllByRecursion (IsSlotIn at_key context.region) states
+    → map (folded context.region) (map (adopted_state context active) (map (folded context.region) states))
+    ≡ map (folded context.region) (map (adopted_state context active) states)
 adopted-all-folded at_key context active [] h = refl
 adopted-all-folded at_key context active (s ∷ rest) h =
     let a = adopted-folds context s h.0.slot active in
@@ -119,17 +129,20 @@ among-of P b key [] n h = n
 among-of P b key (s ∷ rest) n h = cond_both (same_text s.base.key key) s (state_among b key rest) P (λ e. h.0) (λ e. among-of P b key rest n h.1)
 
 -- the slot of a key is one, of that key
-pub among-slot : (g : RegionId) (at_key : Bool) (key : List ℕ) (states : List KeyState) → AllByRecursion (IsSlotIn at_key g) states → IsSlotIn at_key g (state_among at_key key states)
+pub among-slot : (g : RegionId) (at_key : Bool) (key : List ℕ) (states : List KeyState)
+    → AllByRecursion (IsSlotIn at_key g) states → IsSlotIn at_key g (state_among at_key key states)
 among-slot g at_key key states h = among-of (IsSlotIn at_key g) at_key key states (record { slot = slot-new g at_key key; marks = refl }) h
 
 pub among-key : (at_key : Bool) (key : List ℕ) (states : List KeyState) → (state_among at_key key states).base.key ≡ key
 among-key at_key key [] = refl
 among-key at_key key (s ∷ rest) =
-    cond_both (same_text s.base.key key) s (state_among at_key key rest) (λ (x : KeyState). x.base.key ≡ key) (eq_of_same_text s.base.key key) (λ e. among-key at_key key rest)
+    cond_both (same_text s.base.key key) s (state_among at_key key rest) (λ (x : KeyState). x.base.key ≡ key)
+    (eq_of_same_text s.base.key key) (λ e. among-key at_key key rest)
 
 pub with-slots : (P : KeyState → Type 0) (s : KeyState) (states : List KeyState) → P s → AllByRecursion P states → AllByRecursion P (with_state s states)
 with-slots P s [] p h = (p, tt)
 with-slots P s (x ∷ rest) p h =
     cond_both (same_text x.base.key s.base.key) (s ∷ rest) (cond (text_below s.base.key x.base.key) (s ∷ x ∷ rest) (x ∷ with_state s rest)) (AllByRecursion P)
     (λ e. (p, h.1))
-    (λ e. cond_both (text_below s.base.key x.base.key) (s ∷ x ∷ rest) (x ∷ with_state s rest) (AllByRecursion P) (λ b. (p, h)) (λ b. (h.0, with-slots P s rest p h.1)))
+    (λ e. cond_both (text_below s.base.key x.base.key) (s ∷ x ∷ rest) (x ∷ with_state s rest) (AllByRecursion P)
+    (λ b. (p, h)) (λ b. (h.0, with-slots P s rest p h.1)))

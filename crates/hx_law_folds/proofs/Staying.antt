@@ -19,7 +19,8 @@ in-moved g b s h ms f = record { slot = keeps-all (fit-walk g) ms s h.slot f; ma
 in-adopted : (context : SlotContext) (b active : Bool) (s : KeyState) → IsSlotIn b context.region s → IsSlotIn b context.region (adopted_state context active s)
 in-adopted context b active s h = record {
   slot = adopted-slot context s h.slot active;
-  marks = cond_both active (moved_all (resumed context s) s) (moved Forget s) (λ (x : KeyState). x.marks ≡ b) (λ e. marks-moved_all (resumed context s) s ∙ h.marks) (λ e. h.marks);
+  marks = cond_both active (moved_all (resumed context s) s) (moved Forget s) (λ (x : KeyState). x.marks ≡ b)
+      (λ e. marks-moved_all (resumed context s) s ∙ h.marks) (λ e. h.marks);
 }
 
 -- a slot of a snapshot
@@ -43,11 +44,13 @@ module _ (space : Space) where
     more = λ g t states i k. with-slots (InRegion g) t states i k;
     sent = λ g snapshot k. all-made (InRegion g) (state_from (is_key_region space g)) (from-slot g (is_key_region space g)) snapshot;
     calls = λ context s i q caller op. in-moved context.region _ s i (call_step context s caller op).moves (call-fit context s i.slot q caller op);
-    updates = λ context s i u after k. in-moved context.region _ s i (update_step context s u).moves (update-fit context s i.slot u (later-of context.region u after));
+    updates = λ context s i u after k. in-moved context.region _ s i (update_step context s u).moves
+        (update-fit context s i.slot u (later-of context.region u after));
     acks = λ context s i v. in-moved context.region _ s i (ack_step context s v).moves (ack-fit context s i.slot v);
     joins = λ context s i us after k. in-moved context.region _ s i (accepting context s (offered_all context.region s us))
         (joined-good context (fit-walk context.region) s i.slot us (all-weaker IsAfter (IsLater context.region) (later-of context.region) us after));
-    adopts = λ context active states k. all-map (InRegion context.region) (InRegion context.region) (adopted_state context active) (in-adopted context _ active) states k;
+    adopts = λ context active states k. all-map (InRegion context.region) (InRegion context.region)
+        (adopted_state context active) (in-adopted context _ active) states k;
   }
 
   -- what a message brings

@@ -16,10 +16,12 @@ use Rattle.hx_law_folds.proofs.Slots.{AllFit, alike-moved_all, fit-walk, slot-fo
 -- doubts read what is pending alone
 abbrev doubts_by : SlotContext → List Update → Option StuckAt → List Post
 doubts_by context pending None = []
-doubts_by context pending (Some x) = map (λ (u : Update). doubt_in context u.caller u.version x.region) (filter (λ (u : Update). leb x.version.0 u.version.0) pending)
+doubts_by context pending (Some x) = map (λ (u : Update). doubt_in context u.caller u.version x.region)
+    (filter (λ (u : Update). leb x.version.0 u.version.0) pending)
 
 abbrev leader_doubts_by : SlotContext → List Update → List Post
-leader_doubts_by context pending = provided (leads context.space context.config context.server context.region) (doubts_by context pending (stuck_among context.config pending))
+leader_doubts_by context pending = provided (leads context.space context.config context.server context.region)
+    (doubts_by context pending (stuck_among context.config pending))
 
 doubts-by : (context : SlotContext) (x : KeyState) → leader_doubts context x ≡ leader_doubts_by context (pending_of x)
 doubts-by context x =
@@ -36,7 +38,8 @@ module _ (context : SlotContext) (s t : KeyState) (h : IsSlotOf context.region s
 
   -- an update
   abbrev update_by : ℕ → ℕ → Update → List Move → SlotStep
-  update_by top floor u moves = cond (leb u.version.0 top) (by_posts (provided (leb u.version.0 floor) (ack_to context u (prev_at context u)))) (by_moves context moves)
+  update_by top floor u moves = cond (leb u.version.0 top)
+      (by_posts (provided (leb u.version.0 floor) (ack_to context u (prev_at context u)))) (by_moves context moves)
 
   pub update-same : (u : Update) → IsLater context.region u → update_step context s u ≡ update_step context t u
   update-same u l = let a = shown in let moves = accepted-same context.region context s t h k e u l in λ j. update_by (a.top j) (a.floor j) u (moves j)
@@ -53,30 +56,42 @@ module _ (context : SlotContext) (s t : KeyState) (h : IsSlotOf context.region s
   pub decided-same : (caller : Caller) (d : Decision) → IfAssigned (IsLater context.region) d → decided context s caller d ≡ decided context t caller d
   decided-same caller a_decision.Old l = refl
   decided-same caller (a_decision.Again v answer) l = refl
-  decided-same caller (a_decision.Wait v) l = ap (λ (x : Option StuckAt). by_posts (waiting_doubt context caller v x)) (stuck-same context.region s t shown context.config)
+  decided-same caller (a_decision.Wait v) l = ap (λ (x : Option StuckAt). by_posts (waiting_doubt context caller v x))
+      (stuck-same context.region s t shown context.config)
   decided-same caller (a_decision.Stuck g) l = refl
-  decided-same caller (a_decision.Assign u) l = ap (λ (moves : List Move). record (by_moves context moves) { notes = a_note.Assigned u ∷ [] }) (accepted-same context.region context s t h k e u l)
+  decided-same caller (a_decision.Assign u) l = ap
+      (λ (moves : List Move). record (by_moves context moves) { notes = a_note.Assigned u ∷ [] })
+      (accepted-same context.region context s t h k e u l)
 
-  pub write-same : s.marks ≡ true → context.region ≡ key_region context.space s.base.key → (caller : Caller) (op : Op) → write_step context s caller op ≡ write_step context t caller op
+  pub write-same : s.marks ≡ true → context.region ≡ key_region context.space s.base.key → (caller : Caller) (op : Op)
+      → write_step context s caller op ≡ write_step context t caller op
   write-same m q caller op =
-      decided-same caller (decide context.space context.config context.region s caller op) (decide-later context.space context.config context.region s q caller op)
+      decided-same caller (decide context.space context.config context.region s caller op)
+      (decide-later context.space context.config context.region s q caller op)
       ∙ ap (decided context t caller) (decide-same context.space context.config context.region s t m shown caller op)
 
-  pub call-same : s.marks ≡ true → context.region ≡ key_region context.space s.base.key → (caller : Caller) (op : Op) → call_step context s caller op ≡ call_step context t caller op
+  pub call-same : s.marks ≡ true → context.region ≡ key_region context.space s.base.key → (caller : Caller) (op : Op)
+      → call_step context s caller op ≡ call_step context t caller op
   call-same m q caller op = λ j. cond (is_write op) (write-same m q caller op j) (get-same caller j)
 
   resumed-alike : AreAlike context.region (moved_all (resumed context s) s) (moved_all (resumed context t) t)
   resumed-alike =
       let same = resumed-same context.region context s t h k e in
-      alike-moved_all context.region (resumed context s) s t e (resumed-good (fit-walk context.region) context s h) (subst (AllFit context.region t) (sym same) (resumed-good (fit-walk context.region) context t k))
+      alike-moved_all context.region (resumed context s) s t e (resumed-good (fit-walk context.region) context s h)
+      (subst (AllFit context.region t) (sym same) (resumed-good (fit-walk context.region) context t k))
       ∙ ap (λ (ms : List Move). folded context.region (moved_all ms t)) same
 
   pub resumed-posts-same : resumed_posts context s ≡ resumed_posts context t
   resumed-posts-same =
       let a = shown in
       let moves = resumed-same context.region context s t h k e in
-      let after = alike-show context.region (moved_all (resumed context s) s) (moved_all (resumed context t) t) (keeps-all (fit-walk context.region) (resumed context s) s h (resumed-good (fit-walk context.region) context s h)) (keeps-all (fit-walk context.region) (resumed context t) t k (resumed-good (fit-walk context.region) context t k)) resumed-alike in
-      let doubts = doubts-by context (moved_all (resumed context s) s) ∙ ap (leader_doubts_by context) after.pending ∙ sym (doubts-by context (moved_all (resumed context t) t)) in
+      let after = alike-show context.region (moved_all (resumed context s) s) (moved_all (resumed context t) t)
+      (keeps-all (fit-walk context.region) (resumed context s) s h
+      (resumed-good (fit-walk context.region) context s h))
+      (keeps-all (fit-walk context.region) (resumed context t) t k
+      (resumed-good (fit-walk context.region) context t k)) resumed-alike in
+      let doubts = doubts-by context (moved_all (resumed context s) s) ∙ ap (leader_doubts_by context) after.pending
+      ∙ sym (doubts-by context (moved_all (resumed context t) t)) in
       λ j. flat_map (passed_on context) (a.pending j) ++ flat_map (move_posts context) (moves j) ++ doubts j
 
   -- a slot when a configuration is adopted
@@ -87,7 +102,8 @@ module _ (context : SlotContext) (s t : KeyState) (h : IsSlotOf context.region s
       (λ b. alike-moved_all context.region (Forget ∷ []) s t e (tt, tt) (tt, tt) ∙ ap (folded context.region) (sym (cond-false active _ _ b)))
 
   -- a step that is the same, with moves that are allowed, leaves slots that are alike
-  pub step-alike : (x y : SlotStep) → x ≡ y → AllFit context.region s x.moves → AllFit context.region t y.moves → AreAlike context.region (moved_all x.moves s) (moved_all y.moves t)
+  pub step-alike : (x y : SlotStep) → x ≡ y → AllFit context.region s x.moves → AllFit context.region t y.moves
+      → AreAlike context.region (moved_all x.moves s) (moved_all y.moves t)
   step-alike x y q a b =
       alike-moved_all context.region x.moves s t e a (subst (λ (z : SlotStep). AllFit context.region t z.moves) (sym q) b)
       ∙ ap (λ (z : SlotStep). folded context.region (moved_all z.moves t)) q
@@ -100,15 +116,19 @@ module _ (context : SlotContext) (s : KeyState) (h : IsSlotOf context.region s) 
   pub ack-fit : (v : ℕ) → AllFit context.region s (ack_step context s v).moves
   ack-fit v = ack-good context (fit-walk context.region) s h v
 
-  pub call-fit : context.region ≡ key_region context.space s.base.key → (caller : Caller) (op : Op) → AllFit context.region s (call_step context s caller op).moves
+  pub call-fit : context.region ≡ key_region context.space s.base.key → (caller : Caller) (op : Op)
+      → AllFit context.region s (call_step context s caller op).moves
   call-fit q caller op = call-good context (fit-walk context.region) s h caller op (decide-later context.space context.config context.region s q caller op)
 
   -- the folded slot makes the same step
-  step-folds : (step : KeyState → SlotStep) → step (folded context.region s) ≡ step s → AllFit context.region (folded context.region s) (step (folded context.region s)).moves → AllFit context.region s (step s).moves
+  step-folds : (step : KeyState → SlotStep) → step (folded context.region s) ≡ step s
+      → AllFit context.region (folded context.region s) (step (folded context.region s)).moves
+      → AllFit context.region s (step s).moves
       → StepFolds context.region step s
   step-folds step q a b = record {
     same = q;
-    after = step-alike context (folded context.region s) s (slot-folded context.region s h) h (alike-folded context.region s) (step (folded context.region s)) (step s) q a b;
+    after = step-alike context (folded context.region s) s (slot-folded context.region s h) h
+        (alike-folded context.region s) (step (folded context.region s)) (step s) q a b;
     slot = keeps-all (fit-walk context.region) (step s).moves s h b;
   }
 
@@ -117,23 +137,31 @@ module _ (context : SlotContext) (s : KeyState) (h : IsSlotOf context.region s) 
   pub update-folds : (u : Update) → IsLater context.region u → StepFolds context.region (λ x. update_step context x u) s
   update-folds u l =
       let k = slot-folded context.region s h in
-      step-folds context s h (λ x. update_step context x u) (update-same context (folded context.region s) s k h (alike-folded context.region s) u l) (update-fit context (folded context.region s) k u l) (update-fit context s h u l)
+      step-folds context s h (λ x. update_step context x u)
+      (update-same context (folded context.region s) s k h (alike-folded context.region s) u l)
+      (update-fit context (folded context.region s) k u l) (update-fit context s h u l)
 
   pub ack-folds : (v : ℕ) → StepFolds context.region (λ x. ack_step context x v) s
   ack-folds v =
       let k = slot-folded context.region s h in
-      step-folds context s h (λ x. ack_step context x v) (acked-same context (folded context.region s) s k h (alike-folded context.region s) v) (ack-fit context (folded context.region s) k v) (ack-fit context s h v)
+      step-folds context s h (λ x. ack_step context x v)
+      (acked-same context (folded context.region s) s k h (alike-folded context.region s) v)
+      (ack-fit context (folded context.region s) k v) (ack-fit context s h v)
 
-  pub call-folds : s.marks ≡ true → context.region ≡ key_region context.space s.base.key → (caller : Caller) (op : Op) → StepFolds context.region (λ x. call_step context x caller op) s
+  pub call-folds : s.marks ≡ true → context.region ≡ key_region context.space s.base.key → (caller : Caller) (op : Op)
+      → StepFolds context.region (λ x. call_step context x caller op) s
   call-folds m q caller op =
       let k = slot-folded context.region s h in
-      step-folds context s h (λ x. call_step context x caller op) (call-same context (folded context.region s) s k h (alike-folded context.region s) m q caller op) (call-fit context (folded context.region s) k q caller op) (call-fit context s h q caller op)
+      step-folds context s h (λ x. call_step context x caller op)
+      (call-same context (folded context.region s) s k h (alike-folded context.region s) m q caller op)
+      (call-fit context (folded context.region s) k q caller op) (call-fit context s h q caller op)
 
   -- a configuration is adopted
   pub resumed-posts-fold : resumed_posts context (folded context.region s) ≡ resumed_posts context s
   resumed-posts-fold = resumed-posts-same context (folded context.region s) s (slot-folded context.region s h) h (alike-folded context.region s)
 
-  pub adopted-folds : (active : Bool) → folded context.region (adopted_state context active (folded context.region s)) ≡ folded context.region (adopted_state context active s)
+  pub adopted-folds : (active : Bool) → folded context.region (adopted_state context active (folded context.region s))
+      ≡ folded context.region (adopted_state context active s)
   adopted-folds active = adopted-alike context (folded context.region s) s (slot-folded context.region s h) h (alike-folded context.region s) active
 
   pub adopted-slot : (active : Bool) → IsSlotOf context.region (adopted_state context active s)

@@ -10,9 +10,17 @@ use Rattle.hx_model.specs.Holders.{IsPrefix, only_in, snap_state}
 use Rattle.hx_model.specs.Leading.{decide, stuck_of}
 use Rattle.hx_model.specs.Regions.{key_region}
 use Rattle.hx_model.specs.Runs.{server_of}
-use Rattle.hx_model.specs.ServerSteps.{Replica, ServerState, SlotContext, accepting, ack_step, adopted_state, call_step, installed_slots, move_posts, offered_all, passed_on, resumed, resumed_posts, server_at_start, server_step, state_from, update_step}
-use Rattle.hx_model.specs.Slots.{Acknowledge, Forget, KeyState, Move, ack_answer, acknowledged, is_pending, kept_of, kept_row, latest_of, marks_after, moved, moved_all, object_in, object_of, offer_answer, offered, pending_of, pending_of_all, settled, snapshot_of, state_among, top_above, top_of, touches_after, touches_of}
-use Rattle.hx_law_folds.specs.Folding.{CanBeSent, CanJoin, HasFloors, MessageJoins, InTurn, Descends, InputFits, InputJoins, InputsFit, IsJoinableReplica, IsJoinableServer, KeptsAscend, IsBare, IsLater, IsServerOf, IsSlotOf, KeysDiffer, MayFollow, MessageFits, ShowSame, StandsFor, StepFolds, folded, folded_server, folded_step, kept_over, lean_of}
+use Rattle.hx_model.specs.ServerSteps.{Replica, ServerState, SlotContext, accepting, ack_step, adopted_state}
+use Rattle.hx_model.specs.ServerSteps.{call_step, installed_slots, move_posts, offered_all, passed_on, resumed}
+use Rattle.hx_model.specs.ServerSteps.{resumed_posts, server_at_start, server_step, state_from, update_step}
+use Rattle.hx_model.specs.Slots.{Acknowledge, Forget, KeyState, Move, ack_answer, acknowledged, is_pending, kept_of}
+use Rattle.hx_model.specs.Slots.{kept_row, latest_of, marks_after, moved, moved_all, object_in, object_of}
+use Rattle.hx_model.specs.Slots.{offer_answer, offered, pending_of, pending_of_all, settled, snapshot_of, state_among}
+use Rattle.hx_model.specs.Slots.{top_above, top_of, touches_after, touches_of}
+use Rattle.hx_law_folds.specs.Folding.{CanBeSent, CanJoin, HasFloors, MessageJoins, InTurn, Descends, InputFits}
+use Rattle.hx_law_folds.specs.Folding.{InputJoins, InputsFit, IsJoinableReplica, IsJoinableServer, KeptsAscend, IsBare}
+use Rattle.hx_law_folds.specs.Folding.{IsLater, IsServerOf, IsSlotOf, KeysDiffer, MayFollow, MessageFits, ShowSame}
+use Rattle.hx_law_folds.specs.Folding.{StandsFor, StepFolds, folded, folded_server, folded_step, kept_over, lean_of}
 
 -- what a slot shows is what it shows without its past
 abbrev pub FoldsShowSame : Type 0
@@ -27,7 +35,8 @@ pub record AnswerSame (g : RegionId) (s t : KeyState) : Type 0 where
   pub acknowledged : (v : ℕ) → acknowledged s v ≡ acknowledged t v
   pub ack : (v : ℕ) → ack_answer s v ≡ ack_answer t v
   pub stuck : (config : Config) → stuck_of config s ≡ stuck_of config t
-  pub decides : t.marks ≡ true → (space : Space) (config : Config) (caller : Caller) (op : Op) → decide space config g s caller op ≡ decide space config g t caller op
+  pub decides : t.marks ≡ true → (space : Space) (config : Config) (caller : Caller) (op : Op)
+      → decide space config g s caller op ≡ decide space config g t caller op
 
 abbrev pub FoldsAnswerSame : Type 0
 FoldsAnswerSame = (g : RegionId) (s : KeyState) → IsSlotOf g s → AnswerSame g (folded g s) s
@@ -44,7 +53,8 @@ FoldedIsSlot = (g : RegionId) (s : KeyState) → IsSlotOf g s → IsSlotOf g (fo
 
 -- the steps of a slot
 abbrev pub UpdatesFold : Type 0
-UpdatesFold = (context : SlotContext) (s : KeyState) → IsSlotOf context.region s → (u : Update) → IsLater context.region u → StepFolds context.region (λ x. update_step context x u) s
+UpdatesFold = (context : SlotContext) (s : KeyState) → IsSlotOf context.region s → (u : Update)
+    → IsLater context.region u → StepFolds context.region (λ x. update_step context x u) s
 
 abbrev pub AcksFold : Type 0
 AcksFold = (context : SlotContext) (s : KeyState) → IsSlotOf context.region s → (v : ℕ) → StepFolds context.region (λ x. ack_step context x v) s
@@ -59,22 +69,26 @@ abbrev pub AdoptingFolds : Type 0
 AdoptingFolds =
     (context : SlotContext) (s : KeyState) → IsSlotOf context.region s
     → (resumed_posts context (folded context.region s) ≡ resumed_posts context s)
-    × ((active : Bool) → folded context.region (adopted_state context active (folded context.region s)) ≡ folded context.region (adopted_state context active s))
+    × ((active : Bool) → folded context.region (adopted_state context active (folded context.region s))
+    ≡ folded context.region (adopted_state context active s))
 
 -- the step of a server: the same posts and notes, and the same state without its past
 abbrev pub ServersFold : Type 0
-ServersFold = (space : Space) (s : ServerState) → IsServerOf space s → (input : Input) → InputFits input → folded_step (server_step space (folded_server s) input) ≡ folded_step (server_step space s input)
+ServersFold = (space : Space) (s : ServerState) → IsServerOf space s → (input : Input) → InputFits input
+    → folded_step (server_step space (folded_server s) input) ≡ folded_step (server_step space s input)
 
 abbrev pub ServersStay : Type 0
 ServersStay = (space : Space) (s : ServerState) → IsServerOf space s → (input : Input) → InputFits input → IsServerOf space (server_step space s input).state
 
 -- the servers of a trace
 abbrev pub TracesFold : Type 0
-TracesFold = (script : Script) (s : ServerId) (trace : List Entry) → InputsFit trace → IsServerOf script.space (server_of script s trace) × (lean_of script s trace ≡ folded_server (server_of script s trace))
+TracesFold = (script : Script) (s : ServerId) (trace : List Entry) → InputsFit trace
+    → IsServerOf script.space (server_of script s trace) × (lean_of script s trace ≡ folded_server (server_of script s trace))
 
 -- a slot without a past: what an offer leaves has none, and a commit takes the lowest pending updates over the base
 abbrev pub OffersStayBare : Type 0
-OffersStayBare = (g : RegionId) (s : KeyState) (u : Update) → IsSlotOf g s → IsBare g s → IsLater g u → folded g (moved_all (offered g s u) s) ≡ moved_all (offered g s u) s
+OffersStayBare = (g : RegionId) (s : KeyState) (u : Update) → IsSlotOf g s → IsBare g s → IsLater g u
+    → folded g (moved_all (offered g s u) s) ≡ moved_all (offered g s u) s
 
 abbrev pub CommitsFold : Type 0
 CommitsFold =
@@ -83,7 +97,8 @@ CommitsFold =
     ≡ record s { base = kept_over g s.marks s.base older; accepted = newer; floor = top_above s.base.floor.0 older; acked = acked }
 
 abbrev pub FoldsJoin : Type 0
-FoldsJoin = (g : RegionId) (marks : Bool) (base : Kept) (newer older : List Update) → kept_over g marks (kept_over g marks base older) newer ≡ kept_over g marks base (newer ++ older)
+FoldsJoin = (g : RegionId) (marks : Bool) (base : Kept) (newer older : List Update)
+    → kept_over g marks (kept_over g marks base older) newer ≡ kept_over g marks base (newer ++ older)
 
 -- a base with a list on it shows the folds of the line, with and without its past
 pub record ShowsLine (g : RegionId) (line : List Update) (s : KeyState) : Type 0 where
@@ -116,7 +131,9 @@ joining context s = accepting context (over context.region s) (offered_all conte
 pub record Joins (context : SlotContext) (s : KeyState) : Type 0 where
   pub taken : moved_all (offered_all context.region (over context.region s) (pending_of s)) (over context.region s) ≡ moved Forget (folded context.region s)
   pub state : moved_all (joining context s) (over context.region s) ≡ moved_all (resumed context (folded context.region s)) (folded context.region s)
-  pub posts : flat_map (move_posts context) (joining context s) ≡ flat_map (passed_on context) (pending_of (folded context.region s)) ++ flat_map (move_posts context) (resumed context (folded context.region s))
+  pub posts : flat_map (move_posts context) (joining context s)
+      ≡ flat_map (passed_on context) (pending_of (folded context.region s))
+      ++ flat_map (move_posts context) (resumed context (folded context.region s))
 
 abbrev pub JoinersFold : Type 0
 JoinersFold = (context : SlotContext) (s : KeyState) → IsSlotOf context.region s → InTurn context.region s.base.floor.0 s.accepted → Joins context s
@@ -124,9 +141,13 @@ JoinersFold = (context : SlotContext) (s : KeyState) → IsSlotOf context.region
 -- after it has installed a snapshot with its pending updates, each slot of a joiner is the sender's slot without its past, as it goes on in the joiner's place
 abbrev pub InstallsFold : Type 0
 InstallsFold =
-    (context : SlotContext) (states : List KeyState) → AllByRecursion (CanJoin context.region (is_key_region context.space context.region)) states → KeysDiffer states → (key : List ℕ)
+    (context : SlotContext) (states : List KeyState)
+    → AllByRecursion (CanJoin context.region (is_key_region context.space context.region)) states
+    → KeysDiffer states → (key : List ℕ)
     → state_among (is_key_region context.space context.region) key (installed_slots context (snapshot_of context.region states) (pending_of_all states)).states
-    ≡ moved_all (resumed context (folded context.region (state_among (is_key_region context.space context.region) key states))) (folded context.region (state_among (is_key_region context.space context.region) key states))
+    ≡ moved_all (resumed context (folded context.region
+    (state_among (is_key_region context.space context.region) key states)))
+    (folded context.region (state_among (is_key_region context.space context.region) key states))
 
 -- the slots of a server can be sent to a joiner: at the start, and after each step; and what is sent keeps it so where it is taken in
 pub record SendsJoin (g : RegionId) (at_key : Bool) (states : List KeyState) : Type 0 where
@@ -142,7 +163,8 @@ abbrev pub StartsJoinable : Type 0
 StartsJoinable = (space : Space) (s : ServerId) → IsJoinableServer space (server_at_start space s)
 
 abbrev pub StaysJoinable : Type 0
-StaysJoinable = (space : Space) (s : ServerState) → IsJoinableServer space s → (input : Input) → InputJoins input → IsJoinableServer space (server_step space s input).state
+StaysJoinable = (space : Space) (s : ServerState) → IsJoinableServer space s → (input : Input) → InputJoins input
+    → IsJoinableServer space (server_step space s input).state
 
 abbrev pub SoundMessagesJoin : Type 0
 SoundMessagesJoin = (b : Bounds) (m : Message) → IsSoundMessage b m → HasFloors m → MessageJoins m

@@ -1,5 +1,7 @@
 -- What one caller makes of a script alone is its replay, and a script has one replay.
-use Rattle.std.proofs.Common.{◌≡◌, ◌≢◌, refl, ℕ, zero, suc, ◌≤◌, Bool, true, false, ◌&&◌, ◌⊎◌, inl, inr, List, [], ◌∷◌, ◌++◌, length, map, replicate, leb, ltb, None, Some, sym, ap, ◌∙◌, subst, arith, add-one, slice_get}
+use Rattle.std.proofs.Common.{◌≡◌, ◌≢◌, refl, ℕ, zero, suc, ◌≤◌, Bool, true, false, ◌&&◌, ◌⊎◌, inl, inr, List, [], ◌∷◌}
+use Rattle.std.proofs.Common.{◌++◌, length, map, replicate, leb, ltb, None, Some, sym, ap, ◌∙◌, subst, arith, add-one}
+use Rattle.std.proofs.Common.{slice_get}
 use Rattle.std.proofs.lemmas.Bool.{cases_eq, leb-false, leb-true}
 use mathlib.Core.List.{IsPrefix}
 use Rattle.hx_model.specs.Types.{Entry, Op, Script, SessionId, Step}

@@ -15,7 +15,11 @@ use Rattle.hx_types.specs.Words.{when_some}
 use Rattle.hx_model.specs.Planning.{plan_of}
 use Rattle.hx_model.specs.Regions.{key_region}
 use Rattle.hx_model.specs.Runs.{does_something}
-use Rattle.hx_model.specs.SessionSteps.{SessionState, SessionStep, all_parts, ask_regions, awaits, begin, call_to, call_under_way, end_with_parts, ending, found_step, is_administrative, is_key_call, is_search, lacks_part, lost_answer, merged_parts, no_version, send, send_to, session_install, session_message, session_step, session_tick, staying, with_note, with_part, with_poll}
+use Rattle.hx_model.specs.SessionSteps.{SessionState, SessionStep, all_parts, ask_regions, awaits, begin, call_to}
+use Rattle.hx_model.specs.SessionSteps.{call_under_way, end_with_parts, ending, found_step, is_administrative}
+use Rattle.hx_model.specs.SessionSteps.{is_key_call, is_search, lacks_part, lost_answer, merged_parts, no_version}
+use Rattle.hx_model.specs.SessionSteps.{send, send_to, session_install, session_message, session_step, session_tick}
+use Rattle.hx_model.specs.SessionSteps.{staying, with_note, with_part, with_poll}
 use Rattle.hx_law_growing.specs.Growing.{with_calls}
 use Rattle.hx_law_growing.proofs.Numbers.{numbered-grows, numbered-same}
 

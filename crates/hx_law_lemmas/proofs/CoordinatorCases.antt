@@ -29,13 +29,15 @@ pub record CoordinatorCases (c : CoordinatorState) (input : Input) (P : Coordina
       → P (telling (with_task c (call_by u number) (Stop s)) (to_server a_message.Die s ∷ []))
   pub stopped : (id : PostId) (u : SessionId) (number : ℕ) (s : ServerId) → input ≡ Deliver id (Session u) (a_message.StopServer number s)
       → server_in s c.config.servers ≡ false
-      → P (telling (with_number c (call_by u number) (Some (an_answer.Stopped c.config.epoch))) (outcome (call_by u number) (an_answer.Stopped c.config.epoch) ∷ []))
+      → P (telling (with_number c (call_by u number) (Some (an_answer.Stopped c.config.epoch)))
+      (outcome (call_by u number) (an_answer.Stopped c.config.epoch) ∷ []))
   pub refused : (id : PostId) (u : SessionId) (number : ℕ) (s : ServerId) (g : RegionId) (answer : Answer)
       → input ≡ Deliver id (Session u) (a_message.AddReplica number s g)
       → judged c.config s g ≡ Some answer → P (telling (with_number c (call_by u number) (Some answer)) (outcome (call_by u number) answer ∷ []))
   pub joined : (id : PostId) (u : SessionId) (number : ℕ) (s : ServerId) (g : RegionId) → input ≡ Deliver id (Session u) (a_message.AddReplica number s g)
       → judged c.config s g ≡ None
-      → P (issue (with_number c (call_by u number) None) (config_with c.config s g) (record { caller = call_by u number; answer = an_answer.Issued (config_with c.config s g).epoch } ∷ []) c.todo)
+      → P (issue (with_number c (call_by u number) None) (config_with c.config s g)
+      (record { caller = call_by u number; answer = an_answer.Issued (config_with c.config s g).epoch } ∷ []) c.todo)
 
 -- a call by its number: an old one is dropped, the newest is answered again, a higher one is new
 by-number : (c : CoordinatorState) (P : CoordinatorStep → Type 0) (id : PostId) (u : SessionId) (number : ℕ) (m : Message)
@@ -52,7 +54,8 @@ by-number c P id u number m k new p = by (newest_of u c.newest) refl
     by (Some n) e =
         let r = newest-in u c.newest n e in
         cond_both (ltb number n.number) (resting c) _ P (λ t. k.rests)
-        (λ t. cond_both (eqb number n.number) (again c (call_by u number) n.answer) new P (λ q. told n r.0 r.1 (sym (eqb-true number n.number q)) n.answer refl) (λ q. p))
+        (λ t. cond_both (eqb number n.number) (again c (call_by u number) n.answer) new P
+        (λ q. told n r.0 r.1 (sym (eqb-true number n.number q)) n.answer refl) (λ q. p))
 
 -- so it is of each step
 pub coordinator-cases : (c : CoordinatorState) (input : Input) (P : CoordinatorStep → Type 0) → CoordinatorCases c input P → P (coordinator_step c input)
@@ -75,6 +78,7 @@ coordinator-cases c (Deliver id from m) P k = by from m k
         by-number c P id u number (a_message.StopServer number s) k (stops c (call_by u number) s)
         (cond_both (server_in s c.config.servers) _ _ P (λ t. k.dies id u number s refl) (λ t. k.stopped id u number s refl t))
     by (Session u) (a_message.AddReplica number s g) k =
-        by-number c P id u number (a_message.AddReplica number s g) k (adds c (call_by u number) s g (judged c.config s g)) (adds-so u number s g k (judged c.config s g) refl)
+        by-number c P id u number (a_message.AddReplica number s g) k
+        (adds c (call_by u number) s g (judged c.config s g)) (adds-so u number s g k (judged c.config s g) refl)
     by from (a_message.Poll epoch) k = cond_both (ltb epoch.0 c.config.epoch.0) _ (resting c) P (λ t. k.polled id from epoch refl) (λ t. k.rests)
     by from other k = k.rests

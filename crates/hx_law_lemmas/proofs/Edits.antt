@@ -65,7 +65,8 @@ edit-made space old e h f = by (slice_get space.attributes (e.attribute - 1)) re
     by (Some declared) p fits None q = λ d r. let same : declared ≡ d = cc in subst (λ (x : Attribute). IsOfKind x.kind e.value) same fits.1
     by (Some declared) p fits (Some v) q =
         for_all (edited_value e.what v e.value)
-        (value-made declared.kind e.what v e.value (zip-at (λ (a : Attribute) (w : Value). IsOfKind a.kind w) space.attributes old (e.attribute - 1) declared v h p q) fits.1)
+        (value-made declared.kind e.what v e.value (zip-at
+        (λ (a : Attribute) (w : Value). IsOfKind a.kind w) space.attributes old (e.attribute - 1) declared v h p q) fits.1)
       where
         for_all : (made : Result Value Answer) → MadeWith (IsOfKind declared.kind) made → MadeWith Made made
         for_all (Ok w) k = λ d r. let same : declared ≡ d = cc in subst (λ (x : Attribute). IsOfKind x.kind w) same k
@@ -76,7 +77,8 @@ pub edits-object : (space : Space) (old object : List Value) (edits : List Edit)
     → ((e : Edit) → IsIn e edits → EditFits space e) → MadeWith (IsObjectOf space) (edited_from old object edits)
 edits-object space old object [] h k f = k
 edits-object space old object (e ∷ rest) h k f =
-    and_then-made (λ (v : Value). (declared : Attribute) → slice_get space.attributes (e.attribute - 1) ≡ Some declared → IsOfKind declared.kind v) (IsObjectOf space)
+    and_then-made (λ (v : Value). (declared : Attribute)
+    → slice_get space.attributes (e.attribute - 1) ≡ Some declared → IsOfKind declared.kind v) (IsObjectOf space)
     (edit_of old e) (λ (v : Value). edited_from old (slice_set object (e.attribute - 1) v) rest) (edit-made space old e h (f e (inl refl)))
     (λ v m.
     edits-object space old (slice_set object (e.attribute - 1) v) rest h
@@ -87,7 +89,8 @@ value-fails : (what : EditKind) (old by : Value) → MadeWith (λ (v : Value). U
 value-fails an_edit.Add (a_value.Int v) (a_value.Int i) =
     cond_both (fits_64 (v +ℤ i)) (Ok (a_value.Int (v +ℤ i))) (Err an_answer.Overflow) (MadeWith (λ (w : Value). Unit {0})) (λ t. tt) (λ t. tt)
 value-fails an_edit.Append (a_value.Text old) (a_value.Text new) =
-    cond_both (nat_le (length old + length new) LONGEST_TEXT) (Ok (a_value.Text (old ++ new))) (Err an_answer.TooLong) (MadeWith (λ (w : Value). Unit {0})) (λ t. tt) (λ t. tt)
+    cond_both (nat_le (length old + length new) LONGEST_TEXT) (Ok (a_value.Text (old ++ new))) (Err an_answer.TooLong)
+    (MadeWith (λ (w : Value). Unit {0})) (λ t. tt) (λ t. tt)
 value-fails an_edit.Add (a_value.Int v) (a_value.Text new) = tt
 value-fails an_edit.Add (a_value.Text old) by = tt
 value-fails an_edit.Append (a_value.Text old) (a_value.Int i) = tt
@@ -103,7 +106,8 @@ value-fails an_edit.Max (a_value.Text old) by = tt
 pub edits-fail : (old object : List Value) (edits : List Edit) → MadeWith (λ (o : List Value). Unit {0}) (edited_from old object edits)
 edits-fail old object [] = tt
 edits-fail old object (e ∷ rest) =
-    and_then-made (λ (v : Value). Unit {0}) (λ (o : List Value). Unit {0}) (edit_of old e) (λ (v : Value). edited_from old (slice_set object (e.attribute - 1) v) rest)
+    and_then-made (λ (v : Value). Unit {0}) (λ (o : List Value). Unit {0}) (edit_of old e)
+    (λ (v : Value). edited_from old (slice_set object (e.attribute - 1) v) rest)
     (when_some_both (slice_get old (e.attribute - 1)) (Ok e.value) (λ (v : Value). edited_value e.what v e.value) (MadeWith (λ (v : Value). Unit {0})) (λ q. tt)
     (λ v q. value-fails e.what v e.value))
     (λ v m. edits-fail old (slice_set object (e.attribute - 1) v) rest)

@@ -21,13 +21,15 @@ line-upto script key n [] h = tt
 line-upto script key n (u ∷ us) h = cond_both (leb u.version.0 n) (u ∷ us) (upto n us) (IsLine script key) (λ t. h) (λ t. line-upto script key n us h.1)
 
 -- each update of the line stands after the older ones
-pub update-at : (script : Script) (key : List ℕ) (us : List Update) (w : Update) → IsLine script key us → IsIn w us → (older : List Update) × IsUpdateAfter script key older w
+pub update-at : (script : Script) (key : List ℕ) (us : List Update) (w : Update) → IsLine script key us → IsIn w us
+    → (older : List Update) × IsUpdateAfter script key older w
 update-at script key [] w h i = absurd i
 update-at script key (u ∷ us) w h (inl e) = (us, subst (λ (x : Update). IsUpdateAfter script key us x) (sym e) h.0)
 update-at script key (u ∷ us) w h (inr i) = update-at script key us w h.1 i
 
 -- an update that doesn't change leaves the object
-unchanged : (script : Script) (key : List ℕ) (older : List Update) (u : Update) → IsUpdateAfter script key older u → u.changes ≡ false → u.object ≡ line_object older
+unchanged : (script : Script) (key : List ℕ) (older : List Update) (u : Update) → IsUpdateAfter script key older u
+    → u.changes ≡ false → u.object ≡ line_object older
 unchanged script key older u h n = elim h.effect [
   | inl f ↦ f.1 ∙ effect-same script.space (line_object older) h.op (effect-done script.space (line_object older) h.op ∙ ap is_done (sym f.0) ∙ sym h.done ∙ n)
   | inr f ↦ f.1
@@ -42,7 +44,8 @@ line-made script key (u ∷ us) h = (one h.0, line-made script key us h.1)
     one l = record { version = l.version; key_is = l.key_is; done = l.done; same = unchanged script key us u l; places = l.places }
 
 -- a caller stands once in a line
-pub caller-once : (script : Script) (key : List ℕ) (us : List Update) → IsLine script key us → (u w : Update) → IsIn u us → IsIn w us → u.caller ≡ w.caller → u ≡ w
+pub caller-once : (script : Script) (key : List ℕ) (us : List Update) → IsLine script key us → (u w : Update)
+    → IsIn u us → IsIn w us → u.caller ≡ w.caller → u ≡ w
 caller-once script key [] law u w i j e = absurd i
 caller-once script key (x ∷ us) law u w (inl p) (inl q) e = p ∙ sym q
 caller-once script key (x ∷ us) law u w (inl p) (inr j) e =

@@ -37,7 +37,8 @@ pub record Cases (space : Space) (s : SessionState) (input : Input) (P : Session
 -- so it is of each step
 pub session-cases : (space : Space) (s : SessionState) (input : Input) (P : SessionStep → Type 0) → Cases space s input P → P (session_step space s input)
 session-cases space s Tick P c =
-    cond_both s.under_way (when_some (numbered s.calls s.begun) (staying s) (λ (op : Op). with_poll (send space s op))) (when_some (numbered s.calls (s.begun + 1)) (staying s) (begin space s)) P
+    cond_both s.under_way (when_some (numbered s.calls s.begun) (staying s)
+    (λ (op : Op). with_poll (send space s op))) (when_some (numbered s.calls (s.begun + 1)) (staying s) (begin space s)) P
     (λ t. when_some_both (numbered s.calls s.begun) (staying s) (λ (op : Op). with_poll (send space s op)) P (λ e. c.rests) (λ op e. c.again op refl t e))
     (λ t. when_some_both (numbered s.calls (s.begun + 1)) (staying s) (begin space s) P (λ e. c.rests) (λ op e. c.begins op refl t e))
 session-cases space s Halt P c = c.rests
@@ -46,11 +47,14 @@ session-cases space s (Deliver id from m) P c = by m c
     by : (m : Message) → Cases space s (Deliver id from m) P → P (session_message space s m)
     by (a_message.Reply number version answer) c =
         cond_both (awaits s number is_key_call) (ending s version answer) (staying s) P
-        (λ t. let a = awaited s number is_key_call t in c.replied id from version answer a.2.0 (ap (λ k. Deliver id from (a_message.Reply k version answer)) a.0) a.1 a.2.1 a.2.2)
+        (λ t. let a = awaited s number is_key_call t in
+        c.replied id from version answer a.2.0 (ap (λ k. Deliver id from (a_message.Reply k version answer)) a.0)
+        a.1 a.2.1 a.2.2)
         (λ t. c.rests)
     by (a_message.Outcome number answer) c =
         cond_both (awaits s number is_administrative) (ending s no_version answer) (staying s) P
-        (λ t. let a = awaited s number is_administrative t in c.judged id from answer a.2.0 (ap (λ k. Deliver id from (a_message.Outcome k answer)) a.0) a.1 a.2.1 a.2.2)
+        (λ t. let a = awaited s number is_administrative t in
+        c.judged id from answer a.2.0 (ap (λ k. Deliver id from (a_message.Outcome k answer)) a.0) a.1 a.2.1 a.2.2)
         (λ t. c.rests)
     by (a_message.Found epoch number g rows) c =
         let here = awaits s number is_search in
@@ -61,7 +65,9 @@ session-cases space s (Deliver id from m) P c = by m c
         (λ t. c.rests)
     by (a_message.Install config) c =
         let next : SessionState = record s { config = config } in
-        cond_both (ltb s.config.epoch.0 config.epoch.0) (when_some (call_under_way s) (staying next) (λ (op : Op). cond (is_administrative op) (staying next) (send space next op))) (staying s) P
+        cond_both (ltb s.config.epoch.0 config.epoch.0)
+        (when_some (call_under_way s) (staying next)
+        (λ (op : Op). cond (is_administrative op) (staying next) (send space next op))) (staying s) P
         (λ t. let l = ltb-true s.config.epoch.0 config.epoch.0 t in
         when_some_both (call_under_way s) (staying next) (λ (op : Op). cond (is_administrative op) (staying next) (send space next op)) P
         (λ e. c.adopts id from config refl l (λ op w q. let r : None ≡ Some op = sym e ∙ ap (λ b. cond b (numbered s.calls s.begun) None) w ∙ q in absurd (cc)))

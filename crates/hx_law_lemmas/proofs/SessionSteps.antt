@@ -96,7 +96,8 @@ pub record Goes (space : Space) (input : Input) (s : SessionState) (step : Sessi
   pub cause : (e : CallStop) → stop ≡ Some e → (s.under_way ≡ true) × EndsBy space input s e.version e.answer
   pub calling : (p : Post) → IsIn p step.posts → IsCall p.message → (step.state.sent ≡ true) × (step.state.under_way ≡ true)
   pub sent_kept : s.sent ≡ true → step.state.sent ≡ true
-  pub sent : step.state.sent ≡ true → (s.sent ≡ true) ⊎ ((to : Actor) × (epoch : Epoch) × (op : Op) × IsIn (post (Session s.id) to (a_message.Call epoch s.begun op)) step.posts)
+  pub sent : step.state.sent ≡ true → (s.sent ≡ true)
+      ⊎ ((to : Actor) × (epoch : Epoch) × (op : Op) × IsIn (post (Session s.id) to (a_message.Call epoch s.begun op)) step.posts)
 
 module _ (space : Space) (input : Input) where
   -- posts of the call under way, and whether it was sent
@@ -148,7 +149,11 @@ module _ (space : Space) (input : Input) where
     stop = Some (record { version = version; answer = answer });
     notes = refl;
     way = refl;
-    cause = λ e q. (running, (let r : record { version = version; answer = answer } ≡ e = cc in subst (λ (x : CallStop). EndsBy space input s x.version x.answer) r h));
+    cause = λ e q. (
+      running,
+      (let r : record { version = version; answer = answer } ≡ e = cc in
+          subst (λ (x : CallStop). EndsBy space input s x.version x.answer) r h),
+    );
     calling = λ p i. absurd i;
     sent_kept = λ e. e;
     sent = λ e. inl e;
@@ -165,19 +170,32 @@ module _ (space : Space) (input : Input) where
       no k e = absurd (cc)
 
   -- a call on a key is sent
-  sends-key : (s : SessionState) (op : Op) (key : List ℕ) → s.under_way ≡ true → Called s op → key_of op ≡ Some key → Goes space input s (send_to s op (key_region space key))
+  sends-key : (s : SessionState) (op : Op) (key : List ℕ) → s.under_way ≡ true → Called s op → key_of op ≡ Some key
+      → Goes space input s (send_to s op (key_region space key))
   sends-key s op key way called on_key =
-      cond_both (is_lost s.config (key_region space key)) (ending s no_version (lost_answer s op (key_region space key))) (record { state = record s { sent = true }; posts = call_to s op (head_of s.config (key_region space key)); notes = [] }) (Goes space input s)
-      (λ t. ends-so s no_version (lost_answer s op (key_region space key)) way (inr (inl (record { op = op; key = key; called = called; on_key = on_key; lost = t; version = refl; answer = refl }))))
+      cond_both (is_lost s.config (key_region space key))
+      (ending s no_version (lost_answer s op (key_region space key)))
+      (record {
+        state = record s { sent = true };
+        posts = call_to s op (head_of s.config (key_region space key));
+        notes = [];
+      }) (Goes space input s)
+      (λ t. ends-so s no_version (lost_answer s op (key_region space key)) way
+      (inr (inl (record { op = op; key = key; called = called; on_key = on_key; lost = t; version = refl; answer = refl }))))
       (λ t. let h = head-some s.config (key_region space key) t in by (head_of s.config (key_region space key)) h.0 h.1)
     where
-      by : (o : Option ServerId) (x : ServerId) → o ≡ Some x → Goes space input s (record { state = record s { sent = true }; posts = call_to s op o; notes = [] })
+      by : (o : Option ServerId) (x : ServerId) → o ≡ Some x
+          → Goes space input s (record { state = record s { sent = true }; posts = call_to s op o; notes = [] })
       by None x e = absurd (cc)
-      by (Some server) x e = tells s true s.parts (call_to s op (Some server)) (λ e. refl) (each-one (Tells s true) _ (way, refl, (refl, called), λ c. refl)) (λ e. inr (Server server, s.config.epoch, op, inl refl))
+      by (Some server) x e = tells s true s.parts (call_to s op (Some server)) (λ e. refl)
+          (each-one (Tells s true) _ (way, refl, (refl, called), λ c. refl))
+          (λ e. inr (Server server, s.config.epoch, op, inl refl))
 
   -- a search asks regions
-  asks : (s : SessionState) (terms : List Term) → s.under_way ≡ true → Called s (Search terms) → (plan : Planned) → plan_of space s.config terms ≡ plan → Goes space input s (ask_regions s terms plan)
-  asks s terms way called (a_plan.Lost g) e = ends-so s no_version (an_answer.Refused g s.config.epoch) way (inr (inr (inl (record { terms = terms; region = g; called = called; plan = e; version = refl; answer = refl }))))
+  asks : (s : SessionState) (terms : List Term) → s.under_way ≡ true → Called s (Search terms) → (plan : Planned)
+      → plan_of space s.config terms ≡ plan → Goes space input s (ask_regions s terms plan)
+  asks s terms way called (a_plan.Lost g) e = ends-so s no_version (an_answer.Refused g s.config.epoch) way
+      (inr (inr (inl (record { terms = terms; region = g; called = called; plan = e; version = refl; answer = refl }))))
   asks s terms way called (a_plan.Regions subspace regions) e =
       tells s s.sent (map (λ (g : RegionId). record { region = g; rows = None }) regions) _ (λ e. e)
       (each-flat (Tells s s.sent) (λ (g : RegionId). ask_to s terms g (head_of s.config g)) regions (λ g i. by g (head_of s.config g))) (λ e. inl e)
@@ -189,7 +207,8 @@ module _ (space : Space) (input : Input) where
   -- one post
   says : (s : SessionState) (to : Actor) (m : Message) → s.under_way ≡ true → AsksOf s m → (IsCall m → ⊥)
       → Goes space input s (record { state = s; posts = post (Session s.id) to m ∷ []; notes = [] })
-  says s to m way h n = tells s s.sent s.parts (post (Session s.id) to m ∷ []) (λ e. e) (each-one (Tells s s.sent) _ (way, refl, h, λ c. absurd (n c))) (λ e. inl e)
+  says s to m way h n = tells s s.sent s.parts (post (Session s.id) to m ∷ []) (λ e. e)
+      (each-one (Tells s s.sent) _ (way, refl, h, λ c. absurd (n c))) (λ e. inl e)
 
   -- the call is sent
   pub sends : (s : SessionState) (op : Op) → s.under_way ≡ true → Called s op → Goes space input s (send space s op)
@@ -211,7 +230,8 @@ module _ (space : Space) (input : Input) where
     begun = g.begun;
     under_way = g.under_way;
     posts = each-append (λ (p : Post). (p.from ≡ Session s.id) × AsksOf s p.message) step.posts _ g.posts
-        (each-provided (λ (p : Post). (p.from ≡ Session s.id) × AsksOf s p.message) step.state.under_way _ (each-one (λ (p : Post). (p.from ≡ Session s.id) × AsksOf s p.message) poll (ap Session g.id, tt)));
+        (each-provided (λ (p : Post). (p.from ≡ Session s.id) × AsksOf s p.message) step.state.under_way _
+        (each-one (λ (p : Post). (p.from ≡ Session s.id) × AsksOf s p.message) poll (ap Session g.id, tt)));
     running = λ p i. way;
     ends = g.ends;
     begins = g.begins;
@@ -223,7 +243,11 @@ module _ (space : Space) (input : Input) where
         (each-provided (λ (p : Post). IsCall p.message → (step.state.sent ≡ true) × (step.state.under_way ≡ true)) step.state.under_way _
         (each-one (λ (p : Post). IsCall p.message → (step.state.sent ≡ true) × (step.state.under_way ≡ true)) poll (λ c. absurd c)));
     sent_kept = g.sent_kept;
-    sent = λ e. elim (g.sent e) [ inl h ↦ inl h | inr (to, epoch, op, i) ↦ inr (to, epoch, op, in_left step.posts (provided step.state.under_way (poll ∷ [])) _ i) ];
+    sent = λ e. elim (g.sent e) [
+      | inl h ↦ inl h
+      | inr (to, epoch, op, i) ↦
+          inr (to, epoch, op, in_left step.posts (provided step.state.under_way (poll ∷ [])) _ i)
+    ];
   }
     where
       poll : Post
@@ -238,7 +262,9 @@ Starts s mid notes rest =
 -- its configuration is the one before, or one that is delivered
 abbrev pub ConfigBy : Input → SessionState → SessionState → Type 0
 ConfigBy input before after =
-    (after.config ≡ before.config) ⊎ ((id : PostId) × (from : Actor) × (config : Config) × (input ≡ Deliver id from (a_message.Install config)) × (after.config ≡ config) × (before.config.epoch.0 < config.epoch.0))
+    (after.config ≡ before.config) ⊎ ((id : PostId) × (from : Actor) × (config : Config)
+    × (input ≡ Deliver id from (a_message.Install config)) × (after.config ≡ config)
+    × (before.config.epoch.0 < config.epoch.0))
 
 -- what a step of a session does
 pub record SessionDoes (space : Space) (input : Input) (s : SessionState) (step : SessionStep) : Type 0 where
@@ -295,7 +321,11 @@ module _ (space : Space) (s : SessionState) where
         mid_is = refl;
         notes = refl;
         starts = inr (idle, refl, refl, refl, refl);
-        fresh = λ k i. elim i [ inl q ↦ (let m : s.begun + 1 ≡ k = cc in (op, subst (λ n. numbered s.calls n ≡ Some op) m called)) | inr j ↦ absurd (goes.begins k j) ];
+        fresh = λ k i. elim i [
+          | inl q ↦ (let m : s.begun + 1 ≡ k = cc in
+              (op, subst (λ n. numbered s.calls n ≡ Some op) m called))
+          | inr j ↦ absurd (goes.begins k j)
+        ];
         goes = goes;
       }
 
@@ -322,8 +352,19 @@ module _ (space : Space) (s : SessionState) where
     replied = λ id from version answer op i w c q. on input (ending s version answer)
         (ends-so space input s version answer w (inl (record { id = id; from = from; input_is = i; op = op; called = c; on_key = q })));
     judged = λ id from answer op i w c q. on input (ending s no_version answer)
-        (ends-so space input s no_version answer w (inr (inr (inr (inr (record { id = id; from = from; input_is = i; op = op; called = c; administers = q; version = refl }))))));
+        (ends-so space input s no_version answer w (inr
+        (inr (inr (inr (record {
+          id = id;
+          from = from;
+          input_is = i;
+          op = op;
+          called = c;
+          administers = q;
+          version = refl;
+        }))))));
     found = λ id from epoch g rows op i w c q. founds input (map (with_part g rows) s.parts) op w c q;
-    adopts = λ id from config i l n. same input config s.parts (staying (record s { config = config })) (inr (id, from, config, i, refl, l)) (stays space input (record s { config = config }));
-    renews = λ id from config op i l w c q. same input config s.parts (send space (record s { config = config }) op) (inr (id, from, config, i, refl, l)) (sends space input (record s { config = config }) op w c);
+    adopts = λ id from config i l n. same input config s.parts (staying (record s { config = config }))
+        (inr (id, from, config, i, refl, l)) (stays space input (record s { config = config }));
+    renews = λ id from config op i l w c q. same input config s.parts (send space (record s { config = config }) op)
+        (inr (id, from, config, i, refl, l)) (sends space input (record s { config = config }) op w c);
   })

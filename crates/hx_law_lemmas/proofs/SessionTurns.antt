@@ -10,7 +10,8 @@ use Rattle.hx_law_lemmas.proofs.SessionSteps.{AsksOf, EndsBy as Ends, Goes, IsCa
 
 -- what a session says of its call under way, and whether that is sent and goes on: it replies to nobody, and says nothing of updates and epochs
 abbrev pub SaysOf : SessionState → Bool → Bool → Message → Type 0
-SaysOf s sent way (a_message.Call epoch number op) = (number ≡ s.begun) × (s.under_way ≡ true) × (numbered s.calls s.begun ≡ Some op) × (sent ≡ true) × (way ≡ true)
+SaysOf s sent way (a_message.Call epoch number op) = (number ≡ s.begun) × (s.under_way ≡ true)
+    × (numbered s.calls s.begun ≡ Some op) × (sent ≡ true) × (way ≡ true)
 SaysOf s sent way (a_message.Ask epoch number g terms) = ⊤
 SaysOf s sent way (a_message.StopServer number server) = ⊤
 SaysOf s sent way (a_message.AddReplica number server g) = (numbered s.calls s.begun ≡ Some (Add server g))

@@ -15,12 +15,15 @@ module _ (space : Space) (g : RegionId) (r : Replica) (line : List ℕ → List 
   rows-sound terms row i =
       let f = found-row g terms r.states row i in
       let m = (in-filter (λ (x : Row). matches terms x.key x.object) (rows_of g r.states) row i).1 in
-      let e : kept_row g None (upto (front f.0.base.key) (part_at g (line f.0.base.key))) ≡ Some row = sym (kept f.0.base.key) ∙ ap (object_of g) (ordered f.0 f.1) ∙ f.2 in
+      let e : kept_row g None (upto (front f.0.base.key) (part_at g (line f.0.base.key))) ≡ Some row =
+      sym (kept f.0.base.key) ∙ ap (object_of g) (ordered f.0 f.1) ∙ f.2 in
       let k = kept-key space f.0.base.key (line f.0.base.key) (made f.0.base.key) g (front f.0.base.key) row e in
       (subst (λ (j : List ℕ). kept_row g None (upto (front j) (part_at g (line j))) ≡ Some row) (sym k) e, m)
 
   -- each kept row that matches is found
-  pub rows-full : (terms : List Term) (key : List ℕ) (row : Row) → kept_row g None (upto (front key) (part_at g (line key))) ≡ Some row → matches terms row.key row.object ≡ true → IsIn row (found_in g terms r.states)
+  pub rows-full : (terms : List Term) (key : List ℕ) (row : Row)
+      → kept_row g None (upto (front key) (part_at g (line key))) ≡ Some row → matches terms row.key row.object ≡ true
+      → IsIn row (found_in g terms r.states)
   rows-full terms key row e m = elim (state-from (is_key_region space r.region) key r.states) [
     | inr i ↦ row-found g terms r.states (state_in space r key) row i (kept key ∙ e) m
     | inl n ↦ absurd (let q : None ≡ Some row = sym (ap (object_of g) n) ∙ kept key ∙ e in cc)

@@ -3,7 +3,8 @@ use Rattle.hx_law_lemmas.proofs.Lemmas.Vocabulary.{[], Entry, inl, inr, IsPartOf
 
 -- what each entry keeps, and under which it leaves the line up to the version
 pub stays-by : (script : Script) (Holds : List Entry → Type 0) (key : List ℕ) (v : ℕ)
-    → ((x : Entry) (older : List Entry) → IsRun script (x ∷ older) → Holds older → Holds (x ∷ older) × (upto v (line_of key (x ∷ older)) ≡ upto v (line_of key older)))
+    → ((x : Entry) (older : List Entry) → IsRun script (x ∷ older) → Holds older → Holds (x ∷ older)
+    × (upto v (line_of key (x ∷ older)) ≡ upto v (line_of key older)))
     → (t : List Entry) → Holds t → StaysUpTo script t key v
 stays-by script Holds key v step t h later run part = (go later run part).1
   where

@@ -15,7 +15,8 @@ answer-up m n an_answer.Done l h = tt
 answer-up m n an_answer.NotFound l h = tt
 answer-up m n an_answer.CmpFail l h = tt
 answer-up m n (an_answer.Found object) l h = tt
-answer-up m n (an_answer.Rows rows) l h = all-of (λ (r : Row). r.version.0 ≤ n) rows (λ r i. let b = all-in (λ (x : Row). x.version.0 ≤ m) rows r h i in omega (arith, b, l))
+answer-up m n (an_answer.Rows rows) l h = all-of (λ (r : Row). r.version.0 ≤ n) rows
+    (λ r i. let b = all-in (λ (x : Row). x.version.0 ≤ m) rows r h i in omega (arith, b, l))
 answer-up m n other l h = omega (arith, l, h)
 
 -- an actor exists whatever the bound of numbers
@@ -59,7 +60,8 @@ module _ (space : Space) (sessions m n : ℕ) (l : m ≤ n) where
     of_space = h.of_space;
     floor = (let f = h.floor in omega (arith, f, l));
     sessions = all-of (λ (x : Mark). IsSessionOf sessions x.session × AnswerUpTo (n + 1) x.answer) k.marks
-        (λ x i. let a = all-in (λ (y : Mark). IsSessionOf sessions y.session × AnswerUpTo (m + 1) y.answer) k.marks x h.sessions i in (a.0, answer-up (m + 1) (n + 1) x.answer (omega (arith, l)) a.1));
+        (λ x i. let a = all-in (λ (y : Mark). IsSessionOf sessions y.session × AnswerUpTo (m + 1) y.answer) k.marks x
+        h.sessions i in (a.0, answer-up (m + 1) (n + 1) x.answer (omega (arith, l)) a.1));
   }
 
   -- a configuration
@@ -67,5 +69,10 @@ module _ (space : Space) (sessions m n : ℕ) (l : m ≤ n) where
   config-up config h = record { of_space = h.of_space; epoch = (let e = h.epoch in omega (arith, e, l)) }
 
 -- what an earlier entry posted may be held
-pub received : (space : Space) (sessions k n : ℕ) → k + 1 ≤ n → (g : RegionId) (u : Update) → IsSoundUpdate (bounds space sessions k) u → has_place_in g u.places ≡ true → IsSoundAt space sessions n g u
-received space sessions k n l g u h p = record { sound = update-up space sessions k n (omega (arith, l)) u h; version = (let v = h.version in omega (arith, v, l)); place = p }
+pub received : (space : Space) (sessions k n : ℕ) → k + 1 ≤ n → (g : RegionId) (u : Update)
+    → IsSoundUpdate (bounds space sessions k) u → has_place_in g u.places ≡ true → IsSoundAt space sessions n g u
+received space sessions k n l g u h p = record {
+  sound = update-up space sessions k n (omega (arith, l)) u h;
+  version = (let v = h.version in omega (arith, v, l));
+  place = p;
+}

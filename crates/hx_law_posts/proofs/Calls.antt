@@ -31,27 +31,37 @@ module _ (space : Space) (sessions n : ℕ) (s : ServerId) (st : ServerState) (r
 
   module _ (r : Replica) (i : IsIn r st.replicas) (t : KeyState) (h : IsSoundSlot space sessions n r.region t) where
     -- an update that may be held is accepted
-    accept-good : (u : Update) → IsSoundAt space sessions n r.region u → IsGood (at_slot st r t (by_moves (context_of space st r.region) (accepting (context_of space st r.region) t (offered r.region t u))))
+    accept-good : (u : Update) → IsSoundAt space sessions n r.region u
+        → IsGood (at_slot st r t (by_moves (context_of space st r.region)
+        (accepting (context_of space st r.region) t (offered r.region t u))))
     accept-good u a =
         let held = held-together (u ∷ []) t in
         let known = offered-known (together (u ∷ []) t) r.region t u held (inl refl) in
-        moves-good space sessions n s st relies r i (u ∷ []) (λ w j. elim j [ inl e ↦ subst (IsSoundAt space sessions n r.region) (sym e) a | inr k ↦ absurd k ]) t h
+        moves-good space sessions n s st relies r i (u ∷ [])
+        (λ w j. elim j [ inl e ↦ subst (IsSoundAt space sessions n r.region) (sym e) a | inr k ↦ absurd k ]) t h
         (accepting (context_of space st r.region) t (offered r.region t u))
         (accepting-known (together (u ∷ []) t) (context_of space st r.region) t (offered r.region t u) held known)
-        (accepting-rise (context_of space st r.region) (offered r.region t u) t h.ordered (offered-rise r.region t u (λ w j. after-of space sessions n r.region w (h.early w j))))
+        (accepting-rise (context_of space st r.region) (offered r.region t u) t h.ordered
+        (offered-rise r.region t u (λ w j. after-of space sessions n r.region w (h.early w j))))
 
     -- a decision
-    decided-good : (caller : Caller) → IsSessionOf sessions caller.session → (d : Decision) → IsSoundDecision space sessions n r.region t d → IsGood (at_slot st r t (decided (context_of space st r.region) t caller d))
+    decided-good : (caller : Caller) → IsSessionOf sessions caller.session → (d : Decision)
+        → IsSoundDecision space sessions n r.region t d
+        → IsGood (at_slot st r t (decided (context_of space st r.region) t caller d))
     decided-good caller session a_decision.Old k = posts-good space sessions n s st relies r i t h [] (λ p j. absurd j)
     decided-good caller session (a_decision.Again v answer) k =
         posts-good space sessions n s st relies r i t h (reply (context_of space st r.region) caller v answer ∷ [])
-        (each-one IsSound (reply (context_of space st r.region) caller v answer) (reply-sound space sessions n (context_of space st r.region) (here space sessions n s st relies r i) caller v answer session (let l = k.0 in omega (arith, l)) k.1))
+        (each-one IsSound (reply (context_of space st r.region) caller v answer)
+        (reply-sound space sessions n (context_of space st r.region)
+        (here space sessions n s st relies r i) caller v answer session (let l = k.0 in omega (arith, l)) k.1))
     decided-good caller session (a_decision.Wait v) k =
         posts-good space sessions n s st relies r i t h (waiting_doubt (context_of space st r.region) caller v (stuck_of st.config t))
         (waiting-sound space sessions n (context_of space st r.region) (here space sessions n s st relies r i) r.region t h caller session v k)
     decided-good caller session (a_decision.Stuck g) k =
         posts-good space sessions n s st relies r i t h (doubt_in (context_of space st r.region) caller (record { 0 = 0 }) g ∷ [])
-        (each-one IsSound (doubt_in (context_of space st r.region) caller (record { 0 = 0 }) g) (doubt-sound space sessions n (context_of space st r.region) (here space sessions n s st relies r i) caller (record { 0 = 0 }) g session (omega arith) k))
+        (each-one IsSound (doubt_in (context_of space st r.region) caller (record { 0 = 0 }) g)
+        (doubt-sound space sessions n (context_of space st r.region)
+        (here space sessions n s st relies r i) caller (record { 0 = 0 }) g session (omega arith) k))
     decided-good caller session (a_decision.Assign u) k = let a = accept-good u k.0 in record { state = a.state; posts = a.posts }
 
     -- the object of a slot
@@ -65,17 +75,21 @@ module _ (space : Space) (sessions n : ℕ) (s : ServerId) (st : ServerState) (r
         let answer = get_answer (object_in (object_of r.region t)) in
         posts-good space sessions n s st relies r i t h (reply (context_of space st r.region) caller (record { 0 = t.floor }) answer ∷ [])
         (each-one IsSound (reply (context_of space st r.region) caller (record { 0 = t.floor }) answer)
-        (reply-sound space sessions n (context_of space st r.region) (here space sessions n s st relies r i) caller (record { 0 = t.floor }) answer session (let f = h.floor in omega (arith, f))
-        (get-sound (bounds space sessions n) (object_in (object_of r.region t)) (slot-object (object_of r.region t) (object-sound space sessions n r.region t h)))))
+        (reply-sound space sessions n (context_of space st r.region) (here space sessions n s st relies r i) caller
+        (record { 0 = t.floor }) answer session (let f = h.floor in omega (arith, f))
+        (get-sound (bounds space sessions n) (object_in (object_of r.region t))
+        (slot-object (object_of r.region t) (object-sound space sessions n r.region t h)))))
 
     -- an update of an earlier entry
     update-good : (u : Update) → IsSoundAt space sessions n r.region u → IsGood (at_slot st r t (update_step (context_of space st r.region) t u))
     update-good u a =
-        cond_both (leb u.version.0 (top_of t)) (by_posts (known_to (context_of space st r.region) t u)) (by_moves (context_of space st r.region) (accepting (context_of space st r.region) t (offered r.region t u)))
+        cond_both (leb u.version.0 (top_of t)) (by_posts (known_to (context_of space st r.region) t u))
+        (by_moves (context_of space st r.region) (accepting (context_of space st r.region) t (offered r.region t u)))
         (λ (step : SlotStep). IsGood (at_slot st r t step))
         (
         λ b. posts-good space sessions n s st relies r i t h (known_to (context_of space st r.region) t u)
-        (λ p j. ack_to-sound space sessions n (context_of space st r.region) (here space sessions n s st relies r i) u a.sound p (in-provided (leb u.version.0 t.floor) _ p j).1)
+        (λ p j. ack_to-sound space sessions n (context_of space st r.region)
+        (here space sessions n s st relies r i) u a.sound p (in-provided (leb u.version.0 t.floor) _ p j).1)
         )
         (λ b. accept-good u a)
 
@@ -101,7 +115,8 @@ module _ (space : Space) (sessions n : ℕ) (s : ServerId) (st : ServerState) (r
       ack-good r k.0 (state_in space r key) (slot-sound space sessions n r (relies.sound.replicas r k.0) key fits) v
 
   -- a row that is found
-  row-good : (r : Replica) → IsIn r st.replicas → (terms : List Term) (row : Row) → IsIn row (found_in r.region terms r.states) → IsRowOf space row × (row.version.0 ≤ n + 1)
+  row-good : (r : Replica) → IsIn r st.replicas → (terms : List Term) (row : Row)
+      → IsIn row (found_in r.region terms r.states) → IsRowOf space row × (row.version.0 ≤ n + 1)
   row-good r i terms row j =
       let k = found-row r.region terms r.states row j in
       let h = (relies.sound.replicas r i).slots k.0 k.1 in
@@ -120,19 +135,26 @@ module _ (space : Space) (sessions n : ℕ) (s : ServerId) (st : ServerState) (r
         from = relies.exists;
         to = x;
         between = session;
-        message = (e, (relies.sound.replicas r k.0).region, all-of (λ (row : Row). IsRowOf space row × (row.version.0 ≤ n + 1)) (found_in r.region terms r.states) (row-good r k.0 terms));
+        message = (
+          e,
+          (relies.sound.replicas r k.0).region,
+          all-of (λ (row : Row). IsRowOf space row × (row.version.0 ≤ n + 1)) (found_in r.region terms r.states)
+              (row-good r k.0 terms),
+        );
       }))
 
   module _ (m : ℕ) (before : IsSoundServer space sessions m s st) (less : m < n) where
     -- a write of a key that fits
-    write-good : (r : Replica) → IsIn r st.replicas → (key : List ℕ) → KeyFits key → r.region ≡ key_region space key → (caller : Caller) → IsSessionOf sessions caller.session → (op : Op) → Fits space op
+    write-good : (r : Replica) → IsIn r st.replicas → (key : List ℕ) → KeyFits key → r.region ≡ key_region space key
+        → (caller : Caller) → IsSessionOf sessions caller.session → (op : Op) → Fits space op
         → IsGood (at_slot st r (state_in space r key) (write_step (context_of space st r.region) (state_in space r key) caller op))
     write-good r i key key_fits e caller session op fits =
         let t = state_in space r key in
         let h = slot-sound space sessions n r (relies.sound.replicas r i) key key_fits in
         let low = top-small space sessions m r.region t (slot-sound space sessions m r (before.replicas r i) key key_fits) in
         decided-good r i t h caller session (decide space st.config r.region t caller op)
-        (decide-at space relies.valid sessions n st.config relies.sound.config r.region t (ap (key_region space) (state-key _ key r.states) ∙ sym e) h (omega (arith, low, less)) caller session op fits)
+        (decide-at space relies.valid sessions n st.config relies.sound.config r.region t
+        (ap (key_region space) (state-key _ key r.states) ∙ sym e) h (omega (arith, low, less)) caller session op fits)
 
     -- a call at the replica that takes it
     pub called-good : (key : List ℕ) → KeyFits key → (r : Replica) → replica_of (key_region space key) st.replicas ≡ Some r

@@ -5,11 +5,13 @@ use Rattle.hx_law_lemmas.proofs.Lemmas.Vocabulary.{slice_get, Space, subst, suc,
 use Rattle.hx_law_lemmas.proofs.Lemmas.{length-below, mod-apart, all-in, all-of, differ-append, in-below, in-map, in-slice_get, when_some_both}
 
 -- each member of a configuration of the space is a server of it
-pub member-server : (space : Space) (config : Config) → IsConfigOf space config → (g : RegionId) (m : Member) → IsIn m (members_of config g) → IsServerOf space m.server
+pub member-server : (space : Space) (config : Config) → IsConfigOf space config → (g : RegionId) (m : Member)
+    → IsIn m (members_of config g) → IsServerOf space m.server
 member-server space config of_space g m =
     when_some_both (slice_get config.regions g.0) [] (λ (members : List Member). members) (λ (l : List Member). IsIn m l → IsServerOf space m.server)
     (λ e i. absurd i)
-    (λ (members : List Member) e i. all-in (λ (x : Member). IsServerOf space x.server) members m (all-in (IsListOf space) config.regions members of_space.each (in-slice_get config.regions g.0 members e)).each i)
+    (λ (members : List Member) e i. all-in (λ (x : Member). IsServerOf space x.server) members m
+    (all-in (IsListOf space) config.regions members of_space.each (in-slice_get config.regions g.0 members e)).each i)
 
 -- the number of a member's server
 abbrev pub server_number : Member → ℕ
@@ -19,9 +21,11 @@ server_number m = m.server.0
 firsts-differ : (space : Space) (g n : ℕ) → n ≤ space.servers → AllDiffer (map server_number (map (first_member space g) (below n)))
 firsts-differ space g zero l = tt
 firsts-differ space g (suc n) l =
-    subst AllDiffer (sym (ap (map server_number) (map-append (first_member space g) (below n) (n ∷ [])) ∙ map-append server_number (map (first_member space g) (below n)) (first_member space g n ∷ [])))
+    subst AllDiffer (sym (ap (map server_number) (map-append (first_member space g) (below n) (n ∷ []))
+    ∙ map-append server_number (map (first_member space g) (below n)) (first_member space g n ∷ [])))
     (
-    differ-append (map server_number (map (first_member space g) (below n))) (((g + n) % space.servers + 1) ∷ []) (firsts-differ space g n (omega (arith, l))) ((λ k d q. absurd (omega (arith, q))), tt)
+    differ-append (map server_number (map (first_member space g) (below n))) (((g + n) % space.servers + 1) ∷ [])
+    (firsts-differ space g n (omega (arith, l))) ((λ k d q. absurd (omega (arith, q))), tt)
     (
     λ x y i j. elim j [
       | inl e ↦ (λ q. let m = in-map server_number (map (first_member space g) (below n)) x i in
@@ -47,9 +51,13 @@ first-of_space space valid = record {
       let l = in-below space.servers m.0 m.1 in
       subst (IsServerOf space) (sym m.2) (omega arith, omega (arith, l))));
   count = length-map (below (region_count space)) (λ g. map (first_member space g) (below (space.tolerate + 1))) ∙ length-below (region_count space);
-  each = all-of (IsListOf space) (first_config space).regions (λ members i. (let m = in-map (λ g. map (first_member space g) (below (space.tolerate + 1))) (below (region_count space)) members i in
+  each = all-of (IsListOf space) (first_config space).regions
+      (λ members i. (let m = in-map (λ g. map (first_member space g) (below (space.tolerate + 1)))
+      (below (region_count space)) members i in
       subst (IsListOf space) (sym m.2) (record {
-        each = all-of (λ (x : Member). IsServerOf space x.server) (map (first_member space m.0) (below (space.tolerate + 1))) (λ x j. (let k = in-map (first_member space m.0) (below (space.tolerate + 1)) x j in
+        each = all-of (λ (x : Member). IsServerOf space x.server)
+            (map (first_member space m.0) (below (space.tolerate + 1)))
+            (λ x j. (let k = in-map (first_member space m.0) (below (space.tolerate + 1)) x j in
             subst (λ (y : Member). IsServerOf space y.server) (sym k.2) (first-server space valid m.0 k.0)));
         once = firsts-differ space m.0 (space.tolerate + 1) (let t = valid.tolerate.1 in omega (arith, t));
       })));

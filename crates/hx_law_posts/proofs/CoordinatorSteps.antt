@@ -27,7 +27,8 @@ pub record IsSoundCoordinator (space : Space) (sessions n : ℕ) (c : Coordinato
   pub sessions_are : c.sessions ≡ sessions
 
 -- what held after fewer entries holds after more
-pub coordinator-up : (space : Space) (sessions m n : ℕ) → m ≤ n → (c : CoordinatorState) → IsSoundCoordinator space sessions m c → IsSoundCoordinator space sessions n c
+pub coordinator-up : (space : Space) (sessions m n : ℕ) → m ≤ n → (c : CoordinatorState)
+    → IsSoundCoordinator space sessions m c → IsSoundCoordinator space sessions n c
 coordinator-up space sessions m n l c h = record {
   config = config-up space sessions m n l c.config h.config;
   todo = λ t i. (let a = h.todo t i in record { session = a.session; fits = a.fits });
@@ -55,7 +56,8 @@ module _ (space : Space) (sessions n : ℕ) where
     pub low : c.config.epoch.0 ≤ n
 
   -- posts alone
-  telling-good : (c : CoordinatorState) → IsSoundCoordinator space sessions n c → (ps : List Post) → ((p : Post) → IsIn p ps → IsSound p) → DoesWell (telling c ps)
+  telling-good : (c : CoordinatorState) → IsSoundCoordinator space sessions n c → (ps : List Post)
+      → ((p : Post) → IsIn p ps → IsSound p) → DoesWell (telling c ps)
   telling-good c h ps f = record { state = h; posts = f }
 
   -- nothing happens
@@ -63,23 +65,28 @@ module _ (space : Space) (sessions n : ℕ) where
   resting-good c h = record { state = h; posts = λ p i. absurd i }
 
   -- a post to a server
-  to_server-sound : (m : Message) (s : ServerId) → IsServerOf space s → goes_between Coordinator (Server s) m ≡ true → IsSoundMessage (bounds space sessions n) m → IsSound (to_server m s)
+  to_server-sound : (m : Message) (s : ServerId) → IsServerOf space s → goes_between Coordinator (Server s) m ≡ true
+      → IsSoundMessage (bounds space sessions n) m → IsSound (to_server m s)
   to_server-sound m s exists b h = record { from = tt; to = exists; between = b; message = h }
 
   -- an answer to a session
-  outcome-sound : (caller : Caller) (answer : Answer) → IsSessionOf sessions caller.session → IsSoundAnswer (bounds space sessions n) answer → IsSound (outcome caller answer)
+  outcome-sound : (caller : Caller) (answer : Answer) → IsSessionOf sessions caller.session
+      → IsSoundAnswer (bounds space sessions n) answer → IsSound (outcome caller answer)
   outcome-sound caller answer session a = record { from = tt; to = session; between = refl; message = a }
 
   -- ---- a configuration is issued
 
   -- the newest calls with those that are answered
-  answered-newest : (xs : List Answered) → ((a : Answered) → IsIn a xs → IsSoundAnswered space sessions n a) → (ns : List Newest) → ((x : Newest) → IsIn x ns → IsMaybeSound space sessions n x.answer)
+  answered-newest : (xs : List Answered) → ((a : Answered) → IsIn a xs → IsSoundAnswered space sessions n a)
+      → (ns : List Newest) → ((x : Newest) → IsIn x ns → IsMaybeSound space sessions n x.answer)
       → (x : Newest) → IsIn x (newest_answered xs ns) → IsMaybeSound space sessions n x.answer
   answered-newest [] f ns g = g
   answered-newest (a ∷ xs) f ns g =
       answered-newest xs (λ b j. f b (inr j)) (with_answer a ns)
       (
-      cond_both (is_newest_call a.caller ns) (with_newest (record { session = a.caller.session; number = a.caller.number; answer = Some a.answer }) ns) ns (λ l. (x : Newest) → IsIn x l → IsMaybeSound space sessions n x.answer)
+      cond_both (is_newest_call a.caller ns) (with_newest
+      (record { session = a.caller.session; number = a.caller.number; answer = Some a.answer }) ns) ns
+      (λ l. (x : Newest) → IsIn x l → IsMaybeSound space sessions n x.answer)
       (λ t x i. elim (in-with_newest (record { session = a.caller.session; number = a.caller.number; answer = Some a.answer }) ns x i) [
         | inl e ↦ subst (λ (y : Newest). IsMaybeSound space sessions n y.answer) (sym e) (f a (inl refl)).answer
         | inr j ↦ g x j
@@ -106,11 +113,18 @@ module _ (space : Space) (sessions n : ℕ) where
             each-append IsSound servers (session_posts c.sessions (a_message.Install config))
             (
             each-map IsSound (to_server (a_message.Install config)) config.servers
-            (λ s i. to_server-sound (a_message.Install config) s (all-in (IsServerOf space) config.servers s of_space.of_space.servers i) refl (of_space.epoch, of_space.of_space))
+            (λ s i. to_server-sound (a_message.Install config) s
+            (all-in (IsServerOf space) config.servers s of_space.of_space.servers i) refl (of_space.epoch, of_space.of_space))
             )
             (
             each-map IsSound (λ k. post Coordinator (Session (record { 0 = k + 1 })) (a_message.Install config)) (below c.sessions)
-            (λ k i. let b = in-below c.sessions k i in let e = h.sessions_are in record { from = tt; to = (omega arith, omega (arith, b, e)); between = refl; message = (of_space.epoch, of_space.of_space) })
+            (λ k i. let b = in-below c.sessions k i in let e = h.sessions_are in
+            record {
+              from = tt;
+              to = (omega arith, omega (arith, b, e));
+              between = refl;
+              message = (of_space.epoch, of_space.of_space);
+            })
             )
             )
             (each-map IsSound (λ (x : Answered). outcome x.caller x.answer) answered (λ x i. outcome-sound x.caller x.answer (f x i).session (f x i).answer));
@@ -123,7 +137,9 @@ module _ (space : Space) (sessions n : ℕ) where
   -- ---- calls
 
   -- the number of a call
-  with_number-sound : (c : CoordinatorState) → IsSoundCoordinator space sessions n c → (caller : Caller) (answer : Option Answer) → IsMaybeSound space sessions n answer → IsSoundCoordinator space sessions n (with_number c caller answer)
+  with_number-sound : (c : CoordinatorState) → IsSoundCoordinator space sessions n c
+      → (caller : Caller) (answer : Option Answer) → IsMaybeSound space sessions n answer
+      → IsSoundCoordinator space sessions n (with_number c caller answer)
   with_number-sound c h caller answer a = record {
     config = h.config;
     todo = h.todo;
@@ -135,12 +151,16 @@ module _ (space : Space) (sessions n : ℕ) where
   }
 
   -- a call that is to be done
-  with_task-sound : (c : CoordinatorState) → IsSoundCoordinator space sessions n c → (caller : Caller) → IsSessionOf sessions caller.session → (op : Op) → Fits space op → IsSoundCoordinator space sessions n (with_task c caller op)
+  with_task-sound : (c : CoordinatorState) → IsSoundCoordinator space sessions n c → (caller : Caller)
+      → IsSessionOf sessions caller.session → (op : Op) → Fits space op
+      → IsSoundCoordinator space sessions n (with_task c caller op)
   with_task-sound c h caller session op fits =
       let a = with_number-sound c h caller None tt in
       record {
         config = h.config;
-        todo = each-append (IsSoundTask space sessions n) c.todo _ h.todo (each-one (IsSoundTask space sessions n) (record { caller = caller; op = op }) (record { session = session; fits = fits }));
+        todo = each-append (IsSoundTask space sessions n) c.todo _ h.todo
+            (each-one (IsSoundTask space sessions n) (record { caller = caller; op = op })
+            (record { session = session; fits = fits }));
         newest = a.newest;
         sessions_are = h.sessions_are;
       }
@@ -152,7 +172,8 @@ module _ (space : Space) (sessions n : ℕ) where
   install-sound c h = (h.sound.config.epoch, h.sound.config.of_space)
 
   -- who asks for the configuration may be told it
-  back : (epoch : Epoch) (config : Config) (a : Actor) → goes_between a Coordinator (a_message.Poll epoch) ≡ true → goes_between Coordinator a (a_message.Install config) ≡ true
+  back : (epoch : Epoch) (config : Config) (a : Actor) → goes_between a Coordinator (a_message.Poll epoch) ≡ true
+      → goes_between Coordinator a (a_message.Install config) ≡ true
   back epoch config Coordinator e = absurd (false≢true e)
   back epoch config (Server s) e = refl
   back epoch config (Session u) e = refl
@@ -167,7 +188,8 @@ module _ (space : Space) (sessions n : ℕ) where
   first_server ms = option_map (λ (x : Member). x.server) (first_of_list ms)
 
   -- it is a member's
-  first-server : (ms : List Member) → ((m : Member) → IsIn m ms → IsServerOf space m.server) → (s : ServerId) → IsIn s (list_of (first_server ms)) → IsServerOf space s
+  first-server : (ms : List Member) → ((m : Member) → IsIn m ms → IsServerOf space m.server) → (s : ServerId)
+      → IsIn s (list_of (first_server ms)) → IsServerOf space s
   first-server [] f s i = absurd i
   first-server (x ∷ xs) f s i = elim i [ inl e ↦ subst (IsServerOf space) (sym e) (f x (inl refl)) | inr j ↦ absurd j ]
 
@@ -188,7 +210,9 @@ module _ (space : Space) (sessions n : ℕ) where
   join-sound c h ms list =
       each-provided IsSound (any_ready ms && any_joining ms) _
       (each-map IsSound (to_server (a_message.Install c.config)) (last_ready_pair ms)
-      (λ s i. to_server-sound (a_message.Install c.config) s (pair-servers ms (λ x j. all-in (λ (y : Member). IsServerOf space y.server) ms x list.each j) s i) refl (install-sound c h)))
+      (λ s i. to_server-sound (a_message.Install c.config) s
+      (pair-servers ms (λ x j. all-in (λ (y : Member). IsServerOf space y.server) ms x list.each j) s i) refl
+      (install-sound c h)))
 
   -- a tick
   tick-good : (c : CoordinatorState) → Relies c → DoesWell (coordinator_tick c)
@@ -198,14 +222,19 @@ module _ (space : Space) (sessions n : ℕ) where
       (
       each-append IsSound dies (flat_map (join_posts c.config) c.config.regions)
       (each-flat IsSound (λ (t : Task). die_for t.op) c.todo (λ t i. die-sound t.op (h.sound.todo t i).fits))
-      (each-flat IsSound (join_posts c.config) c.config.regions (λ ms i. join-sound c h ms (all-in (IsListOf space) c.config.regions ms h.sound.config.of_space.each i)))
+      (each-flat IsSound (join_posts c.config) c.config.regions
+      (λ ms i. join-sound c h ms (all-in (IsListOf space) c.config.regions ms h.sound.config.of_space.each i)))
       )
 
   -- ---- each case
 
   -- an answer is told and kept
-  answers-good : (c : CoordinatorState) → Relies c → (caller : Caller) → IsSessionOf sessions caller.session → (a : Answer) → IsSoundAnswer (bounds space sessions n) a → DoesWell (telling (with_number c caller (Some a)) (outcome caller a ∷ []))
-  answers-good c h caller session a sound = telling-good (with_number c caller (Some a)) (with_number-sound c h.sound caller (Some a) sound) _ (each-one IsSound (outcome caller a) (outcome-sound caller a session sound))
+  answers-good : (c : CoordinatorState) → Relies c → (caller : Caller) → IsSessionOf sessions caller.session
+      → (a : Answer) → IsSoundAnswer (bounds space sessions n) a
+      → DoesWell (telling (with_number c caller (Some a)) (outcome caller a ∷ []))
+  answers-good c h caller session a sound = telling-good (with_number c caller (Some a))
+      (with_number-sound c h.sound caller (Some a) sound) _
+      (each-one IsSound (outcome caller a) (outcome-sound caller a session sound))
 
   -- each input of the coordinator
   pub coordinator-good : (c : CoordinatorState) → Relies c → (input : Input)
@@ -216,20 +245,33 @@ module _ (space : Space) (sessions n : ℕ) where
     ticks = tick-good c h;
     polled = λ id from epoch i. (let a = f id from (a_message.Poll epoch) i in
         telling-good c h.sound _ (each-one IsSound (post Coordinator from (a_message.Install c.config))
-        (record { from = tt; to = exists-up space sessions a.0 n from a.1.from; between = back epoch c.config from a.1.between; message = install-sound c h })));
-    gone = λ id s i. issue-good c h.sound (config_without c.config s) (record { of_space = config_without-sound space c.config s h.sound.config.of_space; epoch = next-epoch c h })
-        _ (stops-answered space sessions n (config_without c.config s) s (next-epoch c h) c.todo h.sound.todo) (stops_left s c.todo) (stops-left space sessions n s c.todo h.sound.todo);
-    ready = λ id s epoch g i l. issue-good c h.sound (config_ready c.config s g) (record { of_space = config_ready-sound space c.config h.sound.config.of_space s g; epoch = next-epoch c h })
+        (record {
+          from = tt;
+          to = exists-up space sessions a.0 n from a.1.from;
+          between = back epoch c.config from a.1.between;
+          message = install-sound c h;
+        })));
+    gone = λ id s i. issue-good c h.sound (config_without c.config s)
+        (record { of_space = config_without-sound space c.config s h.sound.config.of_space; epoch = next-epoch c h })
+        _ (stops-answered space sessions n (config_without c.config s) s (next-epoch c h) c.todo h.sound.todo)
+        (stops_left s c.todo) (stops-left space sessions n s c.todo h.sound.todo);
+    ready = λ id s epoch g i l. issue-good c h.sound (config_ready c.config s g)
+        (record { of_space = config_ready-sound space c.config h.sound.config.of_space s g; epoch = next-epoch c h })
         [] (λ a i. absurd i) c.todo h.sound.todo;
     told = λ id u number m x a i j s q e. telling-good c h.sound _
-        (each-one IsSound (outcome (call_by u number) a) (outcome-sound (call_by u number) a (session id u m i) (subst (IsMaybeSound space sessions n) e (h.sound.newest x j))));
+        (each-one IsSound (outcome (call_by u number) a)
+        (outcome-sound (call_by u number) a (session id u m i)
+        (subst (IsMaybeSound space sessions n) e (h.sound.newest x j))));
     dies = λ id u number s i. telling-good (with_task c (call_by u number) (Stop s))
-        (with_task-sound c h.sound (call_by u number) (session id u (a_message.StopServer number s) i) (Stop s) (f id (Session u) (a_message.StopServer number s) i).1.message) _
+        (with_task-sound c h.sound (call_by u number) (session id u (a_message.StopServer number s) i) (Stop s)
+        (f id (Session u) (a_message.StopServer number s) i).1.message) _
         (each-one IsSound (to_server a_message.Die s) (to_server-sound a_message.Die s (f id (Session u) (a_message.StopServer number s) i).1.message refl tt));
-    stopped = λ id u number s i t. answers-good c h (call_by u number) (session id u (a_message.StopServer number s) i) (an_answer.Stopped c.config.epoch) (tt, h.sound.config.epoch);
+    stopped = λ id u number s i t. answers-good c h (call_by u number)
+        (session id u (a_message.StopServer number s) i) (an_answer.Stopped c.config.epoch) (tt, h.sound.config.epoch);
     refused = λ id u number s g a i e. answers-good c h (call_by u number) (session id u (a_message.AddReplica number s g) i) a
         (subst (JudgedWell space sessions n c.config s g) e (judged-sound space sessions n c.config s g h.sound.config.epoch));
-    joined = λ id u number s g i e. issue-good (with_number c (call_by u number) None) (with_number-sound c h.sound (call_by u number) None tt) (config_with c.config s g)
+    joined = λ id u number s g i e. issue-good (with_number c (call_by u number) None)
+        (with_number-sound c h.sound (call_by u number) None tt) (config_with c.config s g)
         (record {
           of_space = config_with-sound space c.config h.sound.config.of_space s g (f id (Session u) (a_message.AddReplica number s g) i).1.message.0
               (subst (JudgedWell space sessions n c.config s g) e (judged-sound space sessions n c.config s g h.sound.config.epoch));

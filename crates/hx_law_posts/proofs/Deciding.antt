@@ -32,7 +32,9 @@ module _ (space : Space) (valid : IsSpace space) (sessions n : ℕ) (config : Co
 
   -- what is granted through such places
   granted-sound : (e : Effect) → IsMaybeObjectOf space e.object → IsAnswerOf space e.answer → AnswerUpTo (n + 1) e.answer
-      → (changes : _) (touches : _) → (new : Option (List Value)) → ArePlaced space valid t.base.key old new touches (top_of t) (places_of space t.base.key old new changes (top_of t) touches)
+      → (changes : _) (touches : _) → (new : Option (List Value))
+      → ArePlaced space valid t.base.key old new touches (top_of t)
+      (places_of space t.base.key old new changes (top_of t) touches)
       → IsSoundAt space sessions n region (granted t caller e (places_of space t.base.key old new changes (top_of t) touches)) × (top_of t < top_of t + 1)
   granted-sound e object answer small changes touches new p = (
     record {
@@ -75,7 +77,8 @@ module _ (space : Space) (valid : IsSpace space) (sessions n : ℕ) (config : Co
     assigned-sound : IsSoundDecision space sessions n region t (a_decision.Assign (assigned space config region t caller op))
     assigned-sound =
         let e = effect-sound space old op (latest-sound space sessions n region t h) fits in
-        when_some_both (first_lost config places) (granted t caller effect places) (λ (g : RegionId). let r = refusal space config t old g in granted t caller r.0 r.1)
+        when_some_both (first_lost config places) (granted t caller effect places)
+        (λ (g : RegionId). let r = refusal space config t old g in granted t caller r.0 r.1)
         (λ (u : Update). IsSoundAt space sessions n region u × (top_of t < u.version.0))
         (λ q. granted-sound effect e.0 e.1 (e.2 (n + 1)) effect.changes (touches_of t) effect.object write-placed)
         (
@@ -87,7 +90,8 @@ module _ (space : Space) (valid : IsSpace space) (sessions n : ℕ) (config : Co
     -- stuck, or assigned
     fresh-sound : IsSoundDecision space sessions n region t (fresh space config region t caller op)
     fresh-sound =
-        when_some_both (stuck_of config t) (a_decision.Assign (assigned space config region t caller op)) (λ (x : StuckAt). a_decision.Stuck x.region) (IsSoundDecision space sessions n region t)
+        when_some_both (stuck_of config t) (a_decision.Assign (assigned space config region t caller op))
+        (λ (x : StuckAt). a_decision.Stuck x.region) (IsSoundDecision space sessions n region t)
         (λ e. assigned-sound)
         (λ x e. stuck-region-of x e)
       where
@@ -107,7 +111,8 @@ module _ (space : Space) (valid : IsSpace space) (sessions n : ℕ) (config : Co
             (
             λ a. cond_both (eqb m.number caller.number) _ (fresh space config region t caller op) (IsSoundDecision space sessions n region t)
             (
-            λ b. cond_both (leb m.version.0 t.floor) (a_decision.Again m.version m.answer) (a_decision.Wait m.version) (IsSoundDecision space sessions n region t)
+            λ b. cond_both (leb m.version.0 t.floor) (a_decision.Again m.version m.answer) (a_decision.Wait m.version)
+            (IsSoundDecision space sessions n region t)
             (λ c. (k.version, (k.of_space, k.answer)))
             (λ c. k.version)
             )
@@ -115,8 +120,11 @@ module _ (space : Space) (valid : IsSpace space) (sessions n : ℕ) (config : Co
             )
 
 -- the decision at the region of the key
-pub decide-at : (space : Space) (valid : IsSpace space) (sessions n : ℕ) (config : Config) → IsSoundConfig space n config → (g : RegionId) (t : KeyState) → key_region space t.base.key ≡ g
-    → IsSoundSlot space sessions n g t → top_of t < n → (caller : Caller) → IsSessionOf sessions caller.session → (op : Op) → Fits space op → IsSoundDecision space sessions n g t (decide space config g t caller op)
+pub decide-at : (space : Space) (valid : IsSpace space) (sessions n : ℕ) (config : Config)
+    → IsSoundConfig space n config → (g : RegionId) (t : KeyState) → key_region space t.base.key ≡ g
+    → IsSoundSlot space sessions n g t → top_of t < n → (caller : Caller) → IsSessionOf sessions caller.session
+    → (op : Op) → Fits space op → IsSoundDecision space sessions n g t (decide space config g t caller op)
 decide-at space valid sessions n config sound_config g t e h low caller session op fits =
     subst (λ (k : RegionId). IsSoundDecision space sessions n k t (decide space config k t caller op)) e
-    (decide-sound space valid sessions n config sound_config t (subst (λ (k : RegionId). IsSoundSlot space sessions n k t) (sym e) h) low caller session op fits)
+    (decide-sound space valid sessions n config sound_config t
+    (subst (λ (k : RegionId). IsSoundSlot space sessions n k t) (sym e) h) low caller session op fits)

@@ -20,7 +20,8 @@ first-member (m ∷ rest) s e = (m, inl refl, let q : m.server ≡ s = cc in q)
 after-member : (s : ServerId) (members : List Member) (x : ServerId) → member_after s members ≡ Some x → IsMember members x
 after-member s [] x = λ e. absurd (cc)
 after-member s (m ∷ rest) x =
-    cond_both (same_server m.server s) (option_map (λ (y : Member). y.server) (first_of_list rest)) (member_after s rest) (λ o. o ≡ Some x → IsMember (m ∷ rest) x)
+    cond_both (same_server m.server s) (option_map (λ (y : Member). y.server) (first_of_list rest))
+    (member_after s rest) (λ o. o ≡ Some x → IsMember (m ∷ rest) x)
     (λ t e. let r = by rest e in (r.0, inr r.1, r.2))
     (λ t e. let r = after-member s rest x e in (r.0, inr r.1, r.2))
   where
@@ -29,7 +30,8 @@ after-member s (m ∷ rest) x =
     by (y ∷ ys) e = (y, inl refl, let q : y.server ≡ x = cc in q)
 
 -- the member before a server, or what was found before the list
-before-member : (found : Option ServerId) (s : ServerId) (members : List Member) (x : ServerId) → member_before found s members ≡ Some x → (found ≡ Some x) ⊎ IsMember members x
+before-member : (found : Option ServerId) (s : ServerId) (members : List Member) (x : ServerId)
+    → member_before found s members ≡ Some x → (found ≡ Some x) ⊎ IsMember members x
 before-member found s [] x = λ e. absurd (cc)
 before-member found s (m ∷ rest) x =
     cond_both (same_server m.server s) found (member_before (Some m.server) s rest) (λ o. o ≡ Some x → (found ≡ Some x) ⊎ IsMember (m ∷ rest) x)
@@ -75,18 +77,22 @@ module _ (space : Space) (config : Config) (of_space : IsConfigOf space config) 
   hop-at n (Some s) x m e = (let q : s ≡ x = cc in ap Some q, cc)
 
   -- a hop into a place from the front
-  enters-reaches : (places : List Place) (n : ℕ) (o : Option Place) → slice_get places n ≡ o → (x : ServerId) (m : ℕ) → enters config n o ≡ At x m → Reaches space places x m
+  enters-reaches : (places : List Place) (n : ℕ) (o : Option Place) → slice_get places n ≡ o → (x : ServerId) (m : ℕ)
+      → enters config n o ≡ At x m → Reaches space places x m
   enters-reaches places n None f x m = λ e. absurd (cc)
   enters-reaches places n (Some p) f x m =
       cond_both (is_lost config p.region) (Blocked p.region) (hop_at n (head_of config p.region)) (λ h. h ≡ At x m → Reaches space places x m)
       (λ t e. absurd (cc))
-      (λ t e. let h = hop-at n (head_of config p.region) x m e in record { place = p; at = ap (slice_get places) (sym h.1) ∙ f; server = head-server p.region x h.0 })
+      (λ t e. let h = hop-at n (head_of config p.region) x m e in
+      record { place = p; at = ap (slice_get places) (sym h.1) ∙ f; server = head-server p.region x h.0 })
 
   -- a hop into a place from the back
-  enters_last-reaches : (places : List Place) (n : ℕ) (o : Option Place) → slice_get places n ≡ o → (x : ServerId) (m : ℕ) → enters_last config n o ≡ At x m → Reaches space places x m
+  enters_last-reaches : (places : List Place) (n : ℕ) (o : Option Place) → slice_get places n ≡ o
+      → (x : ServerId) (m : ℕ) → enters_last config n o ≡ At x m → Reaches space places x m
   enters_last-reaches places n None f x m = λ e. absurd (cc)
   enters_last-reaches places n (Some p) f x m =
-      cond_both (is_lost config p.region) (Blocked p.region) (hop_at n (last_member None (members_of config p.region))) (λ h. h ≡ At x m → Reaches space places x m)
+      cond_both (is_lost config p.region) (Blocked p.region)
+      (hop_at n (last_member None (members_of config p.region))) (λ h. h ≡ At x m → Reaches space places x m)
       (λ t e. absurd (cc))
       (
       λ t e. let h = hop-at n (last_member None (members_of config p.region)) x m e in
@@ -123,4 +129,5 @@ module _ (space : Space) (config : Config) (of_space : IsConfigOf space config) 
     where
       by : (n : ℕ) → enters_last config (n - 1) (preceding_place places n) ≡ At x m → Reaches space places x m
       by zero e = absurd (cc)
-      by (suc k) e = enters_last-reaches places k (slice_get places k) refl x m (subst (λ i. enters_last config i (slice_get places k) ≡ At x m) (let q : suc k - 1 ≡ k = omega arith in q) e)
+      by (suc k) e = enters_last-reaches places k (slice_get places k) refl x m
+          (subst (λ i. enters_last config i (slice_get places k) ≡ At x m) (let q : suc k - 1 ≡ k = omega arith in q) e)

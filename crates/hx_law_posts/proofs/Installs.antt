@@ -41,16 +41,21 @@ module _ (space : Space) (sessions n : ℕ) (s : ServerId) (st : ServerState) (r
     passed-sound : (t : KeyState) → IsIn t r.states → (p : Post) → IsIn p (flat_map (passed_on context) (pending_of t)) → IsSound p
     passed-sound t j p k =
         let b = in-flat_map (passed_on context) (pending_of t) p k in
-        update_to-sound space sessions n context (here space sessions n s st relies r i) b.0 (pending-sound space sessions n r.region t ((relies.sound.replicas r i).slots t j) b.0 b.1).sound p b.2
+        update_to-sound space sessions n context (here space sessions n s st relies r i) b.0
+        (pending-sound space sessions n r.region t ((relies.sound.replicas r i).slots t j) b.0 b.1).sound p b.2
 
     -- what is posted of an active replica: of its snapshot, of its slots, and that it is ready
-    of-all : (ps : List Post) → ((p : Post) → IsIn p ps → IsSound p) → (p : Post) → IsIn p (provided (is_active st.config r) (snap_posts st r ++ ps ++ ready_post st r.region)) → IsSound p
+    of-all : (ps : List Post) → ((p : Post) → IsIn p ps → IsSound p) → (p : Post)
+        → IsIn p (provided (is_active st.config r) (snap_posts st r ++ ps ++ ready_post st r.region)) → IsSound p
     of-all ps f = each-provided IsSound (is_active st.config r) _
-        (each-append IsSound (snap_posts st r ++ ps) (ready_post st r.region) (each-append IsSound (snap_posts st r) ps (snap-sound space sessions n s st relies r i) f) (ready-sound space sessions n s st relies r i))
+        (each-append IsSound (snap_posts st r ++ ps) (ready_post st r.region)
+        (each-append IsSound (snap_posts st r) ps (snap-sound space sessions n s st relies r i) f)
+        (ready-sound space sessions n s st relies r i))
 
     -- what is sent again on a tick
     tick-sound : (p : Post) → IsIn p (replica_tick space st r) → IsSound p
-    tick-sound = of-all (pending_posts context r.states) (each-flat IsSound (λ (t : KeyState). flat_map (passed_on context) (pending_of t)) r.states passed-sound)
+    tick-sound = of-all (pending_posts context r.states)
+        (each-flat IsSound (λ (t : KeyState). flat_map (passed_on context) (pending_of t)) r.states passed-sound)
 
     -- a slot goes on
     resumed-sound : (t : KeyState) → IsIn t r.states → IsSoundSlot space sessions n r.region (moved_all (resumed context t) t)
@@ -61,12 +66,14 @@ module _ (space : Space) (sessions n : ℕ) (s : ServerId) (st : ServerState) (r
     -- what is posted of a slot that goes on
     resumed-posts : (t : KeyState) → IsIn t r.states → (p : Post) → IsIn p (resumed_posts context t) → IsSound p
     resumed-posts t j =
-        each-append IsSound (flat_map (passed_on context) (pending_of t) ++ flat_map (move_posts context) (resumed context t)) (leader_doubts context (moved_all (resumed context t) t))
+        each-append IsSound (flat_map (passed_on context) (pending_of t)
+        ++ flat_map (move_posts context) (resumed context t)) (leader_doubts context (moved_all (resumed context t) t))
         (
         each-append IsSound (flat_map (passed_on context) (pending_of t)) (flat_map (move_posts context) (resumed context t)) (passed-sound t j)
         (
         moves-sound space sessions n context (here space sessions n s st relies r i) (together [] t)
-        (λ u x. (together-sound space sessions n r.region [] (λ v y. absurd y) t ((relies.sound.replicas r i).slots t j) u x).sound) (resumed context t) (resumed-known context t)
+        (λ u x. (together-sound space sessions n r.region [] (λ v y. absurd y) t
+        ((relies.sound.replicas r i).slots t j) u x).sound) (resumed context t) (resumed-known context t)
         )
         )
         (leader-sound space sessions n context (here space sessions n s st relies r i) r.region (moved_all (resumed context t) t) (resumed-sound t j))
@@ -78,21 +85,31 @@ module _ (space : Space) (sessions n : ℕ) (s : ServerId) (st : ServerState) (r
     -- a slot of an adopted replica
     adopted-slot : (b : Bool) (t : KeyState) → IsIn t r.states → IsSoundSlot space sessions n r.region (adopted_state context b t)
     adopted-slot true t j = resumed-sound t j
-    adopted-slot false t j = let h = (relies.sound.replicas r i).slots t j in record { base = h.base; ordered = record { descends = h.ordered.descends; floor = h.ordered.floor }; floor = h.floor; accepted = h.accepted; early = λ u k. absurd k }
+    adopted-slot false t j = let h = (relies.sound.replicas r i).slots t j in
+        record {
+          base = h.base;
+          ordered = record { descends = h.ordered.descends; floor = h.ordered.floor };
+          floor = h.floor;
+          accepted = h.accepted;
+          early = λ u k. absurd k;
+        }
 
     -- an adopted replica
     adopted-sound : IsSoundReplica space sessions n (adopted_replica space st r)
     adopted-sound = record {
       region = (relies.sound.replicas r i).region;
-      slots = λ t j. (let m = in-map (adopted_state context (is_active st.config r)) r.states t j in subst (IsSoundSlot space sessions n r.region) (sym m.2) (adopted-slot (is_active st.config r) m.0 m.1));
-      ascend = map-ascends state_key state_key (adopted_state context (is_active st.config r)) (adopted-key context (is_active st.config r)) r.states (relies.sound.replicas r i).ascend;
+      slots = λ t j. (let m = in-map (adopted_state context (is_active st.config r)) r.states t j in
+          subst (IsSoundSlot space sessions n r.region) (sym m.2) (adopted-slot (is_active st.config r) m.0 m.1));
+      ascend = map-ascends state_key state_key (adopted_state context (is_active st.config r))
+          (adopted-key context (is_active st.config r)) r.states (relies.sound.replicas r i).ascend;
     }
 
   -- a tick
   pub tick-good : DoesWell space sessions n s (tick_step space st)
   tick-good =
       saying-good space sessions n s st relies (asking_last st (flat_map (replica_tick space st) st.replicas))
-      (asking-sound space sessions n s st relies (flat_map (replica_tick space st) st.replicas) (each-flat IsSound (replica_tick space st) st.replicas tick-sound))
+      (asking-sound space sessions n s st relies (flat_map (replica_tick space st) st.replicas)
+      (each-flat IsSound (replica_tick space st) st.replicas tick-sound))
 
   -- the configuration of a server is adopted
   pub adopted-good : DoesWell space sessions n s (adopted space st)
@@ -123,7 +140,8 @@ module _ (space : Space) (sessions n : ℕ) (s : ServerId) (st : ServerState) (r
 
       kept-or-new : (g : RegionId) → IsRegionOf space g → IsSoundReplica space sessions n (replica_or_new st.replicas g)
       kept-or-new g region =
-          when_some_both (replica_of g st.replicas) (record { region = g; installed = false; states = [] }) (λ (r : Replica). r) (IsSoundReplica space sessions n)
+          when_some_both (replica_of g st.replicas) (record { region = g; installed = false; states = [] })
+          (λ (r : Replica). r) (IsSoundReplica space sessions n)
           (λ e. record { region = region; slots = λ t i. absurd i; ascend = tt })
           (λ r e. relies.sound.replicas r (replica-found g st.replicas r e).0)
 

@@ -67,10 +67,11 @@ set-sound : (space : Space) (config : Config) → IsConfigOf space config → (g
 set-sound space config h g ms next servers regions list = record {
   servers = subst (All (IsServerOf space)) (sym servers) h.servers;
   count = ap length regions ∙ count-slice_set config.regions g.0 ms ∙ h.count;
-  each = subst (All (IsListOf space)) (sym regions) (all-of (IsListOf space) (slice_set config.regions g.0 ms) (λ xs i. elim (in-slice_set config.regions g.0 ms xs i) [
-    | inl e ↦ subst (IsListOf space) (sym e) list
-    | inr j ↦ all-in (IsListOf space) config.regions xs h.each j
-  ]));
+  each = subst (All (IsListOf space)) (sym regions)
+      (all-of (IsListOf space) (slice_set config.regions g.0 ms) (λ xs i. elim (in-slice_set config.regions g.0 ms xs i) [
+        | inl e ↦ subst (IsListOf space) (sym e) list
+        | inr j ↦ all-in (IsListOf space) config.regions xs h.each j
+      ]));
 }
 
 -- ---- a server joins a region
@@ -86,20 +87,27 @@ no-member : (config : Config) (s : ServerId) (g : RegionId) → MayJoin config s
 no-member config s g h m i e = by m.ready refl
   where
     by : (b : Bool) → m.ready ≡ b → ⊥
-    by true r = false≢true (sym h.not_ready ∙ any-of (λ (x : Member). same_server x.server s && x.ready) (members_of config g) m i (and_from (same_server m.server s) m.ready (eq-eqb m.server.0 s.0 e) r))
+    by true r = false≢true (sym h.not_ready ∙ any-of (λ (x : Member). same_server x.server s && x.ready)
+        (members_of config g) m i (and_from (same_server m.server s) m.ready (eq-eqb m.server.0 s.0 e) r))
     by false r = false≢true (sym h.none_joining ∙ any-of (λ (x : Member). not x.ready) (members_of config g) m i (ap not r))
 
 -- the configuration with a server appended to a region
-pub config_with-sound : (space : Space) (config : Config) → IsConfigOf space config → (s : ServerId) (g : RegionId) → IsServerOf space s → MayJoin config s g → IsConfigOf space (config_with config s g)
-config_with-sound space config h s g exists may = set-sound space config h g (members_of config g ++ record { server = s; ready = false } ∷ []) (config_with config s g) refl refl longer
+pub config_with-sound : (space : Space) (config : Config) → IsConfigOf space config → (s : ServerId) (g : RegionId)
+    → IsServerOf space s → MayJoin config s g → IsConfigOf space (config_with config s g)
+config_with-sound space config h s g exists may =
+    set-sound space config h g (members_of config g ++ record { server = s; ready = false } ∷ [])
+    (config_with config s g) refl refl longer
   where
     before : IsListOf space (members_of config g)
     before = members-list space config h g
 
     longer : IsListOf space (members_of config g ++ record { server = s; ready = false } ∷ [])
     longer = record {
-      each = all-of (λ (m : Member). IsServerOf space m.server) (members_of config g ++ record { server = s; ready = false } ∷ []) (each-append (λ (x : Member). IsServerOf space x.server) (members_of config g) _
-          (λ m i. all-in (λ (x : Member). IsServerOf space x.server) (members_of config g) m before.each i) (each-one (λ (x : Member). IsServerOf space x.server) (record { server = s; ready = false }) exists));
+      each = all-of (λ (m : Member). IsServerOf space m.server)
+          (members_of config g ++ record { server = s; ready = false } ∷ [])
+          (each-append (λ (x : Member). IsServerOf space x.server) (members_of config g) _
+          (λ m i. all-in (λ (x : Member). IsServerOf space x.server) (members_of config g) m before.each i)
+          (each-one (λ (x : Member). IsServerOf space x.server) (record { server = s; ready = false }) exists));
       once = subst AllDiffer (sym (map-append server_number (members_of config g) (record { server = s; ready = false } ∷ [])))
           (differ-append (map server_number (members_of config g)) (s.0 ∷ []) before.once (All-nil _, tt)
           (λ x y i j. elim j [
@@ -116,10 +124,13 @@ ready-servers s [] = refl
 ready-servers s (m ∷ ms) = ap (λ (l : List ℕ). m.server.0 ∷ l) (ready-servers s ms)
 
 -- the configuration with a server ready in a region
-pub config_ready-sound : (space : Space) (config : Config) → IsConfigOf space config → (s : ServerId) (g : RegionId) → IsConfigOf space (config_ready config s g)
+pub config_ready-sound : (space : Space) (config : Config) → IsConfigOf space config → (s : ServerId) (g : RegionId)
+    → IsConfigOf space (config_ready config s g)
 config_ready-sound space config h s g = set-sound space config h g (map (ready_if s) (members_of config g)) (config_ready config s g) refl refl (record {
-  each = all-of (λ (m : Member). IsServerOf space m.server) (map (ready_if s) (members_of config g)) (λ x i. (let a = in-map (ready_if s) (members_of config g) x i in
-      subst (λ (m : Member). IsServerOf space m.server) (sym a.2) (all-in (λ (m : Member). IsServerOf space m.server) (members_of config g) a.0 before.each a.1)));
+  each = all-of (λ (m : Member). IsServerOf space m.server) (map (ready_if s) (members_of config g))
+      (λ x i. (let a = in-map (ready_if s) (members_of config g) x i in
+      subst (λ (m : Member). IsServerOf space m.server) (sym a.2)
+      (all-in (λ (m : Member). IsServerOf space m.server) (members_of config g) a.0 before.each a.1)));
   once = subst AllDiffer (sym (ready-servers s (members_of config g))) before.once;
 })
   where
@@ -149,7 +160,9 @@ module _ (space : Space) (sessions n : ℕ) where
       by (server_in s config.servers) refl (is_lost config g) (lists_ready config g s) refl (any_joining (members_of config g)) refl
     where
       by : (a : Bool) → server_in s config.servers ≡ a → (b c : Bool) → lists_ready config g s ≡ c → (d : Bool) → any_joining (members_of config g) ≡ d
-          → JudgedWell config s g (cond (not a) (Some (an_answer.Stopped config.epoch)) (cond b (Some (an_answer.Lost config.epoch)) (cond c (Some (an_answer.Member config.epoch)) (cond d (Some (an_answer.Joining config.epoch)) None))))
+          → JudgedWell config s g (cond (not a) (Some (an_answer.Stopped config.epoch))
+          (cond b (Some (an_answer.Lost config.epoch))
+          (cond c (Some (an_answer.Member config.epoch)) (cond d (Some (an_answer.Joining config.epoch)) None))))
       by false p b c q d r = (tt, e)
       by true p true c q d r = (tt, e)
       by true p false true q d r = (tt, e)

@@ -49,17 +49,24 @@ module _ (space : Space) (sessions n : ℕ) (g : RegionId) where
   row-of_update v u h l =
       by u.object h.sound.of_space.object
     where
-      by : (o : Option (List Value)) → IsMaybeObjectOf space o → IsMaybeRowUpTo space v (option_map (λ (object : List Value). record { key = u.key; version = u.version; object = object }) o)
+      by : (o : Option (List Value)) → IsMaybeObjectOf space o
+          → IsMaybeRowUpTo space v (option_map (λ (object : List Value). record {
+            key = u.key;
+            version = u.version;
+            object = object;
+          }) o)
       by None q = tt
       by (Some object) q = (record { key = h.sound.of_space.key; object = q }, l)
 
   -- the row that is kept after such updates
-  kept-row : (v : ℕ) (base : Option Row) → IsMaybeRowUpTo space v base → (us : List Update) → ((u : Update) → IsIn u us → IsAt u × (u.version.0 ≤ v)) → IsMaybeRowUpTo space v (kept_row g base us)
+  kept-row : (v : ℕ) (base : Option Row) → IsMaybeRowUpTo space v base → (us : List Update)
+      → ((u : Update) → IsIn u us → IsAt u × (u.version.0 ≤ v)) → IsMaybeRowUpTo space v (kept_row g base us)
   kept-row v base h [] f = h
   kept-row v base h (u ∷ us) f =
       by (keeps_at g u) u.changes (kept-row v base h us (λ w i. f w (inr i))) (let a = f u (inl refl) in row-of_update v u a.0 a.1)
     where
-      by : (k c : Bool) → IsMaybeRowUpTo space v (kept_row g base us) → IsMaybeRowUpTo space v (row_of u) → IsMaybeRowUpTo space v (cond k (cond c (row_of u) (kept_row g base us)) None)
+      by : (k c : Bool) → IsMaybeRowUpTo space v (kept_row g base us) → IsMaybeRowUpTo space v (row_of u)
+          → IsMaybeRowUpTo space v (cond k (cond c (row_of u) (kept_row g base us)) None)
       by true true r q = q
       by true false r q = r
       by false c r q = tt
@@ -81,11 +88,17 @@ module _ (space : Space) (sessions n : ℕ) (g : RegionId) where
   with_mark-sound : (v : ℕ) (m : Mark) (ms : List Mark) → IsSoundMark v m → AreSoundMarks v ms → AreSoundMarks v (with_mark m ms)
   with_mark-sound v m [] h f = λ x i. elim i [ inl e ↦ subst (IsSoundMark v) (sym e) h | inr j ↦ absurd j ]
   with_mark-sound v m (x ∷ rest) h f =
-      cond_both (ltb m.session.0 x.session.0) (m ∷ x ∷ rest) (cond (same_session m.session x.session) ((cond (ltb m.number x.number) x m) ∷ rest) (x ∷ with_mark m rest)) (AreSoundMarks v)
+      cond_both (ltb m.session.0 x.session.0) (m ∷ x ∷ rest)
+      (cond (same_session m.session x.session) ((cond (ltb m.number x.number) x m) ∷ rest) (x ∷ with_mark m rest))
+      (AreSoundMarks v)
       (λ a y i. elim i [ inl e ↦ subst (IsSoundMark v) (sym e) h | inr j ↦ f y j ])
       (
       λ a. cond_both (same_session m.session x.session) ((cond (ltb m.number x.number) x m) ∷ rest) (x ∷ with_mark m rest) (AreSoundMarks v)
-      (λ b y i. elim i [ inl e ↦ subst (IsSoundMark v) (sym e) (cond_both (ltb m.number x.number) x m (IsSoundMark v) (λ c. f x (inl refl)) (λ c. h)) | inr j ↦ f y (inr j) ])
+      (λ b y i. elim i [
+        | inl e ↦ subst (IsSoundMark v) (sym e)
+            (cond_both (ltb m.number x.number) x m (IsSoundMark v) (λ c. f x (inl refl)) (λ c. h))
+        | inr j ↦ f y (inr j)
+      ])
       (λ b y i. elim i [ inl e ↦ f y (inl e) | inr j ↦ with_mark-sound v m rest h (λ z k. f z (inr k)) y j ])
       )
 
@@ -94,9 +107,11 @@ module _ (space : Space) (sessions n : ℕ) (g : RegionId) where
   mark-of_update v u h l = record { version = l; of_space = h.sound.of_space.answer; session = h.sound.session; answer = h.sound.answer }
 
   -- the marks after updates
-  pub marks-sound : (v : ℕ) (base : List Mark) → AreSoundMarks v base → (us : List Update) → ((u : Update) → IsIn u us → IsAt u × (u.version.0 ≤ v)) → AreSoundMarks v (marks_after base us)
+  pub marks-sound : (v : ℕ) (base : List Mark) → AreSoundMarks v base → (us : List Update)
+      → ((u : Update) → IsIn u us → IsAt u × (u.version.0 ≤ v)) → AreSoundMarks v (marks_after base us)
   marks-sound v base h [] f = h
-  marks-sound v base h (u ∷ us) f = with_mark-sound v (mark_by u) (marks_after base us) (let a = f u (inl refl) in mark-of_update v u a.0 a.1) (marks-sound v base h us (λ w i. f w (inr i)))
+  marks-sound v base h (u ∷ us) f = with_mark-sound v (mark_by u) (marks_after base us) (let a = f u (inl refl) in
+      mark-of_update v u a.0 a.1) (marks-sound v base h us (λ w i. f w (inr i)))
 
   -- ---- touches
 
@@ -122,18 +137,23 @@ module _ (space : Space) (sessions n : ℕ) (g : RegionId) where
       )
 
   -- the touches of an update's places
-  with_touches-sound : (v : ℕ) (version : Version) → version.0 ≤ v → (ps : List Place) → ((p : Place) → IsIn p ps → IsRegionOf space p.region) → (ts : List Touch) → AreSoundTouches v ts → AreSoundTouches v (with_touches version ps ts)
+  with_touches-sound : (v : ℕ) (version : Version) → version.0 ≤ v → (ps : List Place)
+      → ((p : Place) → IsIn p ps → IsRegionOf space p.region) → (ts : List Touch) → AreSoundTouches v ts
+      → AreSoundTouches v (with_touches version ps ts)
   with_touches-sound v version l [] h ts f = f
   with_touches-sound v version l (p ∷ ps) h ts f =
       with_touches-sound v version l ps (λ q i. h q (inr i)) (with_touch (record { region = p.region; version = version }) ts)
       (with_touch-sound v (record { region = p.region; version = version }) ts (record { version = l; region = h p (inl refl) }) f)
 
   -- the touches after updates
-  pub touches-sound : (v : ℕ) (base : List Touch) → AreSoundTouches v base → (us : List Update) → ((u : Update) → IsIn u us → IsAt u × (u.version.0 ≤ v)) → AreSoundTouches v (touches_after base us)
+  pub touches-sound : (v : ℕ) (base : List Touch) → AreSoundTouches v base → (us : List Update)
+      → ((u : Update) → IsIn u us → IsAt u × (u.version.0 ≤ v)) → AreSoundTouches v (touches_after base us)
   touches-sound v base h [] f = h
   touches-sound v base h (u ∷ us) f =
       let a = f u (inl refl) in
-      with_touches-sound v u.version a.1 u.places (λ p i. all-in (λ (x : Place). IsRegionOf space x.region) u.places p a.0.sound.of_space.regions i) (touches_after base us) (touches-sound v base h us (λ w i. f w (inr i)))
+      with_touches-sound v u.version a.1 u.places (λ p i. all-in
+      (λ (x : Place). IsRegionOf space x.region) u.places p a.0.sound.of_space.regions i) (touches_after base us)
+      (touches-sound v base h us (λ w i. f w (inr i)))
 
 -- ---- the order of marks and touches
 
@@ -169,7 +189,10 @@ put-ascends k (x ∷ rest) h =
     cond_both (ltb k x) (k ∷ x ∷ rest) (cond (eqb k x) (x ∷ rest) (x ∷ put_in k rest)) IsAscending
     (
     λ a. let l = ltb-true k x a in (
-      all-of (λ m. k < m) (x ∷ rest) (λ m i. elim i [ inl e ↦ omega (arith, l, e) | inr j ↦ (let r = all-in (λ y. x < y) rest m h.0 j in omega (arith, l, r)) ]),
+      all-of (λ m. k < m) (x ∷ rest) (λ m i. elim i [
+        | inl e ↦ omega (arith, l, e)
+        | inr j ↦ (let r = all-in (λ y. x < y) rest m h.0 j in omega (arith, l, r))
+      ]),
       h,
     )
     )
@@ -179,7 +202,12 @@ put-ascends k (x ∷ rest) h =
     (
     λ b. (
       all-of (λ m. x < m) (put_in k rest) (λ m i. elim (in-put k rest m i) [
-        | inl e ↦ (let l = ltb-false k x a in let n = eqb-false k x b in elim (cases_order k x) [ inl q ↦ absurd (n q) | inr (inl q) ↦ absurd (omega (arith, q, l)) | inr (inr q) ↦ omega (arith, q, e) ])
+        | inl e ↦ (let l = ltb-false k x a in let n = eqb-false k x b in
+            elim (cases_order k x) [
+              | inl q ↦ absurd (n q)
+              | inr (inl q) ↦ absurd (omega (arith, q, l))
+              | inr (inr q) ↦ omega (arith, q, e)
+            ])
         | inr j ↦ all-in (λ y. x < y) rest m h.0 j
       ]),
       put-ascends k rest h.1,
@@ -195,7 +223,8 @@ mark-put m (x ∷ rest) =
   where
     by : (a b : Bool) → eqb m.session.0 x.session.0 ≡ b → (c : Bool) → map session_number (with_mark m rest) ≡ put_in m.session.0 (map session_number rest)
         → map session_number (cond a (m ∷ x ∷ rest) (cond b ((cond c x m) ∷ rest) (x ∷ with_mark m rest)))
-        ≡ cond a (m.session.0 ∷ x.session.0 ∷ map session_number rest) (cond b (x.session.0 ∷ map session_number rest) (x.session.0 ∷ put_in m.session.0 (map session_number rest)))
+        ≡ cond a (m.session.0 ∷ x.session.0 ∷ map session_number rest)
+        (cond b (x.session.0 ∷ map session_number rest) (x.session.0 ∷ put_in m.session.0 (map session_number rest)))
     by true b e c r = refl
     by false true e true r = refl
     by false true e false r = let q = eqb-true m.session.0 x.session.0 e in ap (λ k. k ∷ map session_number rest) q
@@ -209,7 +238,8 @@ touch-put t (x ∷ rest) =
   where
     by : (a b : Bool) → eqb t.region.0 x.region.0 ≡ b → map region_number (with_touch t rest) ≡ put_in t.region.0 (map region_number rest)
         → map region_number (cond a (t ∷ x ∷ rest) (cond b (t ∷ rest) (x ∷ with_touch t rest)))
-        ≡ cond a (t.region.0 ∷ x.region.0 ∷ map region_number rest) (cond b (x.region.0 ∷ map region_number rest) (x.region.0 ∷ put_in t.region.0 (map region_number rest)))
+        ≡ cond a (t.region.0 ∷ x.region.0 ∷ map region_number rest)
+        (cond b (x.region.0 ∷ map region_number rest) (x.region.0 ∷ put_in t.region.0 (map region_number rest)))
     by true b e r = refl
     by false true e r = let q = eqb-true t.region.0 x.region.0 e in ap (λ k. k ∷ map region_number rest) q
     by false false e r = ap (λ (l : List ℕ). x.region.0 ∷ l) r
@@ -217,7 +247,8 @@ touch-put t (x ∷ rest) =
 -- sessions ascend after updates
 marks-ascend : (base : List Mark) → IsAscending (map session_number base) → (us : List Update) → IsAscending (map session_number (marks_after base us))
 marks-ascend base h [] = h
-marks-ascend base h (u ∷ us) = subst IsAscending (sym (mark-put (mark_by u) (marks_after base us))) (put-ascends u.caller.session.0 (map session_number (marks_after base us)) (marks-ascend base h us))
+marks-ascend base h (u ∷ us) = subst IsAscending (sym (mark-put (mark_by u) (marks_after base us)))
+    (put-ascends u.caller.session.0 (map session_number (marks_after base us)) (marks-ascend base h us))
 
 -- regions ascend after an update's places
 places-ascend : (v : Version) (ps : List Place) (ts : List Touch) → IsAscending (map region_number ts) → IsAscending (map region_number (with_touches v ps ts))
@@ -253,7 +284,8 @@ module _ (space : Space) (sessions n : ℕ) (g : RegionId) (t : KeyState) (h : I
 
   -- the row of a slot
   pub object-sound : IsMaybeRowUpTo space t.floor (object_of g t)
-  object-sound = kept-row space sessions n g t.floor t.base.object (row-up space t.base.floor.0 t.floor h.ordered.floor t.base.object h.base.of_space.row) (upto t.floor t.accepted) committed
+  object-sound = kept-row space sessions n g t.floor t.base.object
+      (row-up space t.base.floor.0 t.floor h.ordered.floor t.base.object h.base.of_space.row) (upto t.floor t.accepted) committed
 
   -- the marks of what is committed
   abbrev marks : List Mark
@@ -270,20 +302,26 @@ module _ (space : Space) (sessions n : ℕ) (g : RegionId) (t : KeyState) (h : I
         of_space = record {
           key = h.base.of_space.key;
           row = object-sound;
-          marks = all-of (λ (x : Mark). (x.version.0 ≤ t.floor) × IsAnswerOf space x.answer) (provided t.marks marks) (λ x i. let a = some-marks x i in (a.version, a.of_space));
-          touches = all-of (λ (x : Touch). (x.version.0 ≤ t.floor) × IsRegionOf space x.region) (provided t.marks touches) (λ x i. let a = some-touches x i in (a.version, a.region));
+          marks = all-of (λ (x : Mark). (x.version.0 ≤ t.floor) × IsAnswerOf space x.answer) (provided t.marks marks)
+              (λ x i. let a = some-marks x i in (a.version, a.of_space));
+          touches = all-of (λ (x : Touch). (x.version.0 ≤ t.floor) × IsRegionOf space x.region)
+              (provided t.marks touches) (λ x i. let a = some-touches x i in (a.version, a.region));
           sessions_ascend = provided-ascends t.marks session_number marks (marks-ascend t.base.marks h.base.of_space.sessions_ascend (upto t.floor t.accepted));
-          regions_ascend = provided-ascends t.marks region_number touches (touches-ascend t.base.touches h.base.of_space.regions_ascend (upto t.floor t.accepted));
+          regions_ascend = provided-ascends t.marks region_number touches
+              (touches-ascend t.base.touches h.base.of_space.regions_ascend (upto t.floor t.accepted));
         };
         floor = (let f = h.floor in omega (arith, f));
-        sessions = all-of (λ (x : Mark). IsSessionOf sessions x.session × AnswerUpTo (n + 1) x.answer) (provided t.marks marks) (λ x i. let a = some-marks x i in (a.session, a.answer));
+        sessions = all-of (λ (x : Mark). IsSessionOf sessions x.session × AnswerUpTo (n + 1) x.answer)
+            (provided t.marks marks) (λ x i. let a = some-marks x i in (a.session, a.answer));
       }
     where
       some-marks : (x : Mark) → IsIn x (provided t.marks marks) → IsSoundMark space sessions n g t.floor x
-      some-marks x i = marks-sound space sessions n g t.floor t.base.marks (base-marks t.floor h.ordered.floor) (upto t.floor t.accepted) committed x (in-provided t.marks marks x i).1
+      some-marks x i = marks-sound space sessions n g t.floor t.base.marks (base-marks t.floor h.ordered.floor)
+          (upto t.floor t.accepted) committed x (in-provided t.marks marks x i).1
 
       some-touches : (x : Touch) → IsIn x (provided t.marks touches) → IsSoundTouch space sessions n g t.floor x
-      some-touches x i = touches-sound space sessions n g t.floor t.base.touches (base-touches t.floor h.ordered.floor) (upto t.floor t.accepted) committed x (in-provided t.marks touches x i).1
+      some-touches x i = touches-sound space sessions n g t.floor t.base.touches
+          (base-touches t.floor h.ordered.floor) (upto t.floor t.accepted) committed x (in-provided t.marks touches x i).1
 
       provided-ascends : {A : Type 0} (b : Bool) (f : A → ℕ) (xs : List A) → IsAscending (map f xs) → IsAscending (map f (provided b xs))
       provided-ascends true f xs a = a
@@ -298,7 +336,9 @@ module _ (space : Space) (sessions n : ℕ) (g : RegionId) (t : KeyState) (h : I
   latest-sound =
       by (kept_row g t.base.object t.accepted)
       (
-      kept-row space sessions n g (top_of t) t.base.object (row-up space t.base.floor.0 (top_of t) (base-below t.base.floor.0 t.accepted h.ordered.descends) t.base.object h.base.of_space.row)
+      kept-row space sessions n g (top_of t) t.base.object
+      (row-up space t.base.floor.0 (top_of t) (base-below t.base.floor.0 t.accepted h.ordered.descends)
+      t.base.object h.base.of_space.row)
       t.accepted below-top
       )
     where
@@ -309,12 +349,14 @@ module _ (space : Space) (sessions n : ℕ) (g : RegionId) (t : KeyState) (h : I
   -- the touches of a slot
   pub touches-below : TouchedBy (top_of t) (touches_of t)
   touches-below x i =
-      (touches-sound space sessions n g (top_of t) t.base.touches (base-touches (top_of t) (base-below t.base.floor.0 t.accepted h.ordered.descends)) t.accepted below-top x i).version
+      (touches-sound space sessions n g (top_of t) t.base.touches
+      (base-touches (top_of t) (base-below t.base.floor.0 t.accepted h.ordered.descends)) t.accepted below-top x i).version
 
   -- the mark of a session
   pub mark-sound : (session : SessionId) (m : Mark) → mark_of session t ≡ Some m → IsSoundMark space sessions n g n m
   mark-sound session m e =
-      let a = marks-sound space sessions n g (top_of t) t.base.marks (base-marks (top_of t) (base-below t.base.floor.0 t.accepted h.ordered.descends)) t.accepted below-top m
+      let a = marks-sound space sessions n g (top_of t) t.base.marks
+      (base-marks (top_of t) (base-below t.base.floor.0 t.accepted h.ordered.descends)) t.accepted below-top m
       (among (marks_after t.base.marks t.accepted) e) in
       let l = top-small space sessions n g t h in
       record { version = (let v = a.version in omega (arith, v, l)); of_space = a.of_space; session = a.session; answer = a.answer }

@@ -65,7 +65,8 @@ place-in g (x ∷ ps) p =
 follows-above : (g : RegionId) (v : ℕ) (u : Update) → IsAfter u → follows g v u ≡ true → v < u.version.0
 follows-above g v u after = by (place_in g u.places) refl
   where
-    by : (o : Option Place) → place_in g u.places ≡ o → when_some (option_map (λ (p : Place). p.after.0) o) false (λ after. eqb after v) ≡ true → v < u.version.0
+    by : (o : Option Place) → place_in g u.places ≡ o
+        → when_some (option_map (λ (p : Place). p.after.0) o) false (λ after. eqb after v) ≡ true → v < u.version.0
     by None e f = absurd (false≢true f)
     by (Some p) e f =
         let q = eqb-true p.after.0 v f in
@@ -81,7 +82,8 @@ find-passes test (x ∷ xs) p =
     (λ t e. find-passes test xs p e)
 
 -- the early updates whose turn comes
-turns-rise : (g : RegionId) (n top : ℕ) (early : List Update) (t : KeyState) → top_of t ≡ top → ((u : Update) → IsIn u early → IsAfter u) → AllRise t (turns g n top early)
+turns-rise : (g : RegionId) (n top : ℕ) (early : List Update) (t : KeyState) → top_of t ≡ top
+    → ((u : Update) → IsIn u early → IsAfter u) → AllRise t (turns g n top early)
 turns-rise g zero top early t e f = tt
 turns-rise g (suc n) top early t e f =
     when_some_both (find (follows g top) early) [] (λ (u : Update). Take u ∷ turns g n u.version.0 early) (AllRise t)
@@ -132,7 +134,8 @@ with_commits-rise ms t h r = rise-append ms (settled (moved_all ms t)) t r (sett
 
 -- newly taken updates with what they bring
 pub accepting-rise : (context : SlotContext) (ms : List Move) (t : KeyState) → IsOrdered t → AllRise t ms → AllRise t (accepting context t ms)
-accepting-rise context ms t h r = with_commits-rise (ms ++ tail_acks context (taken ms)) t h (rise-append ms (tail_acks context (taken ms)) t r (marks-rise context (taken ms) (moved_all ms t)))
+accepting-rise context ms t h r = with_commits-rise (ms ++ tail_acks context (taken ms)) t h
+    (rise-append ms (tail_acks context (taken ms)) t r (marks-rise context (taken ms) (moved_all ms t)))
 
 -- an acknowledgement with what it brings
 pub acknowledged-rise : (t : KeyState) (v : ℕ) → IsOrdered t → AllRise t (acknowledged t v)
@@ -149,7 +152,8 @@ pub resumed-rise : (context : SlotContext) (t : KeyState) → IsOrdered t → Al
 resumed-rise context t h = with_commits-rise (Forget ∷ tail_acks context (pending_of t)) t h (tt, marks-rise context (pending_of t) (moved Forget t))
 
 -- updates of a list that are offered one after another are known
-pub offered_all-known : (line : List Update) (g : RegionId) (t : KeyState) (us : List Update) → Held line t → ((u : Update) → IsIn u us → IsIn u line) → AllKnown line (offered_all g t us)
+pub offered_all-known : (line : List Update) (g : RegionId) (t : KeyState) (us : List Update) → Held line t
+    → ((u : Update) → IsIn u us → IsIn u line) → AllKnown line (offered_all g t us)
 offered_all-known line g t [] h f = λ m i. absurd i
 offered_all-known line g t (u ∷ us) h f =
     let k = offered-known line g t u h (f u (inl refl)) in
@@ -157,7 +161,9 @@ offered_all-known line g t (u ∷ us) h f =
     (offered_all-known line g (moved_all (offered g t u) t) us (held-moved_all line (offered g t u) t h k) (λ w i. f w (inr i)))
 
 -- and leave the slot in order
-pub offered_all-rise : (line : List Update) → ((u : Update) → IsIn u line → IsAfter u) → (g : RegionId) (t : KeyState) (us : List Update) → Held line t → ((u : Update) → IsIn u us → IsIn u line) → AllRise t (offered_all g t us)
+pub offered_all-rise : (line : List Update) → ((u : Update) → IsIn u line → IsAfter u)
+    → (g : RegionId) (t : KeyState) (us : List Update) → Held line t → ((u : Update) → IsIn u us → IsIn u line)
+    → AllRise t (offered_all g t us)
 offered_all-rise line after g t [] h f = tt
 offered_all-rise line after g t (u ∷ us) h f =
     let k = offered-known line g t u h (f u (inl refl)) in

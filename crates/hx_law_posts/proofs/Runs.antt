@@ -19,7 +19,8 @@ use Rattle.hx_law_posts.proofs.CoordinatorSteps as coordinator
 -- the posts of each entry are sound for its number
 abbrev EntriesAreSound : Script → List Entry → Type 0
 EntriesAreSound script [] = ⊤
-EntriesAreSound script (x ∷ older) = ((p : Post) → IsIn p x.outputs → IsSoundPost script.space (length script.sessions) (length older + 1) p) × EntriesAreSound script older
+EntriesAreSound script (x ∷ older) = ((p : Post) → IsIn p x.outputs
+    → IsSoundPost script.space (length script.sessions) (length older + 1) p) × EntriesAreSound script older
 
 -- what every run of so many entries keeps
 pub record KeptSound (script : Script) (n : ℕ) (trace : List Entry) : Type 0 where
@@ -29,7 +30,8 @@ pub record KeptSound (script : Script) (n : ℕ) (trace : List Entry) : Type 0 w
   pub posts : EntriesAreSound script trace
 
 -- a post that is named is sound for the number of its entry, and the entry is there
-named-sound : (script : Script) (trace : List Entry) → EntriesAreSound script trace → (id : PostId) (p : Post) → post_named id trace ≡ Some p → (id.entry ≤ length trace) × IsSoundPost script.space (length script.sessions) id.entry p
+named-sound : (script : Script) (trace : List Entry) → EntriesAreSound script trace → (id : PostId) (p : Post)
+    → post_named id trace ≡ Some p → (id.entry ≤ length trace) × IsSoundPost script.space (length script.sessions) id.entry p
 named-sound script trace h id p = by (entry_at id.entry trace) refl
   where
     entry-sound : (n : ℕ) (trace : List Entry) (x : Entry) → EntriesAreSound script trace → entry_at n trace ≡ Some x
@@ -40,12 +42,17 @@ named-sound script trace h id p = by (entry_at id.entry trace) refl
         (λ o. o ≡ Some x → (n ≤ length (y ∷ older)) × ((q : Post) → IsIn q x.outputs → IsSoundPost script.space (length script.sessions) n q))
         (
         λ t e. let s : x ≡ y = cc in
-        let m = eqb-true n (length older + 1) t in
-        (omega (arith, m), λ q i. subst (λ k. IsSoundPost script.space (length script.sessions) k q) (sym m) (h.0 q (subst (λ (z : Entry). IsIn q z.outputs) s i)))
+        let m = eqb-true n (length older + 1) t in (
+          omega (arith, m),
+          λ q i. subst (λ k. IsSoundPost script.space (length script.sessions) k q) (sym m)
+              (h.0 q (subst (λ (z : Entry). IsIn q z.outputs) s i)),
+        )
         )
         (λ t e. let r = entry-sound n older x h.1 e in let l = r.0 in (omega (arith, l), r.1))
 
-    by : (o : Option Entry) → entry_at id.entry trace ≡ o → when_some o None (λ (x : Entry). slice_get x.outputs id.place) ≡ Some p → (id.entry ≤ length trace) × IsSoundPost script.space (length script.sessions) id.entry p
+    by : (o : Option Entry) → entry_at id.entry trace ≡ o
+        → when_some o None (λ (x : Entry). slice_get x.outputs id.place) ≡ Some p → (id.entry ≤ length trace)
+        × IsSoundPost script.space (length script.sessions) id.entry p
     by None f e = absurd (cc)
     by (Some x) f e = let r = entry-sound id.entry trace x h f in (r.0, r.1 p (in-slice_get x.outputs id.place p e))
 
@@ -77,7 +84,8 @@ server-exists script s e = let a = and_parts (ltb 0 s.0) (leb s.0 script.space.s
 
 -- and so is a session
 session-exists : (script : Script) (u : SessionId) → is_actor script (Session u) ≡ true → IsSessionOf (length script.sessions) u
-session-exists script u e = let a = and_parts (ltb 0 u.0) (leb u.0 (length script.sessions)) e in (ltb-true 0 u.0 a.0, leb-true u.0 (length script.sessions) a.1)
+session-exists script u e = let a = and_parts (ltb 0 u.0) (leb u.0 (length script.sessions)) e in
+    (ltb-true 0 u.0 a.0, leb-true u.0 (length script.sessions) a.1)
 
 module _ (script : Script) (valid : IsScript script) (older : List Entry) (kept : KeptSound script (length older) older) where
   -- an entry of an actor that takes an input
@@ -101,10 +109,12 @@ module _ (script : Script) (valid : IsScript script) (older : List Entry) (kept 
 
   -- the coordinator, where it took no step
   coordinator-stays : coordinator.IsSoundCoordinator script.space (length script.sessions) (length older + 1) (coordinator_of script older)
-  coordinator-stays = coordinator.coordinator-up script.space (length script.sessions) (length older) (length older + 1) (omega arith) (coordinator_of script older) kept.coordinator
+  coordinator-stays = coordinator.coordinator-up script.space (length script.sessions) (length older)
+      (length older + 1) (omega arith) (coordinator_of script older) kept.coordinator
 
   -- an entry of a server
-  server-entry : (s : ServerId) → IsServerOf script.space s → (input : Input) → MayTake older (Server s) input → KeptSound script (length older + 1) (here (Server s) input ∷ older)
+  server-entry : (s : ServerId) → IsServerOf script.space s → (input : Input) → MayTake older (Server s) input
+      → KeptSound script (length older + 1) (here (Server s) input ∷ older)
   server-entry s exists input take =
       let sound = server-stays s in
       let well = server-good script.space (length script.sessions) (length older + 1) s (server_of script s older)
@@ -116,7 +126,8 @@ module _ (script : Script) (valid : IsScript script) (older : List Entry) (kept 
             (
             λ t. let e = eqb-true s.0 x.0 t in
             let q : s ≡ x = λ j. record { 0 = e j } in
-            subst (λ (y : ServerId). IsSoundServer script.space (length script.sessions) (length older + 1) y (server_step script.space (server_of script y older) input).state) q well.state
+            subst (λ (y : ServerId). IsSoundServer script.space (length script.sessions) (length older + 1) y
+            (server_step script.space (server_of script y older) input).state) q well.state
             )
             (λ t. server-stays x);
         own = session-stays;
@@ -125,13 +136,15 @@ module _ (script : Script) (valid : IsScript script) (older : List Entry) (kept 
       }
 
   -- an entry of a session
-  session-entry : (v : SessionId) → IsSessionOf (length script.sessions) v → (input : Input) → MayTake older (Session v) input → KeptSound script (length older + 1) (here (Session v) input ∷ older)
+  session-entry : (v : SessionId) → IsSessionOf (length script.sessions) v → (input : Input)
+      → MayTake older (Session v) input → KeptSound script (length older + 1) (here (Session v) input ∷ older)
   session-entry v exists input take =
       let well = session.session-good script valid (length older + 1) v exists (session_of script v older) (session-stays v) input
       (λ id from m e. let d = delivered (Session v) input take id from m e in let l = d.1 in (d.0, omega (arith, l), d.2.message)) in
       record {
         servers = server-stays;
-        own = λ u. cond_both (same_session v u) (session_step script.space (session_of script u older) input).state (session_of script u older) (session.IsOwn script (length older + 1) u)
+        own = λ u. cond_both (same_session v u) (session_step script.space (session_of script u older) input).state
+            (session_of script u older) (session.IsOwn script (length older + 1) u)
             (
             λ t. let e = eqb-true v.0 u.0 t in
             let q : v ≡ u = λ j. record { 0 = e j } in

@@ -10,7 +10,8 @@ use Rattle.hx_law_posts.proofs.Calls.{acked-good, asked-good, called-good, updat
 use Rattle.hx_law_posts.proofs.Snapshots.{ready-sound, snapped-good}
 use Rattle.hx_law_posts.proofs.Installs.{install-good, tick-good}
 
-module _ (space : Space) (sessions n : ℕ) (s : ServerId) (st : ServerState) (relies : Relies space sessions n s st) (m : ℕ) (before : IsSoundServer space sessions m s st) (less : m < n) where
+module _ (space : Space) (sessions n : ℕ) (s : ServerId) (st : ServerState) (relies : Relies space sessions n s st)
+    (m : ℕ) (before : IsSoundServer space sessions m s st) (less : m < n) where
   -- a step that does well
   abbrev IsGood : ServerStep → Type 0
   IsGood step = DoesWell space sessions n s step
@@ -23,7 +24,9 @@ module _ (space : Space) (sessions n : ℕ) (s : ServerId) (st : ServerState) (r
   }
 
   -- each step of a server, on a message of a sound post of an earlier entry
-  pub server-good : (input : Input) → ((id : PostId) (from : Actor) (message : Message) → input ≡ Deliver id from message → (k : ℕ) × (k ≤ m) × IsSoundPost space sessions k (post from (Server s) message)) → IsGood (server_step space st input)
+  pub server-good : (input : Input) → ((id : PostId) (from : Actor) (message : Message)
+      → input ≡ Deliver id from message → (k : ℕ) × (k ≤ m)
+      × IsSoundPost space sessions k (post from (Server s) message)) → IsGood (server_step space st input)
   server-good input f = server-cases space st input IsGood (record {
     rests = unmoved-good space sessions n s st relies;
     met = meeting-good space sessions n s st relies;

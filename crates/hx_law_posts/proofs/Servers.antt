@@ -28,7 +28,8 @@ pub record IsSoundServer (space : Space) (sessions n : ℕ) (s : ServerId) (st :
 pub replica-up : (space : Space) (sessions m n : ℕ) → m ≤ n → (r : Replica) → IsSoundReplica space sessions m r → IsSoundReplica space sessions n r
 replica-up space sessions m n l r h = record { region = h.region; slots = λ t i. slot-up space sessions m n l r.region t (h.slots t i); ascend = h.ascend }
 
-pub server-up : (space : Space) (sessions m n : ℕ) → m ≤ n → (s : ServerId) (st : ServerState) → IsSoundServer space sessions m s st → IsSoundServer space sessions n s st
+pub server-up : (space : Space) (sessions m n : ℕ) → m ≤ n → (s : ServerId) (st : ServerState)
+    → IsSoundServer space sessions m s st → IsSoundServer space sessions n s st
 server-up space sessions m n l s st h = record {
   id = h.id;
   config = config-up space sessions m n l st.config h.config;
@@ -37,7 +38,8 @@ server-up space sessions m n l s st h = record {
 
 -- a replica that takes messages is found
 pub replica_for-found : (st : ServerState) (g : RegionId) (r : Replica) → replica_for st g ≡ Some r → replica_of g st.replicas ≡ Some r
-replica_for-found st g r = cond_both (is_lost st.config g) None (replica_of g st.replicas) (λ o. o ≡ Some r → replica_of g st.replicas ≡ Some r) (λ t e. absurd (cc)) (λ t e. e)
+replica_for-found st g r = cond_both (is_lost st.config g) None (replica_of g st.replicas)
+    (λ o. o ≡ Some r → replica_of g st.replicas ≡ Some r) (λ t e. absurd (cc)) (λ t e. e)
 
 -- an installed replica that takes messages is found
 pub installed-found : (st : ServerState) (g : RegionId) (r : Replica) → if_installed (replica_for st g) ≡ Some r → replica_of g st.replicas ≡ Some r
@@ -48,7 +50,8 @@ installed-found st g r e = replica_for-found st g r (by (replica_for st g) e)
     by (Some x) = cond_both x.installed (Some x) None (λ o. o ≡ Some r → Some x ≡ Some r) (λ t e. e) (λ t e. absurd (cc))
 
 -- the slot of a key at a replica
-pub slot-sound : (space : Space) (sessions n : ℕ) (r : Replica) → IsSoundReplica space sessions n r → (key : List ℕ) → KeyFits key → IsSoundSlot space sessions n r.region (state_in space r key)
+pub slot-sound : (space : Space) (sessions n : ℕ) (r : Replica) → IsSoundReplica space sessions n r → (key : List ℕ)
+    → KeyFits key → IsSoundSlot space sessions n r.region (state_in space r key)
 slot-sound space sessions n r h key fits = elim (state-from (is_key_region space r.region) key r.states) [
   | inl e ↦ subst (IsSoundSlot space sessions n r.region) (sym e) (new-sound space sessions n r.region (is_key_region space r.region) key fits)
   | inr i ↦ h.slots (state_in space r key) i
@@ -103,7 +106,8 @@ module _ (space : Space) (sessions n : ℕ) (s : ServerId) (st : ServerState) (r
   asking-sound (x ∷ rest) f = each-append IsSound (x ∷ rest) (poll_post st ∷ []) f poll-sound
 
   -- replicas with one of them changed
-  pub with_replica-sound : (x : Replica) → IsSoundReplica space sessions n x → IsSoundServer space sessions n s (record st { replicas = with_replica x st.replicas })
+  pub with_replica-sound : (x : Replica) → IsSoundReplica space sessions n x
+      → IsSoundServer space sessions n s (record st { replicas = with_replica x st.replicas })
   with_replica-sound x h = record {
     id = relies.sound.id;
     config = relies.sound.config;
@@ -129,7 +133,9 @@ module _ (space : Space) (sessions n : ℕ) (s : ServerId) (st : ServerState) (r
   }
 
   -- moves of updates that may be held
-  pub moves-good : (r : Replica) → IsIn r st.replicas → (us : List Update) → ((u : Update) → IsIn u us → IsSoundAt space sessions n r.region u) → (t : KeyState) → IsSoundSlot space sessions n r.region t
+  pub moves-good : (r : Replica) → IsIn r st.replicas → (us : List Update)
+      → ((u : Update) → IsIn u us → IsSoundAt space sessions n r.region u) → (t : KeyState)
+      → IsSoundSlot space sessions n r.region t
       → (ms : List Move) → AllKnown (together us t) ms → AllRise t ms → IsGood (at_slot st r t (by_moves (context_of space st r.region) ms))
   moves-good r i us f t h ms known rise =
       slot-good r i t (by_moves (context_of space st r.region) ms) (slot-moved space sessions n r.region us f t h ms known rise)
@@ -139,5 +145,6 @@ module _ (space : Space) (sessions n : ℕ) (s : ServerId) (st : ServerState) (r
       )
 
   -- posts of a slot alone
-  pub posts-good : (r : Replica) → IsIn r st.replicas → (t : KeyState) → IsSoundSlot space sessions n r.region t → (ps : List Post) → ((p : Post) → IsIn p ps → IsSound p) → IsGood (at_slot st r t (by_posts ps))
+  pub posts-good : (r : Replica) → IsIn r st.replicas → (t : KeyState) → IsSoundSlot space sessions n r.region t
+      → (ps : List Post) → ((p : Post) → IsIn p ps → IsSound p) → IsGood (at_slot st r t (by_posts ps))
   posts-good r i t h ps f = slot-good r i t (by_posts ps) h f

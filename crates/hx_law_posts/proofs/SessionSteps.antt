@@ -18,7 +18,9 @@ call-fits : (script : Script) → IsScript script → (u : SessionId) (n : ℕ) 
 call-fits script valid u n op =
     when_some_both (numbered script.sessions u.0) [] (λ (calls : List Op). calls) (λ (calls : List Op). numbered calls n ≡ Some op → Fits script.space op)
     (λ e. none n)
-    (λ (calls : List Op) e f. all-in (Fits script.space) calls op (all-in (λ (cs : List Op). All (Fits script.space) cs) script.sessions calls valid.calls (numbered-in script.sessions u.0 calls e)) (numbered-in calls n op f))
+    (λ (calls : List Op) e f. all-in (Fits script.space) calls op
+    (all-in (λ (cs : List Op). All (Fits script.space) cs) script.sessions calls valid.calls
+    (numbered-in script.sessions u.0 calls e)) (numbered-in calls n op f))
   where
     none : (n : ℕ) → numbered [] n ≡ Some op → Fits script.space op
     none zero f = absurd (cc)
@@ -57,7 +59,8 @@ module _ (script : Script) (valid : IsScript script) (n : ℕ) (u : SessionId) (
   ending-good st version answer k = record { own = record { id = k.id; config = k.config; calls = k.calls }; posts = λ p i. absurd i }
 
   -- a call of the session
-  call-good : (st : SessionState) (op : Op) (g : RegionId) → Fits script.space op → IsOwn script n u st → (p : Post) → IsIn p (call_to st op (head_of st.config g)) → IsSound p
+  call-good : (st : SessionState) (op : Op) (g : RegionId) → Fits script.space op → IsOwn script n u st → (p : Post)
+      → IsIn p (call_to st op (head_of st.config g)) → IsSound p
   call-good st op g fits k p = by (head_of st.config g) refl
     where
       by : (o : Option ServerId) → head_of st.config g ≡ o → IsIn p (call_to st op o) → IsSound p
@@ -73,12 +76,14 @@ module _ (script : Script) (valid : IsScript script) (n : ℕ) (u : SessionId) (
   -- a call on a key is sent
   send_to-good : (st : SessionState) (op : Op) (g : RegionId) → Fits script.space op → IsOwn script n u st → DoesWell (send_to st op g)
   send_to-good st op g fits k =
-      cond_both (is_lost st.config g) (ending st _ (lost_answer st op g)) (record { state = record st { sent = true }; posts = call_to st op (head_of st.config g); notes = [] }) DoesWell
+      cond_both (is_lost st.config g) (ending st _ (lost_answer st op g))
+      (record { state = record st { sent = true }; posts = call_to st op (head_of st.config g); notes = [] }) DoesWell
       (λ t. ending-good st _ (lost_answer st op g) k)
       (λ t. record { own = record { id = k.id; config = k.config; calls = k.calls }; posts = call-good st op g fits k })
 
   -- a search asks regions of the space
-  ask-good : (st : SessionState) (terms : List Term) (plan : Planned) → NamesRegions script.space plan → TermsFit script.space terms → IsOwn script n u st → DoesWell (ask_regions st terms plan)
+  ask-good : (st : SessionState) (terms : List Term) (plan : Planned) → NamesRegions script.space plan
+      → TermsFit script.space terms → IsOwn script n u st → DoesWell (ask_regions st terms plan)
   ask-good st terms (a_plan.Regions subspace regions) named fits k = record {
     own = record { id = k.id; config = k.config; calls = k.calls };
     posts = λ p i. (let f = in-flat_map (λ (g : RegionId). ask_to st terms g (head_of st.config g)) regions p i in
@@ -97,7 +102,9 @@ module _ (script : Script) (valid : IsScript script) (n : ℕ) (u : SessionId) (
   ask-good st terms (a_plan.Lost g) named fits k = ending-good st _ _ k
 
   -- a post to the coordinator
-  coordinator-good : (st : SessionState) (m : Message) → IsOwn script n u st → goes_between (Session st.id) Coordinator m ≡ true → IsSoundMessage (bounds script.space (length script.sessions) n) m → DoesWell (to_coordinator st m)
+  coordinator-good : (st : SessionState) (m : Message) → IsOwn script n u st
+      → goes_between (Session st.id) Coordinator m ≡ true
+      → IsSoundMessage (bounds script.space (length script.sessions) n) m → DoesWell (to_coordinator st m)
   coordinator-good st m k b h = record {
     own = k;
     posts = λ p i. elim i [
@@ -120,7 +127,8 @@ module _ (script : Script) (valid : IsScript script) (n : ℕ) (u : SessionId) (
   -- the next call begins
   begin-good : (st : SessionState) (op : Op) → Fits script.space op → IsOwn script n u st → DoesWell (begin script.space st op)
   begin-good st op fits k =
-      let t = send-good (record st { begun = st.begun + 1; under_way = true; sent = false; parts = [] }) op fits (record { id = k.id; config = k.config; calls = k.calls }) in
+      let t = send-good (record st { begun = st.begun + 1; under_way = true; sent = false; parts = [] }) op fits
+      (record { id = k.id; config = k.config; calls = k.calls }) in
       record { own = t.own; posts = t.posts }
 
   -- the newest configuration is asked for
@@ -142,11 +150,13 @@ module _ (script : Script) (valid : IsScript script) (n : ℕ) (u : SessionId) (
   found-good : (st : SessionState) (parts : List Part) → IsOwn script n u st → DoesWell (end_with_parts (record st { parts = parts }))
   found-good st parts k =
       let own : IsOwn script n u (record st { parts = parts }) = record { id = k.id; config = k.config; calls = k.calls } in
-      cond_both (all_parts parts) (ending (record st { parts = parts }) no_version _) (staying (record st { parts = parts })) DoesWell (λ t. ending-good _ no_version _ own) (λ t. staying-good _ own)
+      cond_both (all_parts parts) (ending (record st { parts = parts }) no_version _)
+      (staying (record st { parts = parts })) DoesWell (λ t. ending-good _ no_version _ own) (λ t. staying-good _ own)
 
   -- each input of a session
   pub session-good : (st : SessionState) → IsOwn script n u st → (input : Input)
-      → ((id : PostId) (from : Actor) (m : Message) → input ≡ Deliver id from m → (k : ℕ) × (k ≤ n) × IsSoundMessage (bounds script.space (length script.sessions) k) m)
+      → ((id : PostId) (from : Actor) (m : Message) → input ≡ Deliver id from m → (k : ℕ) × (k ≤ n)
+      × IsSoundMessage (bounds script.space (length script.sessions) k) m)
       → DoesWell (session_step script.space st input)
   session-good st k input f = session-cases script.space st input DoesWell (record {
     rests = staying-good st k;
@@ -159,7 +169,8 @@ module _ (script : Script) (valid : IsScript script) (n : ℕ) (u : SessionId) (
     renews = λ id from config op i l w c q. send-good (record st { config = config }) op (own-call st k st.begun op c) (own id from config i);
   })
     where
-      own : (id : PostId) (from : Actor) (config : Config) → input ≡ Deliver id from (a_message.Install config) → IsOwn script n u (record st { config = config })
+      own : (id : PostId) (from : Actor) (config : Config) → input ≡ Deliver id from (a_message.Install config)
+          → IsOwn script n u (record st { config = config })
       own id from config i =
           let a = f id from (a_message.Install config) i in
           record { id = k.id; config = record { of_space = a.2.1; epoch = (let e = a.2.0 in let l = a.1 in omega (arith, e, l)) }; calls = k.calls }

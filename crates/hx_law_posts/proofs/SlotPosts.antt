@@ -30,11 +30,14 @@ module _ (space : Space) (sessions n : ℕ) (context : SlotContext) (here : IsCo
   IsSound p = IsSoundPost space sessions n p
 
   -- a reply with a sound answer
-  pub reply-sound : (caller : Caller) (version : Version) (answer : Answer) → IsSessionOf sessions caller.session → version.0 ≤ n + 1 → IsSoundAnswer (bounds space sessions n) answer → IsSound (reply context caller version answer)
+  pub reply-sound : (caller : Caller) (version : Version) (answer : Answer) → IsSessionOf sessions caller.session
+      → version.0 ≤ n + 1 → IsSoundAnswer (bounds space sessions n) answer → IsSound (reply context caller version answer)
   reply-sound caller version answer session v a = record { from = here.exists; to = session; between = refl; message = (v, a) }
 
   -- the region of a position is one of the space, and the update has a place there
-  reached-region : (u : Update) (x : ServerId) (m : ℕ) → IsSoundUpdate (bounds space sessions n) u → Reaches space u.places x m → IsRegionOf space (region_at u.places m) × (has_place_in (region_at u.places m) u.places ≡ true)
+  reached-region : (u : Update) (x : ServerId) (m : ℕ) → IsSoundUpdate (bounds space sessions n) u
+      → Reaches space u.places x m → IsRegionOf space (region_at u.places m)
+      × (has_place_in (region_at u.places m) u.places ≡ true)
   reached-region u x m sound r =
       let i = in-slice_get u.places m r.place r.at in
       subst (λ (h : RegionId). IsRegionOf space h × (has_place_in h u.places ≡ true)) (sym (region-reached space u.places x m r)) (
@@ -58,12 +61,18 @@ module _ (space : Space) (sessions n : ℕ) (context : SlotContext) (here : IsCo
       by (Blocked h) e i = absurd i
 
   -- an acknowledgement to the replica before
-  ack-at-sound : (u : Update) (x : ServerId) (m : ℕ) → IsSoundUpdate (bounds space sessions n) u → prev_at context u ≡ At x m → (p : Post) → IsIn p (ack_to context u (At x m)) → IsSound p
+  ack-at-sound : (u : Update) (x : ServerId) (m : ℕ) → IsSoundUpdate (bounds space sessions n) u
+      → prev_at context u ≡ At x m → (p : Post) → IsIn p (ack_to context u (At x m)) → IsSound p
   ack-at-sound u x m sound e p i =
       let r = prev-reaches space context.config here.config.of_space u.places (place_number context.region u.places) context.server x m e in
       let q = reached-region u x m sound r in
       elim i [
-        | inl f ↦ subst IsSound (sym f) (record { from = here.exists; to = r.server; between = refl; message = (here.config.epoch, q.0, here.region, sound.of_space.key, sound.version) })
+        | inl f ↦ subst IsSound (sym f) (record {
+          from = here.exists;
+          to = r.server;
+          between = refl;
+          message = (here.config.epoch, q.0, here.region, sound.of_space.key, sound.version);
+        })
         | inr j ↦ absurd j
       ]
 
@@ -88,7 +97,8 @@ module _ (space : Space) (sessions n : ℕ) (context : SlotContext) (here : IsCo
       by (Blocked h) e i = absurd i
 
   -- what is posted with moves of sound updates
-  pub moves-sound : (us : List Update) → ((u : Update) → IsIn u us → IsSoundUpdate (bounds space sessions n) u) → (ms : List Move) → AllKnown us ms → (p : Post) → IsIn p (flat_map (move_posts context) ms) → IsSound p
+  pub moves-sound : (us : List Update) → ((u : Update) → IsIn u us → IsSoundUpdate (bounds space sessions n) u)
+      → (ms : List Move) → AllKnown us ms → (p : Post) → IsIn p (flat_map (move_posts context) ms) → IsSound p
   moves-sound us sound ms known p i =
       let f = in-flat_map (move_posts context) ms p i in
       by f.0 (known f.0 f.1) f.2

@@ -43,7 +43,8 @@ module _ (space : Space) (sessions n : ℕ) (g : RegionId) where
   IsAt u = IsSoundAt space sessions n g u
 
   -- updates that may be held, and what a sound slot holds, may be held
-  pub together-sound : (us : List Update) → ((u : Update) → IsIn u us → IsAt u) → (t : KeyState) → IsSoundSlot space sessions n g t → (u : Update) → IsIn u (together us t) → IsAt u
+  pub together-sound : (us : List Update) → ((u : Update) → IsIn u us → IsAt u) → (t : KeyState)
+      → IsSoundSlot space sessions n g t → (u : Update) → IsIn u (together us t) → IsAt u
   together-sound us f t h = each-append IsAt us (t.accepted ++ t.early) f (each-append IsAt t.accepted t.early h.accepted h.early)
 
   -- what may be held comes after lower versions
@@ -55,7 +56,8 @@ module _ (space : Space) (sessions n : ℕ) (g : RegionId) where
   pending-sound t h u i = h.accepted u (pending-in t.floor t.accepted u i).0
 
   -- the floor after moves of updates that may be held
-  floor-moved : (us : List Update) → ((u : Update) → IsIn u us → IsAt u) → (ms : List Move) (t : KeyState) → AllKnown us ms → t.floor ≤ n → (moved_all ms t).floor ≤ n
+  floor-moved : (us : List Update) → ((u : Update) → IsIn u us → IsAt u) → (ms : List Move) (t : KeyState)
+      → AllKnown us ms → t.floor ≤ n → (moved_all ms t).floor ≤ n
   floor-moved us f [] t k l = l
   floor-moved us f (m ∷ ms) t k l =
       floor-moved us f ms (moved m t) (λ x i. k x (inr i)) (by m (k m (inl refl)))
@@ -68,7 +70,8 @@ module _ (space : Space) (sessions n : ℕ) (g : RegionId) where
       by Forget i = l
 
   -- moves of updates that may be held, in order, leave a slot sound
-  pub slot-moved : (us : List Update) → ((u : Update) → IsIn u us → IsAt u) → (t : KeyState) → IsSoundSlot space sessions n g t → (ms : List Move) → AllKnown (together us t) ms → AllRise t ms
+  pub slot-moved : (us : List Update) → ((u : Update) → IsIn u us → IsAt u) → (t : KeyState)
+      → IsSoundSlot space sessions n g t → (ms : List Move) → AllKnown (together us t) ms → AllRise t ms
       → IsSoundSlot space sessions n g (moved_all ms t)
   slot-moved us f t h ms known rise =
       let held = held-moved_all (together us t) ms t (held-together us t) known in

@@ -30,7 +30,8 @@ first-in (y ∷ rest) x e = let q : y.server ≡ x = cc in (y, inl refl, q)
 joiner-in : (s : ServerId) (ms : List Member) (x : ServerId) → joiner_in s ms ≡ Some x → (y : Member) × IsIn y ms × (y.server ≡ x)
 joiner-in s [] x = λ e. absurd (cc)
 joiner-in s (m ∷ rest) x =
-    cond_both (any_ready rest) (joiner_in s rest) (cond (same_server m.server s && m.ready) (next rest) None) (λ o. o ≡ Some x → (z : Member) × IsIn z (m ∷ rest) × (z.server ≡ x))
+    cond_both (any_ready rest) (joiner_in s rest) (cond (same_server m.server s && m.ready) (next rest) None)
+    (λ o. o ≡ Some x → (z : Member) × IsIn z (m ∷ rest) × (z.server ≡ x))
     (λ t e. let r = joiner-in s rest x e in (r.0, inr r.1, r.2))
     (
     λ t. cond_both (same_server m.server s && m.ready) (next rest) None (λ o. o ≡ Some x → (z : Member) × IsIn z (m ∷ rest) × (z.server ≡ x))
@@ -50,7 +51,8 @@ filter-ascends key test (x ∷ xs) h =
     (λ t. filter-ascends key test xs h.1)
 
 -- a list that is mapped and keeps its keys ascends too
-pub map-ascends : {A B : Type 0} (key : A → List ℕ) (other : B → List ℕ) (f : A → B) → ((x : A) → other (f x) ≡ key x) → (xs : List A) → Ascend key xs → Ascend other (map f xs)
+pub map-ascends : {A B : Type 0} (key : A → List ℕ) (other : B → List ℕ) (f : A → B) → ((x : A) → other (f x) ≡ key x)
+    → (xs : List A) → Ascend key xs → Ascend other (map f xs)
 map-ascends key other f e [] h = tt
 map-ascends key other f e (x ∷ xs) h = (
   λ y i. (let m = in-map f xs y i in
@@ -95,7 +97,9 @@ module _ (space : Space) (sessions n : ℕ) (s : ServerId) (st : ServerState) (r
       ascends : keys_ascend (map kept_key (snapshot_of r.region r.states)) ≡ true
       ascends =
           ascend-test kept_key (snapshot_of r.region r.states)
-          (map-ascends state_key kept_key (kept_of r.region) (λ t. refl) (filter (λ (t : KeyState). ltb 0 t.floor) r.states) (filter-ascends state_key (λ (t : KeyState). ltb 0 t.floor) r.states h.ascend))
+          (map-ascends state_key kept_key (kept_of r.region) (λ t. refl)
+          (filter (λ (t : KeyState). ltb 0 t.floor) r.states)
+          (filter-ascends state_key (λ (t : KeyState). ltb 0 t.floor) r.states h.ascend))
 
       pending-of : (u : Update) → IsIn u (pending_of_all r.states) → IsSoundUpdate (bounds space sessions n) u × (has_place_in r.region u.places ≡ true)
       pending-of u j =
@@ -107,7 +111,8 @@ module _ (space : Space) (sessions n : ℕ) (s : ServerId) (st : ServerState) (r
       by (Some x) e j =
           let m = joiner-in st.id (members_of st.config r.region) x e in
           let exists = subst (IsServerOf space) m.2 (member-server space st.config relies.sound.config.of_space r.region m.0 m.1) in
-          each-one IsSound (post (Server st.id) (Server x) (a_message.Snap st.config.epoch r.region (snapshot_of r.region r.states) (pending_of_all r.states))) (record {
+          each-one IsSound (post (Server st.id) (Server x)
+          (a_message.Snap st.config.epoch r.region (snapshot_of r.region r.states) (pending_of_all r.states))) (record {
             from = relies.exists;
             to = exists;
             between = refl;
@@ -123,7 +128,12 @@ module _ (space : Space) (sessions n : ℕ) (s : ServerId) (st : ServerState) (r
   -- a joiner is ready
   pub ready-sound : (r : Replica) → IsIn r st.replicas → (p : Post) → IsIn p (ready_post st r.region) → IsSound p
   ready-sound r i = each-provided IsSound (lists_joining st.config r.region st.id) (ready ∷ [])
-      (each-one IsSound ready (record { from = relies.exists; to = tt; between = refl; message = (relies.sound.config.epoch, (relies.sound.replicas r i).region) }))
+      (each-one IsSound ready (record {
+        from = relies.exists;
+        to = tt;
+        between = refl;
+        message = (relies.sound.config.epoch, (relies.sound.replicas r i).region);
+      }))
     where
       ready : Post
       ready = post (Server st.id) Coordinator (a_message.Ready st.config.epoch r.region)
@@ -156,15 +166,18 @@ keys-fit (u ∷ us) f k i = elim (in-with_key u.key (keys_of us) k i) [
   | inr j ↦ keys-fit us (λ w q. f w (inr q)) k j
 ]
 
-module _ (space : Space) (sessions n : ℕ) (context : SlotContext) (at : IsContext space n context) (us : List Update) (f : (u : Update) → IsIn u us → IsSoundAt space sessions n context.region u) where
+module _ (space : Space) (sessions n : ℕ) (context : SlotContext) (at : IsContext space n context) (us : List Update)
+    (f : (u : Update) → IsIn u us → IsSoundAt space sessions n context.region u) where
   -- one slot takes pending updates
-  joined-sound : (ws : List Update) → ((u : Update) → IsIn u ws → IsIn u us) → (slots : Slots) → AreSoundSlots space sessions n context.region slots → (t : KeyState) → IsSoundSlot space sessions n context.region t
+  joined-sound : (ws : List Update) → ((u : Update) → IsIn u ws → IsIn u us) → (slots : Slots)
+      → AreSoundSlots space sessions n context.region slots → (t : KeyState) → IsSoundSlot space sessions n context.region t
       → AreSoundSlots space sessions n context.region (join_slot context ws slots t)
   joined-sound ws w slots h t a =
       let held = held-together us t in
       let all = together-sound space sessions n context.region us f t a in
       let inside = λ (u : Update) (i : IsIn u ws). in_left us (t.accepted ++ t.early) u (w u i) in
-      let known = accepting-known (together us t) context t (offered_all context.region t ws) held (offered_all-known (together us t) context.region t ws held inside) in
+      let known = accepting-known (together us t) context t (offered_all context.region t ws) held
+      (offered_all-known (together us t) context.region t ws held inside) in
       let rise = accepting-rise context (offered_all context.region t ws) t a.ordered
       (offered_all-rise (together us t) (λ u i. after-of space sessions n context.region u (all u i)) context.region t ws held inside) in
       let moves = accepting context t (offered_all context.region t ws) in
@@ -174,23 +187,28 @@ module _ (space : Space) (sessions n : ℕ) (context : SlotContext) (at : IsCont
           | inr j ↦ h.each x j
         ];
         ascend = with_state-ascends (moved_all moves t) slots.states h.ascend;
-        posts = each-append (λ (p : Post). IsSoundPost space sessions n p) slots.posts _ h.posts (moves-sound space sessions n context at (together us t) (λ u k. (all u k).sound) moves known);
+        posts = each-append (λ (p : Post). IsSoundPost space sessions n p) slots.posts _ h.posts
+            (moves-sound space sessions n context at (together us t) (λ u k. (all u k).sound) moves known);
       }
 
   -- each key's slot
-  keys-sound : (keys : List (List ℕ)) → ((k : List ℕ) → IsIn k keys → KeyFits k) → (slots : Slots) → AreSoundSlots space sessions n context.region slots → AreSoundSlots space sessions n context.region (join_keys context us slots keys)
+  keys-sound : (keys : List (List ℕ)) → ((k : List ℕ) → IsIn k keys → KeyFits k) → (slots : Slots)
+      → AreSoundSlots space sessions n context.region slots
+      → AreSoundSlots space sessions n context.region (join_keys context us slots keys)
   keys-sound [] fit slots h = h
   keys-sound (key ∷ rest) fit slots h =
       let t = state_among (is_key_region context.space context.region) key slots.states in
       let a : IsSoundSlot space sessions n context.region t = elim (state-from (is_key_region context.space context.region) key slots.states) [
-        | inl e ↦ subst (IsSoundSlot space sessions n context.region) (sym e) (new-sound space sessions n context.region (is_key_region context.space context.region) key (fit key (inl refl)))
+        | inl e ↦ subst (IsSoundSlot space sessions n context.region) (sym e)
+            (new-sound space sessions n context.region (is_key_region context.space context.region) key (fit key (inl refl)))
         | inr i ↦ h.each t i
       ] in
       keys-sound rest (λ k i. fit k (inr i)) (join_slot context (filter (λ (u : Update). same_text u.key key) us) slots t)
       (joined-sound (filter (λ (u : Update). same_text u.key key) us) (λ u i. (in-filter (λ (w : Update). same_text w.key key) us u i).0) slots h t a)
 
 -- a slot made of a snapshot
-from-sound : (space : Space) (sessions n : ℕ) (g : RegionId) (marks : Bool) (k : Kept) → IsSoundKept (bounds space sessions n) k → k.floor.0 ≤ n → IsSoundSlot space sessions n g (state_from marks k)
+from-sound : (space : Space) (sessions n : ℕ) (g : RegionId) (marks : Bool) (k : Kept)
+    → IsSoundKept (bounds space sessions n) k → k.floor.0 ≤ n → IsSoundSlot space sessions n g (state_from marks k)
 from-sound space sessions n g true k h l = base-sound space sessions n g true k h l
 from-sound space sessions n g false k h l =
     base-sound space sessions n g false (record k { marks = []; touches = [] })
@@ -223,13 +241,16 @@ module _ (space : Space) (sessions n : ℕ) (s : ServerId) (st : ServerState) (r
       inside = (replica-found g st.replicas r found).0
 
       may-hold : (u : Update) → IsIn u pending → IsSoundAt space sessions n r.region u
-      may-hold u i = let a = updates u i in subst (λ (h : RegionId). IsSoundAt space sessions n h u) (sym (replica-found g st.replicas r found).1) (received space sessions k n l g u a.0 a.1)
+      may-hold u i = let a = updates u i in subst (λ (h : RegionId). IsSoundAt space sessions n h u)
+          (sym (replica-found g st.replicas r found).1) (received space sessions k n l g u a.0 a.1)
 
       each : (t : KeyState) → IsIn t (map (state_from (is_key_region space r.region)) snapshot) → IsSoundSlot space sessions n r.region t
       each t i =
           let m = in-map (state_from (is_key_region space r.region)) snapshot t i in
           let a = kept m.0 m.1 in
-          subst (IsSoundSlot space sessions n r.region) (sym m.2) (from-sound space sessions n r.region (is_key_region space r.region) m.0 (kept-up space sessions k n (omega (arith, l)) m.0 a) (let b = a.floor in omega (arith, b, l)))
+          subst (IsSoundSlot space sessions n r.region) (sym m.2)
+          (from-sound space sessions n r.region (is_key_region space r.region) m.0
+          (kept-up space sessions k n (omega (arith, l)) m.0 a) (let b = a.floor in omega (arith, b, l)))
 
       all : AreSoundSlots space sessions n r.region (installed_slots (context_of space st r.region) snapshot pending)
       all =
@@ -238,6 +259,7 @@ module _ (space : Space) (sessions n : ℕ) (s : ServerId) (st : ServerState) (r
           (record { states = map (state_from (is_key_region space r.region)) snapshot; posts = [] })
           (record {
             each = each;
-            ascend = map-ascends kept_key state_key (state_from (is_key_region space r.region)) (from-key (is_key_region space r.region)) snapshot (test-ascends snapshot ascends);
+            ascend = map-ascends kept_key state_key (state_from (is_key_region space r.region))
+                (from-key (is_key_region space r.region)) snapshot (test-ascends snapshot ascends);
             posts = λ p i. absurd i;
           })

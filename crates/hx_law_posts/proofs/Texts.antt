@@ -5,10 +5,12 @@ use Rattle.hx_law_lemmas.proofs.Lemmas.{Ascend, state_key}
 use Rattle.hx_types.proofs.Lemmas.{same_text-symm, text_below-other, text_below-trans}
 
 -- what stands in a list with a slot put in
-in-state : (t : KeyState) (states : List KeyState) (P : KeyState → Type 0) → P t → ((y : KeyState) → IsIn y states → P y) → (y : KeyState) → IsIn y (with_state t states) → P y
+in-state : (t : KeyState) (states : List KeyState) (P : KeyState → Type 0) → P t
+    → ((y : KeyState) → IsIn y states → P y) → (y : KeyState) → IsIn y (with_state t states) → P y
 in-state t [] P p f y = λ i. elim i [ inl e ↦ subst P (sym e) p | inr j ↦ absurd j ]
 in-state t (x ∷ rest) P p f y =
-    cond_both (same_text x.base.key t.base.key) (t ∷ rest) (cond (text_below t.base.key x.base.key) (t ∷ x ∷ rest) (x ∷ with_state t rest)) (λ (l : List KeyState). IsIn y l → P y)
+    cond_both (same_text x.base.key t.base.key) (t ∷ rest)
+    (cond (text_below t.base.key x.base.key) (t ∷ x ∷ rest) (x ∷ with_state t rest)) (λ (l : List KeyState). IsIn y l → P y)
     (λ e i. elim i [ inl q ↦ subst P (sym q) p | inr j ↦ f y (inr j) ])
     (
     λ e. cond_both (text_below t.base.key x.base.key) (t ∷ x ∷ rest) (x ∷ with_state t rest) (λ (l : List KeyState). IsIn y l → P y)
@@ -33,5 +35,9 @@ with_state-ascends t (x ∷ rest) h =
       h,
     )
     )
-    (λ b. (in-state t rest (λ (y : KeyState). text_below x.base.key y.base.key ≡ true) (text_below-other t.base.key x.base.key (same_text-symm t.base.key x.base.key ∙ e) b) h.0, with_state-ascends t rest h.1))
+    (λ b. (
+      in-state t rest (λ (y : KeyState). text_below x.base.key y.base.key ≡ true)
+          (text_below-other t.base.key x.base.key (same_text-symm t.base.key x.base.key ∙ e) b) h.0,
+      with_state-ascends t rest h.1,
+    ))
     )

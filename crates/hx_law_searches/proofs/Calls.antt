@@ -53,17 +53,31 @@ pub record Calls (script : Script) (t : List Entry) : Type 0 where
   pub running : (u : SessionId) → (session_of script u t).under_way ≡ true
       → (n : ℕ) × BeganAt t (record { session = u; number = (session_of script u t).begun }) n
   pub replied : (c : Caller) (v : Version) (a : Answer) (n : ℕ) → EndedAt t c v a n → Ends script t c v a
-  pub sent : (u : SessionId) (to : Actor) (epoch : Epoch) (number : ℕ) (op : Op) → IsIn (post (Session u) to (a_message.Call epoch number op)) (posts_of t) → CallSent script t u number op
-  pub asked : (from : Actor) (c : Caller) (v : Version) (a : Answer) (key : List ℕ) → IsIn (post from (Session c.session) (a_message.Reply c.number v a)) (posts_of t)
+  pub sent : (u : SessionId) (to : Actor) (epoch : Epoch) (number : ℕ) (op : Op)
+      → IsIn (post (Session u) to (a_message.Call epoch number op)) (posts_of t) → CallSent script t u number op
+  pub asked : (from : Actor) (c : Caller) (v : Version) (a : Answer) (key : List ℕ)
+      → IsIn (post from (Session c.session) (a_message.Reply c.number v a)) (posts_of t)
       → call_of script c ≡ Some (Get key) → (n : ℕ) × BeganAt t c n
   pub lined : (key : List ℕ) (u : Update) → IsIn u (line_of key t) → WasPosted t u.caller
   pub ordered : (a : Caller) (v : Version) (answer : Answer) (b : Caller) → EndedFirst t a v answer b → (op : Op) (key : List ℕ) → call_of script a ≡ Some op
       → key_of op ≡ Some key → is_doubt answer ≡ false → LaterThan script t v.0 b key
 
 -- who ended without a doubt was told, or has version 0
-pub ended-known : (script : Script) (t : List Entry) (c : Caller) (v : Version) (a : Answer) → Ends script t c v a → (op : Op) (key : List ℕ) → call_of script c ≡ Some op → key_of op ≡ Some key
+pub ended-known : (script : Script) (t : List Entry) (c : Caller) (v : Version) (a : Answer) → Ends script t c v a
+    → (op : Op) (key : List ℕ) → call_of script c ≡ Some op → key_of op ≡ Some key
     → is_doubt a ≡ false → IsKnown script t key v.0
 ended-known script t c v a ends op key called on_key sure = elim (ends op key called on_key) [
-  | inl r ↦ inr (record { from = r.0; caller = c; version = v; answer = a; op = op; posted = r.1; called = called; on_key = on_key; sure = sure; version_is = refl })
+  | inl r ↦ inr (record {
+    from = r.0;
+    caller = c;
+    version = v;
+    answer = a;
+    op = op;
+    posted = r.1;
+    called = called;
+    on_key = on_key;
+    sure = sure;
+    version_is = refl;
+  })
   | inr r ↦ inl (ap (λ (y : Version). y.0) r.0)
 ]

@@ -11,9 +11,11 @@ module _ (script : Script) (older : List Entry) (calls : Calls script older) (x 
     (no_session : (u : SessionId) → x.actor ≡ Session u → ⊥)
     (same_session : (u : SessionId) → session_of script u (x ∷ older) ≡ session_of script u older)
     (no_calls : (u : SessionId) (to : Actor) (epoch : Epoch) (number : ℕ) (op : Op) → IsIn (post (Session u) to (a_message.Call epoch number op)) x.outputs → ⊥)
-    (replies : (from : Actor) (c : Caller) (v : Version) (a : Answer) (key : List ℕ) → IsIn (post from (Session c.session) (a_message.Reply c.number v a)) x.outputs → call_of script c ≡ Some (Get key)
+    (replies : (from : Actor) (c : Caller) (v : Version) (a : Answer) (key : List ℕ)
+    → IsIn (post from (Session c.session) (a_message.Reply c.number v a)) x.outputs → call_of script c ≡ Some (Get key)
     → WasPosted older c × ((n : ℕ) → IsKnown script older key n → n ≤ v.0))
-    (updates : (key : List ℕ) (u : Update) → IsIn u (line_of key (x ∷ older)) → IsIn u (line_of key older) ⊎ (WasPosted older u.caller × ((n : ℕ) → IsKnown script older key n → n < u.version.0))) where
+    (updates : (key : List ℕ) (u : Update) → IsIn u (line_of key (x ∷ older)) → IsIn u (line_of key older)
+    ⊎ (WasPosted older u.caller × ((n : ℕ) → IsKnown script older key n → n < u.version.0))) where
   -- ends and begins are earlier
   ended-before : (c : Caller) (v : Version) (a : Answer) (n : ℕ) → EndedAt (x ∷ older) c v a n → EndedAt older c v a n
   ended-before c v a n (inl h) = absurd (no_session c.session h.0)
@@ -30,8 +32,11 @@ module _ (script : Script) (older : List Entry) (calls : Calls script older) (x 
   first-before a v answer b (inr h) = h
 
   -- a call was posted before
-  call-before : (u : SessionId) (to : Actor) (epoch : Epoch) (number : ℕ) (op : Op) → IsIn (post (Session u) to (a_message.Call epoch number op)) (posts_of (x ∷ older)) → IsIn (post (Session u) to (a_message.Call epoch number op)) (posts_of older)
-  call-before u to epoch number op i = elim (in-append x.outputs (posts_of older) (post (Session u) to (a_message.Call epoch number op)) i) [ inl j ↦ absurd (no_calls u to epoch number op j) | inr j ↦ j ]
+  call-before : (u : SessionId) (to : Actor) (epoch : Epoch) (number : ℕ) (op : Op)
+      → IsIn (post (Session u) to (a_message.Call epoch number op)) (posts_of (x ∷ older))
+      → IsIn (post (Session u) to (a_message.Call epoch number op)) (posts_of older)
+  call-before u to epoch number op i = elim (in-append x.outputs (posts_of older)
+      (post (Session u) to (a_message.Call epoch number op)) i) [ inl j ↦ absurd (no_calls u to epoch number op j) | inr j ↦ j ]
 
   -- what was posted stays so
   posted-still : (c : Caller) → WasPosted older c → WasPosted (x ∷ older) c
@@ -42,7 +47,9 @@ module _ (script : Script) (older : List Entry) (calls : Calls script older) (x 
   posted-begun c w = (calls.sent c.session w.0 w.1 c.number w.2 w.3).begun
 
   -- who ended first was told
-  known-end : (a : Caller) (v : Version) (answer : Answer) (b : Caller) → EndedFirst older a v answer b → (op : Op) (key : List ℕ) → call_of script a ≡ Some op → key_of op ≡ Some key → is_doubt answer ≡ false → IsKnown script older key v.0
+  known-end : (a : Caller) (v : Version) (answer : Answer) (b : Caller) → EndedFirst older a v answer b
+      → (op : Op) (key : List ℕ) → call_of script a ≡ Some op → key_of op ≡ Some key → is_doubt answer ≡ false
+      → IsKnown script older key v.0
   known-end a v answer b f op key called on_key sure =
       let e = ended older f in ended-known script older a v answer (calls.replied a v answer e.0 e.1) op key called on_key sure
     where
@@ -54,9 +61,11 @@ module _ (script : Script) (older : List Entry) (calls : Calls script older) (x 
   -- all that a run says of calls
   pub other_calls : Calls script (x ∷ older)
   other_calls = record {
-    began_low = λ c n h. (let r = calls.began_low c n (began-before c n h) in (subst (λ (s : SessionState). c.number ≤ s.begun) (sym (same_session c.session)) r.0, omega (arith, r.1)));
+    began_low = λ c n h. (let r = calls.began_low c n (began-before c n h) in
+        (subst (λ (s : SessionState). c.number ≤ s.begun) (sym (same_session c.session)) r.0, omega (arith, r.1)));
     ended_low = λ c v a n h. (let r = calls.ended_low c v a n (ended-before c v a n h) in
-        let p = subst (λ (s : SessionState). (c.number ≤ s.begun) × (s.under_way ≡ true → c.number < s.begun)) (sym (same_session c.session)) (r.0, r.1) in (p.0, p.1, omega (arith, r.2)));
+        let p = subst (λ (s : SessionState). (c.number ≤ s.begun) × (s.under_way ≡ true → c.number < s.begun))
+        (sym (same_session c.session)) (r.0, r.1) in (p.0, p.1, omega (arith, r.2)));
     running = λ u w. (let r = calls.running u (ap (λ (s : SessionState). s.under_way) (sym (same_session u)) ∙ w) in
         (r.0, inr (subst (λ (s : SessionState). BeganAt older (record { session = u; number = s.begun }) r.0) (sym (same_session u)) r.1)));
     replied = λ c v a n h op key called on_key. elim (calls.replied c v a n (ended-before c v a n h) op key called on_key) [

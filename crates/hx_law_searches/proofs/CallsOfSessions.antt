@@ -11,7 +11,8 @@ use Rattle.hx_law_chains.proofs.Lemmas.{AreNamed}
 use Rattle.hx_law_searches.proofs.Calls.{CallSent, Calls, EndedFirst, Ends, LaterThan, NoCall, WasPosted}
 
 -- ---- an entry of a session
-module _ (script : Script) (older : List Entry) (named : AreNamed script older) (calls : Calls script older) (x : Entry) (u : SessionId) (acts : x.actor ≡ Session u)
+module _ (script : Script) (older : List Entry) (named : AreNamed script older) (calls : Calls script older)
+    (x : Entry) (u : SessionId) (acts : x.actor ≡ Session u)
     (input : MayTake older (Session u) x.input)
     (turn : SessionTurn x.input (session_of script u older) (record { state = session_of script u (x ∷ older); posts = x.outputs; notes = x.notes })) where
   -- the state before the entry
@@ -154,12 +155,16 @@ module _ (script : Script) (older : List Entry) (named : AreNamed script older) 
     | inr r ↦ absurd (let b = (calls.began_low (record { session = u; number = number }) c.begun.0 c.begun.1).0 in omega (arith, b, e, begun_is, r.0))
   ]
     where
-      by : (b : Bool) → turn.start ≡ b → ((started turn.start s).begun ≡ s.begun) × ((started turn.start s).under_way ≡ s.under_way) → (started turn.start s).sent ≡ true
-      by false q r = ap (λ b. (started b s).sent) q ∙ c.sent (sym r.0 ∙ sym begun_is ∙ e) (sym r.1 ∙ was_running turn.turn.stop mid.under_way (sym turn.turn.under_way ∙ w))
+      by : (b : Bool) → turn.start ≡ b → ((started turn.start s).begun ≡ s.begun)
+          × ((started turn.start s).under_way ≡ s.under_way) → (started turn.start s).sent ≡ true
+      by false q r = ap (λ b. (started b s).sent) q
+          ∙ c.sent (sym r.0 ∙ sym begun_is ∙ e) (sym r.1 ∙ was_running turn.turn.stop mid.under_way (sym turn.turn.under_way ∙ w))
       by true q r = absurd (let z : s.begun + 1 ≡ s.begun = ap (λ b. (started b s).begun) (sym q) ∙ r.0 in omega (arith, z))
 
   -- each call that was posted
-  sent-after : (v : SessionId) (to : Actor) (epoch : Epoch) (number : ℕ) (op : Op) → IsIn (post (Session v) to (a_message.Call epoch number op)) (posts_of (x ∷ older)) → CallSent script (x ∷ older) v number op
+  sent-after : (v : SessionId) (to : Actor) (epoch : Epoch) (number : ℕ) (op : Op)
+      → IsIn (post (Session v) to (a_message.Call epoch number op)) (posts_of (x ∷ older))
+      → CallSent script (x ∷ older) v number op
   sent-after v to epoch number op i = elim (in-append x.outputs (posts_of older) (post (Session v) to (a_message.Call epoch number op)) i) [
     | inl j ↦ (let r = now-called v to epoch number op j in
         subst (λ (y : SessionId). CallSent script (x ∷ older) y number op) (sym r.0)
@@ -173,7 +178,8 @@ module _ (script : Script) (older : List Entry) (named : AreNamed script older) 
         begun = (c.begun.0, inr c.begun.1);
         sent = by_state (λ y t. v ≡ y → t.begun ≡ number → t.under_way ≡ true → t.sent ≡ true)
             (λ q. still-sent number op (subst (λ (y : SessionId). CallSent script older y number op) q c))
-            (λ y ne q. subst (λ (z : SessionId). (session_of script z older).begun ≡ number → (session_of script z older).under_way ≡ true → (session_of script z older).sent ≡ true) q c.sent) v refl;
+            (λ y ne q. subst (λ (z : SessionId). (session_of script z older).begun ≡ number
+            → (session_of script z older).under_way ≡ true → (session_of script z older).sent ≡ true) q c.sent) v refl;
       }
 
   -- a call that has ended isn't posted again
@@ -181,7 +187,8 @@ module _ (script : Script) (older : List Entry) (named : AreNamed script older) 
   no-more c v a n h none to epoch op i = elim (in-append x.outputs (posts_of older) (post (Session c.session) to (a_message.Call epoch c.number op)) i) [
     | inl j ↦ (let r = now-called c.session to epoch c.number op j in
         let l = calls.ended_low c v a n h in
-        let low = subst (λ (y : SessionId). (c.number ≤ (session_of script y older).begun) × ((session_of script y older).under_way ≡ true → c.number < (session_of script y older).begun)) r.0 (l.0, l.1) in
+        let low = subst (λ (y : SessionId). (c.number ≤ (session_of script y older).begun)
+        × ((session_of script y older).under_way ≡ true → c.number < (session_of script y older).begun)) r.0 (l.0, l.1) in
         elim (may_start _ _ _ turn) [
           | inl z ↦ (let b = low.1 (sym z.1 ∙ r.2) in omega (arith, b, r.1, z.0))
           | inr z ↦ (let b = low.0 in omega (arith, b, r.1, z.0))
@@ -191,16 +198,18 @@ module _ (script : Script) (older : List Entry) (named : AreNamed script older) 
 
   -- where a write that wasn't sent ends now, it was never posted
   never-posted : (c : Caller) → c.session ≡ u → c.number ≡ mid.begun → mid.under_way ≡ true → mid.sent ≡ false → after.under_way ≡ false → NoCall (x ∷ older) c
-  never-posted c own m running unsent over to epoch op i = elim (in-append x.outputs (posts_of older) (post (Session c.session) to (a_message.Call epoch c.number op)) i) [
-    | inl j ↦ (let r = now-called c.session to epoch c.number op j in true≢false (sym r.5 ∙ over))
-    | inr j ↦ (let k = subst (λ (y : SessionId). CallSent script older y c.number op) own (calls.sent c.session to epoch c.number op j) in
-        elim (may_start _ _ _ turn) [
-          | inl z ↦ by turn.start refl z k
-          | inr z ↦ (let b = (calls.began_low (record { session = u; number = c.number }) k.begun.0 k.begun.1).0 in omega (arith, b, m, z.0))
-        ])
-  ]
+  never-posted c own m running unsent over to epoch op i =
+      elim (in-append x.outputs (posts_of older) (post (Session c.session) to (a_message.Call epoch c.number op)) i) [
+        | inl j ↦ (let r = now-called c.session to epoch c.number op j in true≢false (sym r.5 ∙ over))
+        | inr j ↦ (let k = subst (λ (y : SessionId). CallSent script older y c.number op) own (calls.sent c.session to epoch c.number op j) in
+            elim (may_start _ _ _ turn) [
+              | inl z ↦ by turn.start refl z k
+              | inr z ↦ (let b = (calls.began_low (record { session = u; number = c.number }) k.begun.0 k.begun.1).0 in omega (arith, b, m, z.0))
+            ])
+      ]
     where
-      by : (b : Bool) → turn.start ≡ b → ((started turn.start s).begun ≡ s.begun) × ((started turn.start s).under_way ≡ s.under_way) → CallSent script older u c.number op → ⊥
+      by : (b : Bool) → turn.start ≡ b → ((started turn.start s).begun ≡ s.begun)
+          × ((started turn.start s).under_way ≡ s.under_way) → CallSent script older u c.number op → ⊥
       by false q z k = true≢false (sym (ap (λ b. (started b s).sent) q ∙ k.sent (sym z.0 ∙ sym m) (sym z.1 ∙ running)) ∙ unsent)
       by true q z k = (let w : s.begun + 1 ≡ s.begun = ap (λ b. (started b s).begun) (sym q) ∙ z.0 in omega (arith, w))
 
@@ -219,7 +228,12 @@ module _ (script : Script) (older : List Entry) (named : AreNamed script older) 
           r.2,
           elim r.3 [
             | inl z ↦ inl (z.0, sym (ap is_write (same-op r.0 r.1 m.number)) ∙ z.1)
-            | inr z ↦ inr (z.0, λ w. never-posted c (own c h.0) m.number (turn.turn.running _ m.stop_is) (z.1 (ap is_write (same-op r.0 r.1 m.number) ∙ w)) (turn.turn.under_way ∙ ap (λ o. goes_on o mid.under_way) m.stop_is))
+            | inr z ↦ inr (
+              z.0,
+              λ w. never-posted c (own c h.0) m.number (turn.turn.running _ m.stop_is)
+                  (z.1 (ap is_write (same-op r.0 r.1 m.number) ∙ w))
+                  (turn.turn.under_way ∙ ap (λ o. goes_on o mid.under_way) m.stop_is),
+            )
           ],
         )
       ]
@@ -248,7 +262,8 @@ module _ (script : Script) (older : List Entry) (named : AreNamed script older) 
 
   -- the caller of each update was called
   lined : (key : List ℕ) (w : Update) → IsIn w (line_of key (x ∷ older)) → WasPosted (x ∷ older) w.caller
-  lined key w i = let r = calls.lined key w (subst (λ (l : List Update). IsIn w l) (same_line key) i) in (r.0, r.1, r.2, in_right x.outputs (posts_of older) _ r.3)
+  lined key w i = let r = calls.lined key w (subst (λ (l : List Update). IsIn w l) (same_line key) i) in
+      (r.0, r.1, r.2, in_right x.outputs (posts_of older) _ r.3)
 
   -- calls in the order of time stay so
   later_kept : (v : ℕ) (b : Caller) (key : List ℕ) → LaterThan script older v b key → LaterThan script (x ∷ older) v b key
@@ -266,14 +281,16 @@ module _ (script : Script) (older : List Entry) (named : AreNamed script older) 
       omega (arith, m.0, o)
 
   -- calls that come in order by this entry are
-  ordered : (a : Caller) (v : Version) (answer : Answer) (b : Caller) → EndedFirst (x ∷ older) a v answer b → (op : Op) (key : List ℕ) → call_of script a ≡ Some op
+  ordered : (a : Caller) (v : Version) (answer : Answer) (b : Caller) → EndedFirst (x ∷ older) a v answer b
+      → (op : Op) (key : List ℕ) → call_of script a ≡ Some op
       → key_of op ≡ Some key → is_doubt answer ≡ false → LaterThan script (x ∷ older) v.0 b key
   ordered a v answer b (inr f) op key called on_key sure = later_kept v.0 b key (calls.ordered a v answer b f op key called on_key sure)
   ordered a v answer b (inl h) op key called on_key sure = record {
     updates = λ w i c. (let p = calls.lined key w (subst (λ (l : List Update). IsIn w l) (same_line key) i) in
         let r = (calls.sent w.caller.session p.0 p.1 w.caller.number p.2 p.3).begun in
         absurd (new_call b r.0 h.0 h.1 (subst (λ (d : Caller). BeganAt older d r.0) c r.1)));
-    replies = λ from w z i get. (let r = calls.asked from b w z key (no_reply from (Session b.session) b.number w z i) get in absurd (new_call b r.0 h.0 h.1 r.1));
+    replies = λ from w z i get. (let r = calls.asked from b w z key
+        (no_reply from (Session b.session) b.number w z i) get in absurd (new_call b r.0 h.0 h.1 r.1));
   }
 
   -- all that a run says of calls

@@ -35,7 +35,8 @@ module _ (script : Script) (facts : Facts script) (t : List Entry) (run : IsRun 
       }
 
   -- an item that changes is that of a change of the line
-  pub item-change : (x : Item) → IsIn x (history_of script key t) → changes_object x ≡ true → (w : Wrote script key t (line_of key t) x) × (w.update.changes ≡ true)
+  pub item-change : (x : Item) → IsIn x (history_of script key t) → changes_object x ≡ true
+      → (w : Wrote script key t (line_of key t) x) × (w.update.changes ≡ true)
   item-change x i c =
       let p = and_parts (is_write x.op) (is_done x.answer) c in
       let w = item-wrote script facts t run key x i p.0 in

@@ -16,7 +16,8 @@ use Rattle.hx_law_epochs.proofs.Lemmas.{IsKnown, Real}
 use Rattle.hx_law_searches.proofs.Fronts.{front, front-fixed, front-kept, front-reaches, front-within}
 
 -- an update with the law stands so
-after-law : (script : Script) (known : Config → Type 0) (key : List ℕ) (older : List Update) (u : Update) → Law script known key older u → IsUpdateAfter script key older u
+after-law : (script : Script) (known : Config → Type 0) (key : List ℕ) (older : List Update) (u : Update)
+    → Law script known key older u → IsUpdateAfter script key older u
 after-law script known key older u l = record {
   key_is = l.made.key_is;
   version = l.made.version;
@@ -41,15 +42,19 @@ module _ (script : Script) (valid : IsScript script) where
   at t = scene script t
 
   -- what a session was told is committed along chains
-  told-along : (t : List Entry) → IsRun script t → (key : List ℕ) (v : ℕ) → WasTold script t key v → (v ≤ length (line_of key t)) × Along script (world (at t)) key v
+  told-along : (t : List Entry) → IsRun script t → (key : List ℕ) (v : ℕ) → WasTold script t key v
+      → (v ≤ length (line_of key t)) × Along script (world (at t)) key v
   told-along t run key v told =
       subst (λ n. (n ≤ length (line_of key t)) × Along script (world (at t)) key n) told.version_is
-      (by ((chained-run script valid t run).valid (post told.from (Session told.caller.session) (a_message.Reply told.caller.number told.version told.answer)) told.posted told.op key told.called told.on_key))
+      (by ((chained-run script valid t run).valid (post told.from (Session told.caller.session)
+      (a_message.Reply told.caller.number told.version told.answer)) told.posted told.op key told.called told.on_key))
     where
-      by : Told script (world (at t)) key told.caller told.version told.answer told.op → (told.version.0 ≤ length (line_of key t)) × Along script (world (at t)) key told.version.0
+      by : Told script (world (at t)) key told.caller told.version told.answer told.op
+          → (told.version.0 ≤ length (line_of key t)) × Along script (world (at t)) key told.version.0
       by (inl h) = absurd (false≢true (sym told.sure ∙ h.1))
       by (inr (inl h)) = (
-        let b = (in-below (line_of key t) h.1.0 (lawful-numbered script (IsKnown script t) key (line_of key t) ((chained-run script valid t run).keyed key).lawful) h.1.1).1 in
+        let b = (in-below (line_of key t) h.1.0 (lawful-numbered script (IsKnown script t) key (line_of key t)
+            ((chained-run script valid t run).keyed key).lawful) h.1.1).1 in
             let e : h.1.0.version.0 ≡ told.version.0 = ap (λ (z : Version). z.0) h.1.3 in omega (arith, b, e),
         h.2,
       )
@@ -57,16 +62,20 @@ module _ (script : Script) (valid : IsScript script) where
 
   -- so it is fixed
   told-fixed : (t : List Entry) → IsRun script t → (key : List ℕ) (v : ℕ) → WasTold script t key v → Fixed script (world (at t)) key v
-  told-fixed t run key v told = let a = told-along t run key v told in along-fixed script (world (at t)) key ((chained-run script valid t run).keyed key) v a.0 a.1
+  told-fixed t run key v told = let a = told-along t run key v told in
+      along-fixed script (world (at t)) key ((chained-run script valid t run).keyed key) v a.0 a.1
 
   -- what is fixed stays, however the run goes on
   fixed-stays : (t : List Entry) (key : List ℕ) (v : ℕ) → Fixed script (world (at t)) key v → StaysUpTo script t key v
   fixed-stays t key v f = stays-by script (λ s. Fixed script (world (at s)) key v) key v (λ x older run h. fixed-run script valid x older run key v h) t f
 
   -- what a reply tells
-  replies : (t : List Entry) → IsRun script t → (from : Actor) (c : Caller) (v : Version) (answer : Answer) → IsIn (post from (Session c.session) (a_message.Reply c.number v answer)) (posts_of t)
+  replies : (t : List Entry) → IsRun script t → (from : Actor) (c : Caller) (v : Version) (answer : Answer)
+      → IsIn (post from (Session c.session) (a_message.Reply c.number v answer)) (posts_of t)
       → (op : Op) (key : List ℕ) → call_of script c ≡ Some op → key_of op ≡ Some key → Tells (line_of key t) c v answer op
-  replies t run from c v answer i op key called on_key = by ((chained-run script valid t run).valid (post from (Session c.session) (a_message.Reply c.number v answer)) i op key called on_key)
+  replies t run from c v answer i op key called on_key =
+      by ((chained-run script valid t run).valid (post from (Session c.session) (a_message.Reply c.number v answer)) i
+      op key called on_key)
     where
       by : Told script (world (at t)) key c v answer op → Tells (line_of key t) c v answer op
       by (inl h) = inl h
@@ -74,7 +83,8 @@ module _ (script : Script) (valid : IsScript script) where
       by (inr (inr h)) = inr (inr (h.0, h.1, h.2))
 
   -- what a server assigns
-  assigns : (x : Entry) (older : List Entry) → IsRun script (x ∷ older) → (s : ServerId) → x.actor ≡ Server s → (key : List ℕ) → (line_of key (x ∷ older) ≡ line_of key older) ⊎ AssignsNext script older x key
+  assigns : (x : Entry) (older : List Entry) → IsRun script (x ∷ older) → (s : ServerId) → x.actor ≡ Server s
+      → (key : List ℕ) → (line_of key (x ∷ older) ≡ line_of key older) ⊎ AssignsNext script older x key
   assigns x older run s acts key = elim (lines-run script valid x older run s acts key) [
     | inl e ↦ inl e
     | inr a ↦ inr (record { update = a.update; delivers = a.asks; above = λ v told. a.above v (told-fixed older run.1 key v told); line = a.line })
@@ -113,7 +123,8 @@ module _ (script : Script) (valid : IsScript script) where
       where
         by : (o : Option Replica) → if_installed o ≡ Some r → r.installed ≡ true
         by None = λ e. absurd (cc)
-        by (Some y) = cond_both y.installed (Some y) None (λ (o : Option Replica). o ≡ Some r → r.installed ≡ true) (λ t e. (let q : y ≡ r = cc in sym (ap (λ (z : Replica). z.installed) q) ∙ t)) (λ t e. absurd (cc))
+        by (Some y) = cond_both y.installed (Some y) None (λ (o : Option Replica). o ≡ Some r → r.installed ≡ true)
+            (λ t e. (let q : y ≡ r = cc in sym (ap (λ (z : Replica). z.installed) q) ∙ t)) (λ t e. absurd (cc))
 
     -- all that every run keeps of chains
     chained : Chained script (world (scene script older)) (posts_of older)
@@ -139,7 +150,8 @@ module _ (script : Script) (valid : IsScript script) where
 
     -- the slot is one
     is-slot : (key : List ℕ) → IsSlotOf g (state_in script.space r key)
-    is-slot key = subst (λ (h : RegionId). IsSlotOf h (state_in script.space r key)) region.1 (replica-sent script.space st ((snapshots-kept script valid older run).joinable i) r region.0 key).slot
+    is-slot key = subst (λ (h : RegionId). IsSlotOf h (state_in script.space r key)) region.1
+        (replica-sent script.space st ((snapshots-kept script valid older run).joinable i) r region.0 key).slot
 
     -- it keeps what its region keeps of the line up to there
     keeps : (key : List ℕ) → object_of g (state_in script.space r key) ≡ kept_row g None (upto (reach key) (part_at g (line_of key older)))
@@ -147,7 +159,8 @@ module _ (script : Script) (valid : IsScript script) where
 
     -- its slots stand in order
     ordered : (t : KeyState) → IsIn t r.states → state_in script.space r t.base.key ≡ t
-    ordered t j = state-there (is_key_region script.space r.region) r.states t (replica-ascends script.space st ((snapshots-kept script valid older run).joinable i) r region.0) j
+    ordered t j = state-there (is_key_region script.space r.region) r.states t
+        (replica-ascends script.space st ((snapshots-kept script valid older run).joinable i) r region.0) j
 
     -- lines go through their places
     made : (key : List ℕ) → AllMade script.space key (line_of key older)
@@ -171,7 +184,8 @@ module _ (script : Script) (valid : IsScript script) where
 
   -- rows are those of a replica that shows so much
   founds : (x : Entry) (older : List Entry) → IsRun script (x ∷ older) → (s : ServerId) → x.actor ≡ Server s
-      → (from to : Actor) (epoch : Epoch) (number : ℕ) (g : RegionId) (rows : List Row) → IsIn (post from to (a_message.Found epoch number g rows)) x.outputs → ShowsRows script older x to epoch number g rows
+      → (from to : Actor) (epoch : Epoch) (number : ℕ) (g : RegionId) (rows : List Row)
+      → IsIn (post from to (a_message.Found epoch number g rows)) x.outputs → ShowsRows script older x to epoch number g rows
   founds x older run s acts from to epoch number g rows j =
       let l = late-run script valid x older run s acts (post from to (a_message.Found epoch number g rows)) j in
       subst (ShowsRows script older x to epoch number g) (sym l.2.2)

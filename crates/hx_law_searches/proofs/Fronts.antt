@@ -26,7 +26,9 @@ top-in : (us : List Update) → (top_above 0 us ≡ 0) ⊎ ((u : Update) × IsIn
 top-in [] = inl refl
 top-in (u ∷ us) = inr (u, inl refl, refl)
 
-module _ (script : Script) (valid : IsSpace script.space) (w : World) (differ : (g : RegionId) → Differ (members_of w.config g)) (g : RegionId) (i : ServerId) (seat : Seat script w g i) (key : List ℕ) (ok : KeyOk script w key) where
+module _ (script : Script) (valid : IsSpace script.space) (w : World)
+    (differ : (g : RegionId) → Differ (members_of w.config g)) (g : RegionId) (i : ServerId)
+    (seat : Seat script w g i) (key : List ℕ) (ok : KeyOk script w key) where
   -- the key's line
   abbrev line : List Update
   line = w.line key
@@ -66,15 +68,19 @@ module _ (script : Script) (valid : IsSpace script.space) (w : World) (differ : 
       ∙ ap (kept_row g None) (sym (only-upto g slot.floor line sorted) ∙ sym front-part)
 
   -- each holder of the key's region has accepted the front
-  accepted : (u : Update) → IsIn u line → has_place g u ≡ true → u.version.0 ≤ slot.floor → (s : ServerId) (t : KeyState) → w.holds key (key_region script.space key) s t → u.version.0 ≤ top_of t
+  accepted : (u : Update) → IsIn u line → has_place g u ≡ true → u.version.0 ≤ slot.floor
+      → (s : ServerId) (t : KeyState) → w.holds key (key_region script.space key) s t → u.version.0 ≤ top_of t
   accepted u j p l s t h =
       let law = law-of script w.known key line u ok.lawful j in
-      elim (stands-cases w.config u.places (places-apart script.space valid key line (lawful-made script w.known key line ok.lawful) u j) differ (key_region script.space key) s g i
-      (placed-number u.places (key_region script.space key) (passes-key script.space key law.0 u law.1.made)) (placed-number u.places g p) (ok.listed (key_region script.space key) s t h) (ok.listed g i slot (seat.held key))) [
+      elim (stands-cases w.config u.places (places-apart script.space valid key line
+      (lawful-made script w.known key line ok.lawful) u j) differ (key_region script.space key) s g i
+      (placed-number u.places (key_region script.space key) (passes-key script.space key law.0 u law.1.made))
+      (placed-number u.places g p) (ok.listed (key_region script.space key) s t h) (ok.listed g i slot (seat.held key))) [
         | inl q ↦ (let same = seat.only key t (subst (λ (x : ServerId). w.holds key g x t) q.1 (subst (λ (r : RegionId). w.holds key r s t) q.0 h)) in
             let e : top_of t ≡ top_of slot = ap top_of same in let f = own.content.floor in omega (arith, e, f, l))
         | inr (inl a) ↦ own.taken u j p (let f = own.content.floor in omega (arith, f, l)) (key_region script.space key) s t h a
-        | inr (inr a) ↦ (let b = own.freed u j p l (key_region script.space key) s t h a in let f = (ok.own (key_region script.space key) s t h).content.floor in omega (arith, b, f))
+        | inr (inr a) ↦ (let b = own.freed u j p l (key_region script.space key) s t h a in
+            let f = (ok.own (key_region script.space key) s t h).content.floor in omega (arith, b, f))
       ]
 
   -- so the front is fixed
@@ -94,4 +100,5 @@ module _ (script : Script) (valid : IsSpace script.space) (w : World) (differ : 
   pub front-reaches : (v : ℕ) → Along script w key v → (u : Update) → IsIn u line → has_place g u ≡ true → u.version.0 ≤ v → u.version.0 ≤ front
   front-reaches v a u j p l =
       let c = a u j l g i slot (seat.held key) p in
-      (in-top (upto slot.floor (only g line)) u (upto-sorted slot.floor (only g line) (only-sorted g line sorted)) (in-upto_from slot.floor (only g line) u (only-sorted g line sorted) (in-only g line u j p) c)).1
+      (in-top (upto slot.floor (only g line)) u (upto-sorted slot.floor (only g line) (only-sorted g line sorted))
+      (in-upto_from slot.floor (only g line) u (only-sorted g line sorted) (in-only g line u j p) c)).1

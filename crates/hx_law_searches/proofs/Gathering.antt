@@ -14,7 +14,9 @@ pub record ShownBefore (script : Script) (t : List Entry) (c : Caller) (n : ℕ)
   pub before : length shown.older < n
 
 -- what is known of rows may be said in other words
-abbrev pub gathered-map : (space : Space) (terms : List Term) (P Q : RegionId → List Row → Type 0) → ((g : RegionId) (rows : List Row) → P g rows → Q g rows) → (rows : List Row) → Gathered space terms P rows → Gathered space terms Q rows
+abbrev pub gathered-map : (space : Space) (terms : List Term) (P Q : RegionId → List Row → Type 0)
+    → ((g : RegionId) (rows : List Row) → P g rows → Q g rows) → (rows : List Row) → Gathered space terms P rows
+    → Gathered space terms Q rows
 gathered-map space terms P Q f rows h = record {
   parts = h.parts;
   parted = record {
@@ -49,24 +51,29 @@ module _ (script : Script) (facts : Facts script) where
       )
 
   -- what was shown before an entry stays so
-  before-up : (older : List Entry) (x : Entry) (c : Caller) (n : ℕ) (g : RegionId) (rows : List Row) → ShownBefore script older c n g rows → ShownBefore script (x ∷ older) c n g rows
+  before-up : (older : List Entry) (x : Entry) (c : Caller) (n : ℕ) (g : RegionId) (rows : List Row)
+      → ShownBefore script older c n g rows → ShownBefore script (x ∷ older) c n g rows
   before-up older x c n g rows f = record { shown = shown-up script older x c g rows f.shown; before = f.before }
 
   -- what was shown by now was shown before the next entry
-  before-now : (older : List Entry) (x : Entry) (c : Caller) (g : RegionId) (rows : List Row) → WasShown script older c g rows → ShownBefore script (x ∷ older) c (length older + 1) g rows
+  before-now : (older : List Entry) (x : Entry) (c : Caller) (g : RegionId) (rows : List Row)
+      → WasShown script older c g rows → ShownBefore script (x ∷ older) c (length older + 1) g rows
   before-now older x c g rows w = record {
     shown = shown-up script older x c g rows w;
     before = (let l = part-length (w.entry ∷ w.older) older w.part in omega (arith, l));
   }
 
   -- a whole search
-  gathered-by : (t : List Entry) → (c : Caller) (terms : List Term) (rows : List Row) (n : ℕ) → EndGathered script t c terms rows n → Gathered script.space terms (ShownBefore script t c n) rows
+  gathered-by : (t : List Entry) → (c : Caller) (terms : List Term) (rows : List Row) (n : ℕ)
+      → EndGathered script t c terms rows n → Gathered script.space terms (ShownBefore script t c n) rows
   gathered-by [] c terms rows n h = absurd h
   gathered-by (x ∷ older) c terms rows n (inl h) =
       subst (λ k. Gathered script.space terms (ShownBefore script (x ∷ older) c k) rows) (sym h.0)
-      (gathered-map script.space terms (λ g rs. WasShown script older c g rs) (ShownBefore script (x ∷ older) c (length older + 1)) (λ g rs f. before-now older x c g rs f) rows h.1)
+      (gathered-map script.space terms (λ g rs. WasShown script older c g rs)
+      (ShownBefore script (x ∷ older) c (length older + 1)) (λ g rs f. before-now older x c g rs f) rows h.1)
   gathered-by (x ∷ older) c terms rows n (inr h) =
-      gathered-map script.space terms (ShownBefore script older c n) (ShownBefore script (x ∷ older) c n) (λ g rs f. before-up older x c n g rs f) rows (gathered-by older c terms rows n h)
+      gathered-map script.space terms (ShownBefore script older c n) (ShownBefore script (x ∷ older) c n)
+      (λ g rs f. before-up older x c n g rs f) rows (gathered-by older c terms rows n h)
 
   -- what is known of a finished search
   pub record Finished (t : List Entry) (c : Caller) (s : FinishedSearch) : Type 0 where
@@ -95,7 +102,11 @@ module _ (script : Script) (facts : Facts script) where
           let d = ended_at c t e (end-noted c t e f) in
           let h = subst (λ (a : Answer). EndedAt t c e.version a e.entry) (rows-are e.answer rows g) d in
           subst (Finished t c) (let r : record { terms = terms; begin = begin; end = e.entry; rows = rows } ≡ s = cc in r)
-          (record { called = called; begun = began_at c t begin b; gathered = gathered-by t c terms rows e.entry (ends-gathered t run c e.version rows terms e.entry h called) })
+          (record {
+            called = called;
+            begun = began_at c t begin b;
+            gathered = gathered-by t c terms rows e.entry (ends-gathered t run c e.version rows terms e.entry h called);
+          })
 
       end-by : (terms : List Term) → call_of script c ≡ Some (Search terms) → (begin : ℕ) → begin_of c t ≡ Some begin → (o : Option CallEnd) → end_of c t ≡ o
           → when_some o None (λ (e : CallEnd). with_rows c terms begin e.entry (rows_in e.answer)) ≡ Some s → Finished t c s
@@ -103,16 +114,22 @@ module _ (script : Script) (facts : Facts script) where
       end-by terms called begin b (Some e) f q = row-by terms called begin b e f (rows_in e.answer) refl q
 
       begin-by : (terms : List Term) → call_of script c ≡ Some (Search terms) → (o : Option ℕ) → begin_of c t ≡ o
-          → when_some o None (λ begin. when_some (end_of c t) None (λ (e : CallEnd). with_rows c terms begin e.entry (rows_in e.answer))) ≡ Some s → Finished t c s
+          → when_some o None (λ begin. when_some (end_of c t) None
+          (λ (e : CallEnd). with_rows c terms begin e.entry (rows_in e.answer))) ≡ Some s → Finished t c s
       begin-by terms called None b q = absurd (cc)
       begin-by terms called (Some begin) b q = end-by terms called begin b (end_of c t) refl q
 
       terms-by : (op : Op) → call_of script c ≡ Some op → (o : Option (List Term)) → terms_of op ≡ o
-          → when_some o None (λ (terms : List Term). when_some (begin_of c t) None (λ begin. when_some (end_of c t) None (λ (e : CallEnd). with_rows c terms begin e.entry (rows_in e.answer)))) ≡ Some s → Finished t c s
+          → when_some o None (λ (terms : List Term). when_some (begin_of c t) None
+          (λ begin. when_some (end_of c t) None (λ (e : CallEnd). with_rows c terms begin e.entry
+          (rows_in e.answer)))) ≡ Some s → Finished t c s
       terms-by op called None f q = absurd (cc)
       terms-by op called (Some terms) f q = begin-by terms (called ∙ ap Some (terms-are op terms f)) (begin_of c t) refl q
 
       op-by : (o : Option Op) → call_of script c ≡ o
-          → when_some o None (λ (op : Op). when_some (terms_of op) None (λ (terms : List Term). when_some (begin_of c t) None (λ begin. when_some (end_of c t) None (λ (e : CallEnd). with_rows c terms begin e.entry (rows_in e.answer))))) ≡ Some s → Finished t c s
+          → when_some o None (λ (op : Op). when_some (terms_of op) None
+          (λ (terms : List Term). when_some (begin_of c t) None
+          (λ begin. when_some (end_of c t) None (λ (e : CallEnd). with_rows c terms begin e.entry
+          (rows_in e.answer))))) ≡ Some s → Finished t c s
       op-by None called q = absurd (cc)
       op-by (Some op) called q = terms-by op called (terms_of op) refl q

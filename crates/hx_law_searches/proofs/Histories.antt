@@ -27,7 +27,8 @@ end_noted c t e q = by (note_of_end c t) q
   where
     by : (o : Option CallEnd) → when_some o None (λ (x : CallEnd). cond (is_doubt x.answer) None (Some x)) ≡ Some e → (o ≡ Some e) × (is_doubt e.answer ≡ false)
     by None q = absurd (cc)
-    by (Some x) q = cond_both (is_doubt x.answer) None (Some x) (λ (o : Option CallEnd). o ≡ Some e → (Some x ≡ Some e) × (is_doubt e.answer ≡ false)) (λ t r. absurd (cc))
+    by (Some x) q = cond_both (is_doubt x.answer) None (Some x)
+        (λ (o : Option CallEnd). o ≡ Some e → (Some x ≡ Some e) × (is_doubt e.answer ≡ false)) (λ t r. absurd (cc))
         (λ t r. (r, (let s : x ≡ e = cc in sym (ap (λ (y : CallEnd). is_doubt y.answer) s) ∙ t))) q
 
 -- what ended before an entry has an end
@@ -50,7 +51,13 @@ module _ (script : Script) (key : List ℕ) (low : ℕ) (high : Option ℕ) (obj
       well false e = refl
 
       by : (o : Option Op) → IsIn x (when_some o [] (λ (op : Op). provided (is_get_of key op && not (is_refused answer) && in_place low high version.0)
-          (record { version = version; caller = record { session = u; number = number }; op = op; answer = answer; object = object } ∷ []))) → is_refused x.answer ≡ false
+          (record {
+            version = version;
+            caller = record { session = u; number = number };
+            op = op;
+            answer = answer;
+            object = object;
+          } ∷ []))) → is_refused x.answer ≡ false
       by None i = absurd i
       by (Some op) i =
           let r = in-provided (is_get_of key op && not (is_refused answer) && in_place low high version.0)
@@ -92,7 +99,8 @@ module _ (script : Script) (facts : Facts script) (whole : List Entry) (run : Is
 
   -- what a reply to an ended call told
   pub ended-told : (c : Caller) (v : Version) (a : Answer) (n : ℕ) (op : Op) → EndedAt whole c v a n → call_of script c ≡ Some op → key_of op ≡ Some key
-      → Tells line c v a op ⊎ ((v ≡ no_version) × (((is_doubt a ≡ true) × (is_write op ≡ true)) ⊎ ((is_refused a ≡ true) × (is_write op ≡ true → NoCall whole c))))
+      → Tells line c v a op ⊎ ((v ≡ no_version) × (((is_doubt a ≡ true) × (is_write op ≡ true))
+      ⊎ ((is_refused a ≡ true) × (is_write op ≡ true → NoCall whole c))))
   ended-told c v a n op h called on_key = elim (calls.replied c v a n h op key called on_key) [
     | inl r ↦ inl (facts.replies whole run r.0 c v a r.1 op key called on_key)
     | inr r ↦ inr r
@@ -118,12 +126,14 @@ module _ (script : Script) (facts : Facts script) (whole : List Entry) (run : Is
       by m b (inr (inr t)) = record { entry = m; begun = b; low = t.1; answer = t.2 }
 
   -- an update of the line whose call ended without a doubt: with its version and answer
-  write-told : (u : Update) → IsIn u line → (v : Version) (a : Answer) (n : ℕ) → EndedAt whole u.caller v a n → is_doubt a ≡ false → (u.version ≡ v) × (u.answer ≡ a)
+  write-told : (u : Update) → IsIn u line → (v : Version) (a : Answer) (n : ℕ) → EndedAt whole u.caller v a n
+      → is_doubt a ≡ false → (u.version ≡ v) × (u.answer ≡ a)
   write-told u i v a n h sure =
       let l = (update-at script key line u lawful i).1 in
       elim (ended-told u.caller v a n l.op h l.called l.on_key) [
         | inl (inl t) ↦ absurd (false≢true (sym sure ∙ t.1))
-        | inl (inr (inl t)) ↦ (let q = caller-once script key line lawful u t.1.0 i t.1.1 (sym t.1.2) in (ap (λ (y : Update). y.version) q ∙ t.1.3, ap (λ (y : Update). y.answer) q ∙ t.1.4))
+        | inl (inr (inl t)) ↦ (let q = caller-once script key line lawful u t.1.0 i t.1.1 (sym t.1.2) in
+            (ap (λ (y : Update). y.version) q ∙ t.1.3, ap (λ (y : Update). y.answer) q ∙ t.1.4))
         | inl (inr (inr t)) ↦ absurd (true≢false (sym l.writes ∙ t.0))
         | inr t ↦ elim t.1 [
           | inl z ↦ absurd (false≢true (sym sure ∙ z.0))
@@ -143,7 +153,8 @@ module _ (script : Script) (facts : Facts script) (whole : List Entry) (run : Is
   story_is high [] law = refl
   story_is high (u ∷ us) law =
       ap (λ (o : Option Op).
-      gets_of script key u.version.0 high u.object whole ++ when_some o [] (λ (op : Op). write_of u op ∷ []) ++ history_on script key whole (Some u.version.0) us)
+      gets_of script key u.version.0 high u.object whole ++ when_some o [] (λ (op : Op). write_of u op ∷ [])
+      ++ history_on script key whole (Some u.version.0) us)
       law.0.called
       ∙ append_assoc (gets_of script key u.version.0 high u.object whole) (write_of u law.0.op ∷ []) (history_on script key whole (Some u.version.0) us)
       ∙ ap (λ (l : List Item). gets_of script key u.version.0 high u.object whole ++ write_of u law.0.op ∷ l)
@@ -168,7 +179,8 @@ module _ (script : Script) (facts : Facts script) (whole : List Entry) (run : Is
   -- the part before a write
   place-next : (high : Option ℕ) (u : Update) (us : List Update) → Writes script key (u ∷ us) → Place high (u ∷ us) → Place (Some u.version.0) us
   place-next high u us law p = (
-    (λ v b l. sym (upto_upto v u.version.0 ws (below-le v b)) ∙ ap (upto v) (p.0 u.version.0 (p.1 u (inl refl)).1 (omega arith)) ∙ upto_past v u us b ∙ upto_all us v l),
+    (λ v b l. sym (upto_upto v u.version.0 ws (below-le v b))
+        ∙ ap (upto v) (p.0 u.version.0 (p.1 u (inl refl)).1 (omega arith)) ∙ upto_past v u us b ∙ upto_all us v l),
     (λ w i. ((p.1 w (inr i)).0, law.0.above w i)),
   )
     where
@@ -232,7 +244,8 @@ module _ (script : Script) (facts : Facts script) (whole : List Entry) (run : Is
       ((subst (λ (o : Option (List Value)). IsEffect script.space o x) (sym r.1) (get_legal object x g), r.0), g.object_is)
 
   -- the gets of a place answer with its object
-  gets-answer : (high : Option ℕ) (us : List Update) → Place high us → (x : Item) → IsIn x (gets_of script key (top_above 0 us) high (line_object us) whole) → Gets (line_object us) x
+  gets-answer : (high : Option ℕ) (us : List Update) → Place high us → (x : Item)
+      → IsIn x (gets_of script key (top_above 0 us) high (line_object us) whole) → Gets (line_object us) x
   gets-answer high us p x i =
       let g = got (top_above 0 us) high (line_object us) x i in
       record {
@@ -242,7 +255,8 @@ module _ (script : Script) (facts : Facts script) (whole : List Entry) (run : Is
       }
 
   -- the story of a part is legal, and leaves the part's object
-  story_legal : (high : Option ℕ) (us : List Update) (law : Writes script key us) → Place high us → IsLegal script.space (story high us law) × (object_now (story high us law) ≡ line_object us)
+  story_legal : (high : Option ℕ) (us : List Update) (law : Writes script key us) → Place high us
+      → IsLegal script.space (story high us law) × (object_now (story high us law) ≡ line_object us)
   story_legal high [] law p =
       let r = gets_legal None [] (gets_of script key 0 high None whole) (gets-answer high [] p) tt refl in
       subst (λ (l : List Item). IsLegal script.space l × (object_now l ≡ None)) (append-nil (gets_of script key 0 high None whole)) r
@@ -250,7 +264,8 @@ module _ (script : Script) (facts : Facts script) (whole : List Entry) (run : Is
       let r = story_legal (Some u.version.0) us law.1 (place-next high u us law p) in
       let here : IsEffect script.space (object_now (story (Some u.version.0) us law.1)) (write_of u law.0.op) =
       subst (λ (o : Option (List Value)). IsEffect script.space o (write_of u law.0.op)) (sym r.1) (record { answer = law.0.answer; object = law.0.object }) in
-      gets_legal u.object (write_of u law.0.op ∷ story (Some u.version.0) us law.1) (gets_of script key u.version.0 high u.object whole) (gets-answer high (u ∷ us) p) (here, r.0) refl
+      gets_legal u.object (write_of u law.0.op ∷ story (Some u.version.0) us law.1)
+      (gets_of script key u.version.0 high u.object whole) (gets-answer high (u ∷ us) p) (here, r.0) refl
 
   -- ---- what stands in the history
 
@@ -280,34 +295,54 @@ module _ (script : Script) (facts : Facts script) (whole : List Entry) (run : Is
 
   -- a get of a place
   get-kind : (low : ℕ) (high : Option ℕ) (object : Option (List Value)) (x : Item) → IsIn x (gets_of script key low high object whole) → Kind x
-  get-kind low high object x i = let g = got low high object x i in inr (record { entry = g.entry; ended = g.ended; called = g.called; op = g.op; well = g.well; told = g.told })
+  get-kind low high object x i = let g = got low high object x i in
+      inr (record { entry = g.entry; ended = g.ended; called = g.called; op = g.op; well = g.well; told = g.told })
 
   -- an update that was not refused
   abbrev write-kind : (u : Update) (us : List Update) (law : Write script key us u) → IsIn u ws → Wrote (write_of u law.op)
-  write-kind u us law i = let r = not_refused-in line u i in record { update = u; stands = r.0; well = r.1; op = law.op; called = law.called; writes = law.writes; on_key = law.on_key; is = refl }
+  write-kind u us law i = let r = not_refused-in line u i in
+      record {
+        update = u;
+        stands = r.0;
+        well = r.1;
+        op = law.op;
+        called = law.called;
+        writes = law.writes;
+        on_key = law.on_key;
+        is = refl;
+      }
 
   -- each item of the story
   kind : (high : Option ℕ) (us : List Update) (law : Writes script key us) → Place high us → (x : Item) → IsIn x (story high us law) → Kind x
   kind high [] law p x i = get-kind 0 high None x i
-  kind high (u ∷ us) law p x i = elim (in-append (gets_of script key u.version.0 high u.object whole) (write_of u law.0.op ∷ story (Some u.version.0) us law.1) x i) [
-    | inl j ↦ get-kind u.version.0 high u.object x j
-    | inr (inl e) ↦ inl (subst Wrote (sym e) (write-kind u us law.0 (p.1 u (inl refl)).0))
-    | inr (inr j) ↦ kind (Some u.version.0) us law.1 (place-next high u us law p) x j
-  ]
+  kind high (u ∷ us) law p x i = elim (in-append (gets_of script key u.version.0 high u.object whole)
+      (write_of u law.0.op ∷ story (Some u.version.0) us law.1) x i) [
+        | inl j ↦ get-kind u.version.0 high u.object x j
+        | inr (inl e) ↦ inl (subst Wrote (sym e) (write-kind u us law.0 (p.1 u (inl refl)).0))
+        | inr (inr j) ↦ kind (Some u.version.0) us law.1 (place-next high u us law p) x j
+      ]
 
   -- each write stands there
-  write-there : (high : Option ℕ) (us : List Update) (law : Writes script key us) (u : Update) → IsIn u us → (x : Item) × IsIn x (story high us law) × (x.caller ≡ u.caller) × (x.answer ≡ u.answer)
+  write-there : (high : Option ℕ) (us : List Update) (law : Writes script key us) (u : Update) → IsIn u us
+      → (x : Item) × IsIn x (story high us law) × (x.caller ≡ u.caller) × (x.answer ≡ u.answer)
   write-there high [] law u i = absurd i
-  write-there high (w ∷ us) law u (inl e) =
-      (write_of w law.0.op, in_right (gets_of script key w.version.0 high w.object whole) (write_of w law.0.op ∷ story (Some w.version.0) us law.1) _ (inl refl), ap (λ (y : Update). y.caller) (sym e), ap (λ (y : Update). y.answer) (sym e))
+  write-there high (w ∷ us) law u (inl e) = (
+    write_of w law.0.op,
+    in_right (gets_of script key w.version.0 high w.object whole)
+        (write_of w law.0.op ∷ story (Some w.version.0) us law.1) _ (inl refl),
+    ap (λ (y : Update). y.caller) (sym e),
+    ap (λ (y : Update). y.answer) (sym e),
+  )
   write-there high (w ∷ us) law u (inr i) =
       let r = write-there (Some w.version.0) us law.1 u i in
       (r.0, in_right (gets_of script key w.version.0 high w.object whole) (write_of w law.0.op ∷ story (Some w.version.0) us law.1) r.0 (inr r.1), r.2, r.3)
 
   -- each ended get that wasn't refused stands there
-  get-there : (high : Option ℕ) (us : List Update) (law : Writes script key us) (c : Caller) (v : Version) (a : Answer) (n : ℕ) → EndedAt whole c v a n → call_of script c ≡ Some (Get key) → is_refused a ≡ false → Below high v.0
+  get-there : (high : Option ℕ) (us : List Update) (law : Writes script key us) (c : Caller) (v : Version)
+      (a : Answer) (n : ℕ) → EndedAt whole c v a n → call_of script c ≡ Some (Get key) → is_refused a ≡ false → Below high v.0
       → (x : Item) × IsIn x (story high us law) × (x.caller ≡ c) × (x.answer ≡ a)
-  get-there high [] law c v a n h called well b = (_, in-gets script key 0 high None whole c v a n h called well (place-in 0 high v.0 (omega arith) b), refl, refl)
+  get-there high [] law c v a n h called well b =
+      (_, in-gets script key 0 high None whole c v a n h called well (place-in 0 high v.0 (omega arith) b), refl, refl)
   get-there high (u ∷ us) law c v a n h called well b = elim (cases_lt v.0 u.version.0) [
     | inl l ↦ (let r = get-there (Some u.version.0) us law.1 c v a n h called well l in
         (r.0, in_right (gets_of script key u.version.0 high u.object whole) (write_of u law.0.op ∷ story (Some u.version.0) us law.1) r.0 (inr r.1), r.2, r.3))
@@ -339,7 +374,8 @@ module _ (script : Script) (facts : Facts script) (whole : List Entry) (run : Is
   Low high x = (v : ℕ) → LaterThan script whole v x.caller key → v < high
 
   -- then z did not end before x began
-  apart_late : (low : ℕ) (z x : Item) → High low z → Low low x → (v : Version) (a : Answer) (m n : ℕ) → EndedAt whole z.caller v a m → is_doubt a ≡ false → BeganAt whole x.caller n → m < n → ⊥
+  apart_late : (low : ℕ) (z x : Item) → High low z → Low low x → (v : Version) (a : Answer) (m n : ℕ)
+      → EndedAt whole z.caller v a m → is_doubt a ≡ false → BeganAt whole x.caller n → m < n → ⊥
   apart_late low z x h l v a m n e sure b less =
       let f = first_of script facts whole run z.caller x.caller v a m n e b less in
       let later = calls.ordered z.caller v a x.caller f h.op key h.called h.on_key sure in
@@ -369,7 +405,8 @@ module _ (script : Script) (facts : Facts script) (whole : List Entry) (run : Is
     op = w.op;
     called = w.called;
     on_key = w.on_key;
-    high = λ v a m e sure. (let t = (write-told w.update w.stands v a m e sure).0 in let q : w.update.version.0 ≡ v.0 = ap (λ (y : Version). y.0) t in omega (arith, q));
+    high = λ v a m e sure. (let t = (write-told w.update w.stands v a m e sure).0 in
+        let q : w.update.version.0 ≡ v.0 = ap (λ (y : Version). y.0) t in omega (arith, q));
   })
 
   -- what ended before an update's call began has a lower version
@@ -386,11 +423,13 @@ module _ (script : Script) (facts : Facts script) (whole : List Entry) (run : Is
 
   -- two writes of one caller are the same
   same-write : (z x : Item) (a : Wrote z) (b : Wrote x) → x.caller ≡ z.caller → b.update ≡ a.update
-  same-write z x a b e = caller-once script key line lawful b.update a.update b.stands a.stands (sym (ap (λ (y : Item). y.caller) b.is) ∙ e ∙ ap (λ (y : Item). y.caller) a.is)
+  same-write z x a b e = caller-once script key line lawful b.update a.update b.stands a.stands
+      (sym (ap (λ (y : Item). y.caller) b.is) ∙ e ∙ ap (λ (y : Item). y.caller) a.is)
 
   -- two ends of gets of one caller have the same version
   same-get : (z x : Item) → AGet z → AGet x → x.caller ≡ z.caller → x.version.0 ≡ z.version.0
-  same-get z x a b e = ap (λ (y : Version). y.0) (ended_unique script facts whole run z.caller x.version z.version x.answer z.answer b.entry a.entry (subst (λ (c : Caller). EndedAt whole c x.version x.answer b.entry) e b.ended) a.ended).0
+  same-get z x a b e = ap (λ (y : Version). y.0) (ended_unique script facts whole run z.caller x.version z.version
+      x.answer z.answer b.entry a.entry (subst (λ (c : Caller). EndedAt whole c x.version x.answer b.entry) e b.ended) a.ended).0
 
   -- gets in one place, the last ended first
   gets_apart : (low : ℕ) (high : Option ℕ) (object : Option (List Value)) (t : List Entry) → IsRun script t
@@ -418,7 +457,8 @@ module _ (script : Script) (facts : Facts script) (whole : List Entry) (run : Is
             late = λ v a m n h sure b l.
                 (let here = (ended_unique script facts whole run z.caller z.version v z.answer a (length older + 1) m
                 (up z.caller z.version z.answer (length older + 1) (inl (p.0, note, refl))) h).2 in
-                let first = begins_first script facts whole run w.caller w.version w.answer g.entry n (up w.caller w.version w.answer g.entry (inr g.ended)) b in
+                let first = begins_first script facts whole run w.caller w.version w.answer g.entry n
+                (up w.caller w.version w.answer g.entry (inr g.ended)) b in
                 let low = ((calls_kept script facts older r.1).ended_low w.caller w.version w.answer g.entry g.ended).2 in
                 omega (arith, here, first, low, l));
           }
@@ -426,24 +466,33 @@ module _ (script : Script) (facts : Facts script) (whole : List Entry) (run : Is
   -- an item of a part: below the next write
   low-kind : (high : ℕ) (us : List Update) (law : Writes script key us) → Place (Some high) us → (x : Item) → IsIn x (story (Some high) us law)
       → (Wrote x × ((w : Wrote x) → w.update.version.0 < high)) ⊎ (AGet x × (x.version.0 < high))
-  low-kind high [] law p x i = let g = got 0 (Some high) None x i in inr (record { entry = g.entry; ended = g.ended; called = g.called; op = g.op; well = g.well; told = g.told }, g.below)
-  low-kind high (u ∷ us) law p x i = elim (in-append (gets_of script key u.version.0 (Some high) u.object whole) (write_of u law.0.op ∷ story (Some u.version.0) us law.1) x i) [
-    | inl j ↦ (let g = got u.version.0 (Some high) u.object x j in inr (record { entry = g.entry; ended = g.ended; called = g.called; op = g.op; well = g.well; told = g.told }, g.below))
-    | inr (inl e) ↦ inl (
-      subst Wrote (sym e) (write-kind u us law.0 (p.1 u (inl refl)).0),
-      λ w. (let v : w.update.version ≡ u.version = ap (λ (y : Item). y.version) (sym w.is ∙ e) in let q : w.update.version.0 ≡ u.version.0 = ap (λ (y : Version). y.0) v in let b = (p.1 u (inl refl)).1 in omega (arith, q, b)),
-    )
-    | inr (inr j) ↦ (let b = (p.1 u (inl refl)).1 in elim (low-kind u.version.0 us law.1 (place-next (Some high) u us law p) x j) [
-      | inl r ↦ inl (r.0, λ w. (let z = r.1 w in omega (arith, z, b)))
-      | inr r ↦ inr (r.0, (let z = r.1 in omega (arith, z, b)))
-    ])
-  ]
+  low-kind high [] law p x i = let g = got 0 (Some high) None x i in
+      inr (record { entry = g.entry; ended = g.ended; called = g.called; op = g.op; well = g.well; told = g.told }, g.below)
+  low-kind high (u ∷ us) law p x i = elim (in-append (gets_of script key u.version.0 (Some high) u.object whole)
+      (write_of u law.0.op ∷ story (Some u.version.0) us law.1) x i) [
+        | inl j ↦ (let g = got u.version.0 (Some high) u.object x j in
+            inr (record { entry = g.entry; ended = g.ended; called = g.called; op = g.op; well = g.well; told = g.told }, g.below))
+        | inr (inl e) ↦ inl (
+          subst Wrote (sym e) (write-kind u us law.0 (p.1 u (inl refl)).0),
+          λ w. (let v : w.update.version ≡ u.version = ap (λ (y : Item). y.version) (sym w.is ∙ e) in
+              let q : w.update.version.0 ≡ u.version.0 = ap (λ (y : Version). y.0) v in let b = (p.1 u (inl refl)).1 in
+              omega (arith, q, b)),
+        )
+        | inr (inr j) ↦ (let b = (p.1 u (inl refl)).1 in elim (low-kind u.version.0 us law.1 (place-next (Some high) u us law p) x j) [
+          | inl r ↦ inl (r.0, λ w. (let z = r.1 w in omega (arith, z, b)))
+          | inr r ↦ inr (r.0, (let z = r.1 in omega (arith, z, b)))
+        ])
+      ]
 
   -- what stands below a version is apart from what ends with at least that version
-  under : (n : ℕ) (z x : Item) → High n z → Kind z → ((w : Wrote z) → n ≤ w.update.version.0) → (AGet z → n ≤ z.version.0) → (Wrote x × ((w : Wrote x) → w.update.version.0 < n)) ⊎ (AGet x × (x.version.0 < n)) → Apart z x
+  under : (n : ℕ) (z x : Item) → High n z → Kind z → ((w : Wrote z) → n ≤ w.update.version.0)
+      → (AGet z → n ≤ z.version.0) → (Wrote x × ((w : Wrote x) → w.update.version.0 < n))
+      ⊎ (AGet x × (x.version.0 < n)) → Apart z x
   under n z x h k wz gz (inl b) = record {
     other = λ e. elim k [
-      | inl a ↦ (let q : b.0.update.version.0 ≡ a.update.version.0 = ap (λ (y : Update). y.version.0) (same-write z x a b.0 e) in let p = b.1 b.0 in let r = wz a in absurd (omega (arith, q, p, r)))
+      | inl a ↦ (let q : b.0.update.version.0 ≡ a.update.version.0 =
+          ap (λ (y : Update). y.version.0) (same-write z x a b.0 e) in let p = b.1 b.0 in let r = wz a in
+          absurd (omega (arith, q, p, r)))
       | inr g ↦ get_no_write z x g b.0 e
     ];
     late = apart_late n z x h (write_low n x b.0 (let p = b.1 b.0 in omega (arith, p)));
@@ -465,14 +514,19 @@ module _ (script : Script) (facts : Facts script) (whole : List Entry) (run : Is
       let wrote = write-kind u us law.0 (p.1 u (inl refl)).0 in
       pairwise-append Apart (gets_of script key u.version.0 high u.object whole) (item ∷ story (Some u.version.0) us law.1)
       (gets_apart u.version.0 high u.object whole run (λ c v a n h. h)) (
-        (λ x j. under u.version.0 item x (write_high item wrote) (inl wrote) (λ w. (let v : w.update.version.0 ≡ u.version.0 = ap (λ (y : Item). y.version.0) (sym w.is) in omega (arith, v))) (λ g. absurd (get_no_write item item g wrote refl)) (low-kind u.version.0 us law.1 next x j)),
+        (λ x j. under u.version.0 item x (write_high item wrote) (inl wrote)
+            (λ w. (let v : w.update.version.0 ≡ u.version.0 = ap (λ (y : Item). y.version.0) (sym w.is) in
+            omega (arith, v))) (λ g. absurd (get_no_write item item g wrote refl)) (low-kind u.version.0 us law.1 next x j)),
         story_apart (Some u.version.0) us law.1 next,
       )
       (λ z x i j. let g = got u.version.0 high u.object z i in
       let a : AGet z = record { entry = g.entry; ended = g.ended; called = g.called; op = g.op; well = g.well; told = g.told } in
       let h = get_high u.version.0 z a g.above in
       elim j [
-        | inl e ↦ subst (Apart z) (sym e) (record { other = λ q. get_no_write z item a wrote q; late = apart_late u.version.0 z item h (write_low u.version.0 item wrote (omega arith)) })
+        | inl e ↦ subst (Apart z) (sym e) (record {
+          other = λ q. get_no_write z item a wrote q;
+          late = apart_late u.version.0 z item h (write_low u.version.0 item wrote (omega arith));
+        })
         | inr k ↦ under u.version.0 z x h (inr a) (λ w. absurd (get_no_write z z a w refl)) (λ y. g.above) (low-kind u.version.0 us law.1 next x k)
       ])
 
@@ -500,7 +554,8 @@ module _ (script : Script) (facts : Facts script) (whole : List Entry) (run : Is
   each_once (z ∷ zs) p = ((λ y i. (p.0 y i).other), each_once zs p.1)
 
   -- an item's call wasn't refused
-  never-refused : (c : Caller) → ((e : CallEnd) → EndedAt whole c e.version e.answer e.entry → is_doubt e.answer ≡ false → is_refused e.answer ≡ false) → was_refused whole c ≡ false
+  never-refused : (c : Caller) → ((e : CallEnd) → EndedAt whole c e.version e.answer e.entry
+      → is_doubt e.answer ≡ false → is_refused e.answer ≡ false) → was_refused whole c ≡ false
   never-refused c f = by (end_of c whole) refl
     where
       by : (o : Option CallEnd) → end_of c whole ≡ o → when_some o false (λ (e : CallEnd). is_refused e.answer) ≡ false
@@ -516,17 +571,21 @@ module _ (script : Script) (facts : Facts script) (whole : List Entry) (run : Is
         begun = begin_is w.update.caller whole b.0 b.1;
         called = w.called;
         on_key = w.on_key;
-        not_refused = never-refused w.update.caller (λ e h sure. sym (ap is_refused (write-told w.update w.stands e.version e.answer e.entry h sure).1) ∙ w.well);
+        not_refused = never-refused w.update.caller (λ e h sure. sym
+            (ap is_refused (write-told w.update w.stands e.version e.answer e.entry h sure).1) ∙ w.well);
       })
   is_call x (inr g) = record {
     begun = begin_is x.caller whole g.told.entry g.told.begun;
     called = g.called ∙ ap Some (sym g.op);
     on_key = ap key_of g.op;
-    not_refused = never-refused x.caller (λ e h sure. sym (ap is_refused (ended_unique script facts whole run x.caller x.version e.version x.answer e.answer g.entry e.entry g.ended h).1) ∙ g.well);
+    not_refused = never-refused x.caller (λ e h sure. sym
+        (ap is_refused (ended_unique script facts whole run x.caller x.version e.version x.answer e.answer g.entry
+        e.entry g.ended h).1) ∙ g.well);
   }
 
   -- an ended call that wasn't refused stands there
-  answered : (c : Caller) (v : Version) (a : Answer) (n : ℕ) (op : Op) → EndedAt whole c v a n → is_doubt a ≡ false → call_of script c ≡ Some op → key_of op ≡ Some key → is_refused a ≡ false
+  answered : (c : Caller) (v : Version) (a : Answer) (n : ℕ) (op : Op) → EndedAt whole c v a n → is_doubt a ≡ false
+      → call_of script c ≡ Some op → key_of op ≡ Some key → is_refused a ≡ false
       → (x : Item) × IsIn x story0 × (x.caller ≡ c) × (x.answer ≡ a)
   answered c v a n op h sure called on_key well = elim (ended-told c v a n op h called on_key) [
     | inl (inl t) ↦ absurd (false≢true (sym sure ∙ t.1))
@@ -538,7 +597,8 @@ module _ (script : Script) (facts : Facts script) (whole : List Entry) (run : Is
   ]
 
   -- an item that ended before another began stands before it
-  in_order : (x y : Item) (n : ℕ) → IsIn x story0 → IsIn y story0 → begin_of y.caller whole ≡ Some n → ended_before whole x.caller n ≡ true → IsBefore y x story0
+  in_order : (x y : Item) (n : ℕ) → IsIn x story0 → IsIn y story0 → begin_of y.caller whole ≡ Some n
+      → ended_before whole x.caller n ≡ true → IsBefore y x story0
   in_order x y n i j b e =
       let r = ended_early x.caller whole n e in
       let noted = end_noted x.caller whole r.0 r.1 in
@@ -555,7 +615,8 @@ module _ (script : Script) (facts : Facts script) (whole : List Entry) (run : Is
     legal = subst (λ (h : List Item). IsLegal script.space h) (sym history_is) (story_legal None ws law0 place-whole).0;
     answered_once = λ c a h. subst (λ (l : List Item). (x : Item) × IsIn x l × (x.caller ≡ c) × (x.answer ≡ a)) (sym history_is)
         (let n = end_noted c whole (record { entry = h.entry; version = h.version; answer = a }) h.ended in
-        answered c h.version a h.entry h.op (ended_at c whole (record { entry = h.entry; version = h.version; answer = a }) n.0) n.1 h.called h.on_key h.not_refused);
+        answered c h.version a h.entry h.op (ended_at c whole
+        (record { entry = h.entry; version = h.version; answer = a }) n.0) n.1 h.called h.on_key h.not_refused);
     honest = record {
       calls = λ x i. is_call x (kind None ws law0 place-whole x (subst (λ (l : List Item). IsIn x l) history_is i));
       once = subst EachOnce (sym history_is) (each_once story0 all_apart);

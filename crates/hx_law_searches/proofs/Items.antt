@@ -16,7 +16,8 @@ done-stands an_answer.Done e = refl
 done-stands other e = absurd (false≢true e)
 
 -- a write of the script is an item of the history
-write-there : (script : Script) (key : List ℕ) (whole : List Entry) (high : Option ℕ) (us : List Update) (u : Update) (op : Op) → IsIn u us → call_of script u.caller ≡ Some op → IsIn (write_of u op) (history_on script key whole high us)
+write-there : (script : Script) (key : List ℕ) (whole : List Entry) (high : Option ℕ) (us : List Update) (u : Update)
+    (op : Op) → IsIn u us → call_of script u.caller ≡ Some op → IsIn (write_of u op) (history_on script key whole high us)
 write-there script key whole high [] u op i e = absurd i
 write-there script key whole high (w ∷ us) u op (inl q) e =
     in_left (gets_of script key w.version.0 high w.object whole ++ write_item script w) (history_on script key whole (Some w.version.0) us) (write_of u op)
@@ -24,15 +25,21 @@ write-there script key whole high (w ∷ us) u op (inl q) e =
     (subst (λ (x : Update). IsIn (write_of u op) (write_item script x)) q
     (subst (λ (o : Option Op). IsIn (write_of u op) (when_some o [] (λ (y : Op). write_of u y ∷ []))) (sym e) (inl refl))))
 write-there script key whole high (w ∷ us) u op (inr i) e =
-    in_right (gets_of script key w.version.0 high w.object whole ++ write_item script w) (history_on script key whole (Some w.version.0) us) (write_of u op) (write-there script key whole (Some w.version.0) us u op i e)
+    in_right (gets_of script key w.version.0 high w.object whole ++ write_item script w)
+    (history_on script key whole (Some w.version.0) us) (write_of u op)
+    (write-there script key whole (Some w.version.0) us u op i e)
 
 -- so is each update of the line that wasn't refused
-pub item-there : (script : Script) (key : List ℕ) (whole : List Entry) (u : Update) (op : Op) → IsIn u (line_of key whole) → is_refused u.answer ≡ false → call_of script u.caller ≡ Some op → IsIn (write_of u op) (history_of script key whole)
-item-there script key whole u op i well e = write-there script key whole None (not_refused (line_of key whole)) u op (in-not_refused (line_of key whole) u i well) e
+pub item-there : (script : Script) (key : List ℕ) (whole : List Entry) (u : Update) (op : Op)
+    → IsIn u (line_of key whole) → is_refused u.answer ≡ false → call_of script u.caller ≡ Some op
+    → IsIn (write_of u op) (history_of script key whole)
+item-there script key whole u op i well e = write-there script key whole None (not_refused (line_of key whole)) u op
+    (in-not_refused (line_of key whole) u i well) e
 
 module _ (script : Script) (facts : Facts script) where
   -- a call that has begun doesn't begin again
-  pub not-again : (older : List Entry) (x : Entry) → IsRun script (x ∷ older) → (c : Caller) (n : ℕ) → BeganAt older c n → x.actor ≡ Session c.session → IsIn (a_note.Began c.number) x.notes → ⊥
+  pub not-again : (older : List Entry) (x : Entry) → IsRun script (x ∷ older) → (c : Caller) (n : ℕ)
+      → BeganAt older c n → x.actor ≡ Session c.session → IsIn (a_note.Began c.number) x.notes → ⊥
   not-again older x run c n b acts i =
       let now = begins_now _ _ _ (turn_is script older x c.session run.0 acts) c.number i in
       let low = (calls_kept script facts older run.1).began_low c n b in

@@ -59,7 +59,8 @@ module _ (script : Script) (key : List ℕ) (whole : List Entry) where
     pub op : x.op ≡ Get key
 
   -- a get in its place
-  got : (low : ℕ) (high : Option ℕ) (object : Option (List Value)) (x : Item) → IsIn x (gets_of script key low high object whole) → Got x × (in_place low high x.version.0 ≡ true)
+  got : (low : ℕ) (high : Option ℕ) (object : Option (List Value)) (x : Item)
+      → IsIn x (gets_of script key low high object whole) → Got x × (in_place low high x.version.0 ≡ true)
   got low high object x i =
       let g = gets-in script key low high object whole x i in
       (record { entry = g.entry; ended = g.ended; called = g.called; op = g.op }, g.place)
@@ -76,38 +77,46 @@ module _ (script : Script) (key : List ℕ) (whole : List Entry) where
   -- what an item is
   kind : (high : Option ℕ) (us : List Update) (x : Item) → IsIn x (history_on script key whole high us) → Wrote us x ⊎ Got x
   kind high [] x i = inr (got 0 high None x i).0
-  kind high (w ∷ us) x i = elim (in-append (gets_of script key w.version.0 high w.object whole ++ write_item script w) (history_on script key whole (Some w.version.0) us) x i) [
-    | inl j ↦ elim (in-append (gets_of script key w.version.0 high w.object whole) (write_item script w) x j) [
-      | inl k ↦ inr (got w.version.0 high w.object x k).0
-      | inr k ↦ inl (wrote w us x k)
-    ]
-    | inr j ↦ elim (kind (Some w.version.0) us x j) [
-      | inl k ↦ inl (record { update = k.update; stands = inr k.stands; op = k.op; called = k.called; is = k.is })
-      | inr k ↦ inr k
-    ]
-  ]
+  kind high (w ∷ us) x i = elim (in-append (gets_of script key w.version.0 high w.object whole ++ write_item script w)
+      (history_on script key whole (Some w.version.0) us) x i) [
+        | inl j ↦ elim (in-append (gets_of script key w.version.0 high w.object whole) (write_item script w) x j) [
+          | inl k ↦ inr (got w.version.0 high w.object x k).0
+          | inr k ↦ inl (wrote w us x k)
+        ]
+        | inr j ↦ elim (kind (Some w.version.0) us x j) [
+          | inl k ↦ inl (record { update = k.update; stands = inr k.stands; op = k.op; called = k.called; is = k.is })
+          | inr k ↦ inr k
+        ]
+      ]
 
   -- items between writes are below the next one
-  below-high : (high : ℕ) (us : List Update) → Sorted us → ((w : Update) → IsIn w us → w.version.0 < high) → (x : Item) → IsIn x (history_on script key whole (Some high) us) → x.version.0 < high
+  below-high : (high : ℕ) (us : List Update) → Sorted us → ((w : Update) → IsIn w us → w.version.0 < high)
+      → (x : Item) → IsIn x (history_on script key whole (Some high) us) → x.version.0 < high
   below-high high [] s f x i = ltb-true x.version.0 high (and_parts (leb 0 x.version.0) (ltb x.version.0 high) (got 0 (Some high) None x i).1).1
-  below-high high (w ∷ us) s f x i = elim (in-append (gets_of script key w.version.0 (Some high) w.object whole ++ write_item script w) (history_on script key whole (Some w.version.0) us) x i) [
-    | inl j ↦ elim (in-append (gets_of script key w.version.0 (Some high) w.object whole) (write_item script w) x j) [
-      | inl k ↦ ltb-true x.version.0 high (and_parts (leb w.version.0 x.version.0) (ltb x.version.0 high) (got w.version.0 (Some high) w.object x k).1).1
-      | inr k ↦ at-write (wrote w [] x k)
-    ]
-    | inr j ↦ (let l = below-high w.version.0 us s.2 s.0 x j in let h = f w (inl refl) in omega (arith, l, h))
-  ]
+  below-high high (w ∷ us) s f x i = elim (in-append
+      (gets_of script key w.version.0 (Some high) w.object whole ++ write_item script w)
+      (history_on script key whole (Some w.version.0) us) x i) [
+        | inl j ↦ elim (in-append (gets_of script key w.version.0 (Some high) w.object whole) (write_item script w) x j) [
+          | inl k ↦ ltb-true x.version.0 high (and_parts (leb w.version.0 x.version.0) (ltb x.version.0 high) (got w.version.0 (Some high) w.object x k).1).1
+          | inr k ↦ at-write (wrote w [] x k)
+        ]
+        | inr j ↦ (let l = below-high w.version.0 us s.2 s.0 x j in let h = f w (inl refl) in omega (arith, l, h))
+      ]
     where
       at-write : Wrote (w ∷ []) x → x.version.0 < high
       at-write k = elim k.stands [
-        | inl q ↦ (let e : x.version.0 ≡ w.version.0 = ap (λ (y : Item). y.version.0) k.is ∙ ap (λ (y : Update). y.version.0) q in let h = f w (inl refl) in omega (arith, e, h))
+        | inl q ↦ (let e : x.version.0 ≡ w.version.0 =
+            ap (λ (y : Item). y.version.0) k.is ∙ ap (λ (y : Update). y.version.0) q in let h = f w (inl refl) in
+            omega (arith, e, h))
         | inr m ↦ absurd m
       ]
 
   -- no write stands after an item of a lower version
-  in-order : (high : Option ℕ) (us : List Update) → Sorted us → (z x : Item) → IsBefore z x (history_on script key whole high us) → is_write x.op ≡ true → x.version.0 ≤ z.version.0
+  in-order : (high : Option ℕ) (us : List Update) → Sorted us → (z x : Item)
+      → IsBefore z x (history_on script key whole high us) → is_write x.op ≡ true → x.version.0 ≤ z.version.0
   in-order high [] s z x b t =
-      let i = (before-append (gets_of script key 0 high None whole) [] z x (subst (IsBefore z x) (sym (append-nil (gets_of script key 0 high None whole))) b)).0 in
+      let i = (before-append (gets_of script key 0 high None whole) [] z x
+      (subst (IsBefore z x) (sym (append-nil (gets_of script key 0 high None whole))) b)).0 in
       let g = (got 0 high None x (subst (IsIn x) (append-nil (gets_of script key 0 high None whole)) i)).0 in
       absurd (true≢false (sym t ∙ ap is_write g.op))
   in-order high (w ∷ us) s z x b t =
@@ -127,7 +136,8 @@ module _ (script : Script) (key : List ℕ) (whole : List Entry) where
         | inr k ↦ (let e = here-version y (wrote w [] y k) in omega (arith, e))
       ]
 
-      high-of : IsIn x (gets_of script key w.version.0 high w.object whole ++ write_item script w) ⊎ IsIn x (history_on script key whole (Some w.version.0) us) → x.version.0 ≤ w.version.0
+      high-of : IsIn x (gets_of script key w.version.0 high w.object whole ++ write_item script w)
+          ⊎ IsIn x (history_on script key whole (Some w.version.0) us) → x.version.0 ≤ w.version.0
       high-of (inr j) = let l = below-high w.version.0 us s.2 s.0 x j in omega (arith, l)
       high-of (inl i) = elim (in-append (gets_of script key w.version.0 high w.object whole) (write_item script w) x i) [
         | inl k ↦ absurd (true≢false (sym t ∙ ap is_write (got w.version.0 high w.object x k).0.op))
@@ -203,11 +213,14 @@ module _ (script : Script) (facts : Facts script) (whole : List Entry) (run : Is
   pub item-ended : (x : Item) → IsIn x items → (n : ℕ) → ended_before whole x.caller n ≡ true → Ended x n
   item-ended x i n e = by (end_of x.caller whole) refl e
     where
-      at : (k : Wrote script key whole line x ⊎ Got script key whole x) → (a : CallEnd) → EndedAt whole x.caller a.version a.answer a.entry → is_doubt a.answer ≡ false → a.entry < n → Ended x n
+      at : (k : Wrote script key whole line x ⊎ Got script key whole x) → (a : CallEnd)
+          → EndedAt whole x.caller a.version a.answer a.entry → is_doubt a.answer ≡ false → a.entry < n → Ended x n
       at (inl k) a h sure l =
           let law = (update-at script key line k.update lawful k.stands).1 in
           let caller : x.caller ≡ k.update.caller = ap (λ (y : Item). y.caller) k.is in
-          let v : x.version ≡ a.version = ap (λ (y : Item). y.version) k.is ∙ write-told k.update k.stands a.version a.answer a.entry (subst (λ (y : Caller). EndedAt whole y a.version a.answer a.entry) caller h) sure in
+          let v : x.version ≡ a.version = ap (λ (y : Item). y.version) k.is
+          ∙ write-told k.update k.stands a.version a.answer a.entry
+          (subst (λ (y : Caller). EndedAt whole y a.version a.answer a.entry) caller h) sure in
           record {
             answer = a.answer;
             op = law.op;

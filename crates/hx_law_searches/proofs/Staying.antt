@@ -7,7 +7,8 @@ use Rattle.hx_law_searches.proofs.Moments.{part-before, part-run}
 use Rattle.hx_law_searches.proofs.Searched.{WasShown, searched-run}
 
 -- a row that was shown is of a change of the line
-shown-stays : (script : Script) → Facts script → (t : List Entry) → IsRun script t → (c : Caller) (g : RegionId) (rows : List Row) → WasShown script t c g rows → (r : Row) → IsIn r rows → IsRowOfLine t r
+shown-stays : (script : Script) → Facts script → (t : List Entry) → IsRun script t
+    → (c : Caller) (g : RegionId) (rows : List Row) → WasShown script t c g rows → (r : Row) → IsIn r rows → IsRowOfLine t r
 shown-stays script known t run c g rows w r i =
     let part = part-before w.entry w.older t w.part in
     let older-run = part-run script w.older t part run in
@@ -20,7 +21,8 @@ shown-stays script known t run c g rows w r i =
     let low = upto-low n (part_at g line) k.update least k.stands in
     record {
       update = k.update;
-      stands = in-upto n (line_of r.key t) k.update (subst (IsIn k.update) (sym (w.shows.stays r.key t run part)) (in-upto_from n line k.update ordered there low));
+      stands = in-upto n (line_of r.key t) k.update
+          (subst (IsIn k.update) (sym (w.shows.stays r.key t run part)) (in-upto_from n line k.update ordered there low));
       changes = k.changes;
       version = sym k.version;
       object = k.object;

@@ -22,7 +22,8 @@ module _ (script : Script) (valid : IsScript script) (facts : Facts script) (t :
   module _ (c : Caller) (s : FinishedSearch) (known : Finished script facts t c s) where
     -- the terms of what was shown are the search's
     pub terms-same : (g : RegionId) (rows : List Row) (by : ShownBefore script t c s.end g rows) → by.shown.shows.terms ≡ s.terms
-    terms-same g rows by = let q : Some (Search by.shown.shows.terms) ≡ Some (Search s.terms) = sym by.shown.called ∙ known.called in let r : Search by.shown.shows.terms ≡ Search s.terms = cc in cc
+    terms-same g rows by = let q : Some (Search by.shown.shows.terms) ≡ Some (Search s.terms) =
+        sym by.shown.called ∙ known.called in let r : Search by.shown.shows.terms ≡ Search s.terms = cc in cc
 
     module _ (g : RegionId) (rows : List Row) (by : ShownBefore script t c s.end g rows) (r : Row) (inside : IsIn r rows) where
       -- the key's line
@@ -59,14 +60,16 @@ module _ (script : Script) (valid : IsScript script) (facts : Facts script) (t :
             | inr l ↦ lies a w l
           ]
         where
-          lies : (a : Stands script.space r.key here u) → (w : Changed script.space r.key here u r.object) → Lies script.space valid.space r.key a.older u a.made g → has_place g w.update ≡ true
+          lies : (a : Stands script.space r.key here u) → (w : Changed script.space r.key here u r.object)
+              → Lies script.space valid.space r.key a.older u a.made g → has_place g w.update ≡ true
           lies a w l =
               let o : r.object ≡ l.object = (let q : Some r.object ≡ Some l.object = sym kept.object ∙ l.is in cc) in
               ap (λ (h : RegionId). has_place h w.update) (sym l.place)
               ∙ passes-old script.space valid.space r.key w.older w.update w.made w.changes l.subspace l.stands l.object (w.object ∙ ap Some o)
 
       -- no later change ended before the search began
-      not-ended : (x y : Item) → x.version ≡ u.version → x.caller ≡ u.caller → is_write x.op ≡ true → IsBefore y x (history_of script r.key t) → changes_object y ≡ true → ended_before t y.caller s.begin ≡ true → ⊥
+      not-ended : (x y : Item) → x.version ≡ u.version → x.caller ≡ u.caller → is_write x.op ≡ true
+          → IsBefore y x (history_of script r.key t) → changes_object y ≡ true → ended_before t y.caller s.begin ≡ true → ⊥
       not-ended x y v own write b change ended =
           let i = before-first (history_of script r.key t) y x b in
           let w = item-change script facts t run r.key y i change in
@@ -75,18 +78,26 @@ module _ (script : Script) (valid : IsScript script) (facts : Facts script) (t :
           let here-version : x.version.0 ≡ u.version.0 = ap (λ (z : Version). z.0) v in
           let l = item-order script facts t run r.key y x b write in
           let other : u.version.0 ≡ w.0.update.version.0 → ⊥ =
-          λ q. item-once script facts t run r.key y x b (own ∙ ap (λ (z : Update). z.caller) (same_version here u w.0.update (sorted script facts t run r.key) row-stands.0 w.0.stands q) ∙ ap (λ (z : Item). z.caller) (sym w.0.is)) in
-          let n = next-change script.space r.key here (made script facts t run r.key) u r.object row-stands.0 kept.object w.0.update w.0.stands (above u.version.0 w.0.update.version.0 (omega (arith, l, version, here-version)) other) w.1 in
+          λ q. item-once script facts t run r.key y x b
+          (own ∙ ap (λ (z : Update). z.caller) (same_version here u w.0.update
+          (sorted script facts t run r.key) row-stands.0 w.0.stands q) ∙ ap (λ (z : Item). z.caller) (sym w.0.is)) in
+          let n = next-change script.space r.key here (made script facts t run r.key) u r.object row-stands.0
+          kept.object w.0.update w.0.stands (above u.version.0 w.0.update.version.0
+          (omega (arith, l, version, here-version)) other) w.1 in
           let p = passes-here n.0 in
-          let low = late script facts t run c s.begin known.begun s.end g rows by r.key y.caller y.version e.answer e.entry e.ended e.before e.op e.called e.on_key e.sure n.0.update n.0.stands p (let m = n.1 in omega (arith, m, version)) in
-          let there = in-upto_from reach (part_at g here) n.0.update (only-sorted g here (sorted script facts t run r.key)) (in-only g here n.0.update n.0.stands p) low in
+          let low = late script facts t run c s.begin known.begun s.end g rows by r.key y.caller y.version e.answer
+          e.entry e.ended e.before e.op e.called e.on_key e.sure n.0.update n.0.stands p (let m = n.1 in
+          omega (arith, m, version)) in
+          let there = in-upto_from reach (part_at g here) n.0.update
+          (only-sorted g here (sorted script facts t run r.key)) (in-only g here n.0.update n.0.stands p) low in
           true≢false (sym n.0.changes ∙ kept.newest n.0.update there n.0.above)
         where
           above : (a b : ℕ) → a ≤ b → (a ≡ b → ⊥) → a < b
           above a b l n = elim (cases_order a b) [ inl e ↦ absurd (n e) | inr (inl h) ↦ h | inr (inr h) ↦ absurd (omega (arith, h, l)) ]
 
       -- so none of these did
-      no-later : (x : Item) → x.version ≡ u.version → x.caller ≡ u.caller → is_write x.op ≡ true → (l : List Item) → ((y : Item) → IsIn y l → IsBefore y x (history_of script r.key t)) → no_change_before t s.begin l ≡ true
+      no-later : (x : Item) → x.version ≡ u.version → x.caller ≡ u.caller → is_write x.op ≡ true → (l : List Item)
+          → ((y : Item) → IsIn y l → IsBefore y x (history_of script r.key t)) → no_change_before t s.begin l ≡ true
       no-later x v own write l f = test (list_any (λ (x : Item). changes_object x && ended_before t x.caller s.begin) l) refl
         where
           test : (b : Bool) → list_any (λ (x : Item). changes_object x && ended_before t x.caller s.begin) l ≡ b → not b ≡ true
@@ -108,7 +119,8 @@ module _ (script : Script) (valid : IsScript script) (facts : Facts script) (t :
             changes = ap changes_object cut.item ∙ i.changes;
             version = ap (λ (x : Item). x.version) cut.item ∙ sym kept.version;
             object = ap (λ (x : Item). x.object) cut.item ∙ kept.object;
-            match = ap (λ (l : List Term). matches l r.key r.object) (sym (terms-same g rows by)) ∙ (sound script facts t run c s.begin known.begun s.end g rows by r inside).1;
+            match = ap (λ (l : List Term). matches l r.key r.object) (sym (terms-same g rows by))
+                ∙ (sound script facts t run c s.begin known.begun s.end g rows by r inside).1;
             began = ap (λ (x : Item). began_before t x.caller s.end) cut.item ∙ began-before script facts t run u.caller b.0 s.end b.1 b.2;
             newest = no-later (write_of u i.op) refl refl i.writes cut.cut.newer (λ y j. elim (cut.before y j) [ inl k ↦ absurd k | inr b ↦ b ]);
           }
@@ -125,5 +137,6 @@ module _ (script : Script) (valid : IsScript script) (facts : Facts script) (t :
     pub search-true : IsSearchTrue script t s
     search-true = record {
       rows = λ r i. merged-in known.gathered.parts (IsTrueRow script t s) part-true r (subst (λ (l : List Row). IsIn r l) known.gathered.rows_are i);
-      in_order = ap (λ (l : List Row). keys_ascend (map row_key l)) known.gathered.rows_are ∙ ascend-test row_key (merged_parts known.gathered.parts) (merged-ascends known.gathered.parts);
+      in_order = ap (λ (l : List Row). keys_ascend (map row_key l)) known.gathered.rows_are
+          ∙ ascend-test row_key (merged_parts known.gathered.parts) (merged-ascends known.gathered.parts);
     }

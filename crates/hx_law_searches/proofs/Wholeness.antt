@@ -39,7 +39,8 @@ all-pass test (y ∷ xs) x h (inr i) = all-pass test xs x (and_parts (test y) (l
 -- a subspace of the space is the key's or a declared one
 subspace-is : (space : Space) (s : ℕ) → s < subspace_count space → (s ≡ 0) ⊎ IsIn s (declared_subspaces space)
 subspace-is space zero l = inl refl
-subspace-is space (suc n) l = inr (subst (λ k. IsIn k (declared_subspaces space)) (add-one n) (map-in (below (length space.subspaces)) (below-in (length space.subspaces) n (omega (arith, l)))))
+subspace-is space (suc n) l = inr (subst (λ k. IsIn k (declared_subspaces space)) (add-one n)
+    (map-in (below (length space.subspaces)) (below-in (length space.subspaces) n (omega (arith, l)))))
   where
     map-in : (ks : List ℕ) → IsIn n ks → IsIn (n + 1) (map (λ k. k + 1) ks)
     map-in [] i = absurd i
@@ -47,7 +48,8 @@ subspace-is space (suc n) l = inr (subst (λ k. IsIn k (declared_subspaces space
     map-in (k ∷ ks) (inr i) = inr (map-in ks i)
 
 -- a change that is kept passes its place in each subspace, and keeps its object there
-passes-keeps : (space : Space) → IsSpace space → (key : List ℕ) (older : List Update) (u : Update) → Made space key older u → u.changes ≡ true → (o : List Value) → u.object ≡ Some o → (s : ℕ) → s < subspace_count space
+passes-keeps : (space : Space) → IsSpace space → (key : List ℕ) (older : List Update) (u : Update)
+    → Made space key older u → u.changes ≡ true → (o : List Value) → u.object ≡ Some o → (s : ℕ) → s < subspace_count space
     → (has_place (place_of space s key o) u ≡ true) × (keeps_at (place_of space s key o) u ≡ true)
 passes-keeps space valid key older u made c o e s l = elim (subspace-is space s l) [
   | inl z ↦ subst (λ k. (has_place (place_of space k key o) u ≡ true) × (keeps_at (place_of space k key o) u ≡ true)) (sym z) at-key
@@ -70,7 +72,8 @@ record PartRow (script : Script) (t : List Entry) (c : Caller) (n : ℕ) (r : Ro
   pub by : ShownBefore script t c n region rows
   pub inside : IsIn r rows
 
-module _ (script : Script) (valid : IsScript script) (facts : Facts script) (t : List Entry) (run : IsRun script t) (c : Caller) (s : FinishedSearch) (known : Finished script facts t c s) where
+module _ (script : Script) (valid : IsScript script) (facts : Facts script) (t : List Entry) (run : IsRun script t)
+    (c : Caller) (s : FinishedSearch) (known : Finished script facts t c s) where
   -- each row of the search is
   part-row : (r : Row) → IsIn r (merged_parts known.gathered.parts) → PartRow script t c s.end r
   part-row = merged-in known.gathered.parts (PartRow script t c s.end) of
@@ -118,19 +121,24 @@ module _ (script : Script) (valid : IsScript script) (facts : Facts script) (t :
         let p = and_from (changes_object (write_of w x.op)) (began_before t w.caller s.end) x.changes (began-before script facts t run w.caller m s.end b l) in
         elim (last.others (write_of w x.op) x.stands p) [
           | inl e ↦ (let v : w.version.0 ≡ u.version.0 = ap (λ (y : Item). y.version.0) e ∙ ap (λ (y : Version). y.0) version-is in omega (arith, v))
-          | inr f ↦ (let o = item-order script facts t run key cut.item (write_of w x.op) f x.writes in let v = ap (λ (y : Version). y.0) version-is in omega (arith, o, v))
+          | inr f ↦ (let o = item-order script facts t run key cut.item (write_of w x.op) f x.writes in
+              let v = ap (λ (y : Version). y.0) version-is in omega (arith, o, v))
         ]
 
     -- some item with at least its version ended before the search began
-    committed : list_any (λ (x : Item). ended_before t x.caller s.begin) (cut.item ∷ cut.newer) ≡ true → (y : Item) × IsIn y all × (u.version.0 ≤ y.version.0) × (ended_before t y.caller s.begin ≡ true)
+    committed : list_any (λ (x : Item). ended_before t x.caller s.begin) (cut.item ∷ cut.newer) ≡ true → (y : Item)
+        × IsIn y all × (u.version.0 ≤ y.version.0) × (ended_before t y.caller s.begin ≡ true)
     committed any =
         let a = any-in (λ (x : Item). ended_before t x.caller s.begin) (cut.item ∷ cut.newer) any in
         let p = at a.0 a.1 in
         (a.0, p.0, p.1, a.2)
       where
         at : (y : Item) → IsIn y (cut.item ∷ cut.newer) → IsIn y all × (u.version.0 ≤ y.version.0)
-        at y (inl e) =
-            (subst (λ (z : Item). IsIn z all) (sym e) last.stands, (let v : y.version.0 ≡ u.version.0 = ap (λ (z : Item). z.version.0) e ∙ ap (λ (z : Version). z.0) version-is in omega (arith, v)))
+        at y (inl e) = (
+          subst (λ (z : Item). IsIn z all) (sym e) last.stands,
+          (let v : y.version.0 ≡ u.version.0 = ap (λ (z : Item). z.version.0) e
+              ∙ ap (λ (z : Version). z.0) version-is in omega (arith, v)),
+        )
         at y (inr j) = elim (last.before y j) [
           | inl k ↦ absurd k
           | inr f ↦ (
@@ -140,7 +148,8 @@ module _ (script : Script) (valid : IsScript script) (facts : Facts script) (t :
         ]
 
     -- where it has an object that matches
-    module _ (o : List Value) (object : u.object ≡ Some o) (match : matches s.terms key o ≡ true) (y : Item) (there : IsIn y all) (reached : u.version.0 ≤ y.version.0) (ended : ended_before t y.caller s.begin ≡ true) where
+    module _ (o : List Value) (object : u.object ≡ Some o) (match : matches s.terms key o ≡ true) (y : Item)
+        (there : IsIn y all) (reached : u.version.0 ≤ y.version.0) (ended : ended_before t y.caller s.begin ≡ true) where
       -- the update's key
       key-is : u.key ≡ key
       key-is = (stands script.space key here (made script facts t run key) u wrote.0.stands).made.key_is
@@ -171,11 +180,15 @@ module _ (script : Script) (valid : IsScript script) (facts : Facts script) (t :
           let e = item-ended script facts t run key y there s.begin ended in
           full script facts t run c s.begin known.begun s.end g rows by key (row_with u o)
           (kept-newest script.space key g reach valid.space here (made script facts t run key) u o wrote.0.stands object wrote.1 placed.0 placed.1
-          (late script facts t run c s.begin known.begun s.end g rows by key y.caller y.version e.answer e.entry e.ended e.before e.op e.called e.on_key e.sure u wrote.0.stands placed.0 reached)
+          (late script facts t run c s.begin known.begun s.end g rows by key y.caller y.version e.answer e.entry
+          e.ended e.before e.op e.called e.on_key e.sure u wrote.0.stands placed.0 reached)
           (λ w i l m. unchanged w i l m (cases_Bool w.changes)))
-          (ap (λ (l : List Term). matches l u.key o) (terms-same script valid facts t run c s known g rows by) ∙ ap (λ (k : List ℕ). matches s.terms k o) key-is ∙ match)
+          (ap (λ (l : List Term). matches l u.key o) (terms-same script valid facts t run c s known g rows by)
+          ∙ ap (λ (k : List ℕ). matches s.terms k o) key-is ∙ match)
         where
-          unchanged : (w : Update) → IsIn w here → u.version.0 < w.version.0 → w.version.0 ≤ front script facts t run c s.begin known.begun s.end g rows by key → (w.changes ≡ true) ⊎ (w.changes ≡ false) → w.changes ≡ false
+          unchanged : (w : Update) → IsIn w here → u.version.0 < w.version.0
+              → w.version.0 ≤ front script facts t run c s.begin known.begun s.end g rows by key → (w.changes ≡ true)
+              ⊎ (w.changes ≡ false) → w.changes ≡ false
           unchanged w i l m (inr f) = f
           unchanged w i l m (inl ch) =
               let e = early script facts t run c s.begin known.begun s.end g rows by key w i m in
@@ -187,7 +200,8 @@ module _ (script : Script) (valid : IsScript script) (facts : Facts script) (t :
           let m = in-map (λ (p : Part). p.region) known.gathered.parts g asked-there in
           by m.0 m.1 (sym m.2) m.0.rows refl (all-pass (λ (p : Part). is_some p.rows) known.gathered.parts m.0 known.gathered.all m.1)
         where
-          by : (p : Part) → IsIn p known.gathered.parts → p.region ≡ g → (x : Option (List Row)) → p.rows ≡ x → is_some p.rows ≡ true → IsCovered (merged_parts known.gathered.parts) (row_with u o)
+          by : (p : Part) → IsIn p known.gathered.parts → p.region ≡ g → (x : Option (List Row)) → p.rows ≡ x
+              → is_some p.rows ≡ true → IsCovered (merged_parts known.gathered.parts) (row_with u o)
           by p i e None f q = absurd (false≢true (sym (ap (λ (x : Option (List Row)). is_some x) f) ∙ q))
           by p i e (Some rows) f q =
               merged-covers known.gathered.parts p i (row_with u o)
@@ -199,7 +213,8 @@ module _ (script : Script) (valid : IsScript script) (facts : Facts script) (t :
       covered-is z i k l =
           let p = part-row z i in
           let found = kept script valid facts t run c s known p.region p.rows p.by z p.inside in
-          let j = subst (λ (x : List ℕ). IsIn found.update (line_of x t)) (k ∙ key-is) (row-stands script valid facts t run c s known p.region p.rows p.by z p.inside).0 in
+          let j = subst (λ (x : List ℕ). IsIn found.update (line_of x t)) (k ∙ key-is)
+          (row-stands script valid facts t run c s known p.region p.rows p.by z p.inside).0 in
           let e = row-early script valid facts t run c s known p.region p.rows p.by z p.inside in
           let n = no-newer found.update j found.changes e.0 e.1 e.2 in
           let w : z.version.0 ≡ found.update.version.0 = ap (λ (x : Version). x.0) found.version in
@@ -214,7 +229,8 @@ module _ (script : Script) (valid : IsScript script) (facts : Facts script) (t :
           let r = covered in
           let same = covered-is r.0 r.1 r.2 r.3 in
           subst (λ (l : List Row). IsIn (record { key = key; version = cut.item.version; object = o }) l) (sym known.gathered.rows_are)
-          (subst (λ (x : Row). IsIn x (merged_parts known.gathered.parts)) (same ∙ (λ m. record { key = key-is m; version = sym version-is m; object = o })) r.1)
+          (subst (λ (x : Row). IsIn x (merged_parts known.gathered.parts))
+          (same ∙ (λ m. record { key = key-is m; version = sym version-is m; object = o })) r.1)
 
     -- the last change is shown
     cut-shown : list_any (λ (x : Item). ended_before t x.caller s.begin) (cut.item ∷ cut.newer) ≡ true → IsShown s key cut.item cut.item.object
@@ -222,7 +238,8 @@ module _ (script : Script) (valid : IsScript script) (facts : Facts script) (t :
         let k = committed any in
         by k.0 k.1 k.2 k.3 cut.item.object refl
       where
-        by : (y : Item) → IsIn y all → u.version.0 ≤ y.version.0 → ended_before t y.caller s.begin ≡ true → (x : Option (List Value)) → cut.item.object ≡ x → IsShown s key cut.item x
+        by : (y : Item) → IsIn y all → u.version.0 ≤ y.version.0 → ended_before t y.caller s.begin ≡ true
+            → (x : Option (List Value)) → cut.item.object ≡ x → IsShown s key cut.item x
         by y i l e None q = tt
         by y i l e (Some o) q = λ m. shown o (ap (λ (z : Item). z.object) (sym wrote.0.is) ∙ q) m y i l e
 

@@ -105,6 +105,8 @@ not_refused-upto v (u ∷ us) h =
     low x (inr i) b = let a = h.0 x i in omega (arith, a, b)
 
 -- the object after a version is that after the updates up to it that weren't refused
-pub object-after : (script : Script) (key : List ℕ) (us : List Update) → IsLine script key us → (v : ℕ) → line_object (upto v us) ≡ line_object (upto v (not_refused us))
+pub object-after : (script : Script) (key : List ℕ) (us : List Update) → IsLine script key us → (v : ℕ)
+    → line_object (upto v us) ≡ line_object (upto v (not_refused us))
 object-after script key us h v =
-    sym (object-not_refused script key (upto v us) (line-upto script key v us h)) ∙ ap line_object (sym (not_refused-upto v us (numbered-sorted us (line-numbered script key us h))))
+    sym (object-not_refused script key (upto v us) (line-upto script key v us h))
+    ∙ ap line_object (sym (not_refused-upto v us (numbered-sorted us (line-numbered script key us h))))

@@ -43,7 +43,8 @@ abbrev pub RunsKeepRows : Type 0
 RunsKeepRows =
     (script : Script) → IsScript script
     → (trace : List Entry) → IsRun script trace
-    → (from : Actor) (u : SessionId) (epoch : Epoch) (number : ℕ) (g : RegionId) (rows : List Row) → IsIn (post from (Session u) (a_message.Found epoch number g rows)) (posts_of trace)
+    → (from : Actor) (u : SessionId) (epoch : Epoch) (number : ℕ) (g : RegionId) (rows : List Row)
+    → IsIn (post from (Session u) (a_message.Found epoch number g rows)) (posts_of trace)
     → (r : Row) → IsIn r rows → IsRowOfLine trace r
 
 -- in every run the entries of servers do for lines, calls and searches what the facts say

@@ -46,12 +46,14 @@ cut_below turn xs = filter (is_below turn) xs
 -- all of them, where all are below
 pub cut-all : (turn : ℕ) (xs : List Item) → ((x : Item) → IsIn x xs → rank x.caller < turn + 5) → cut_below turn xs ≡ xs
 cut-all turn [] f = refl
-cut-all turn (x ∷ xs) f = cond-true (is_below turn x) (x ∷ cut_below turn xs) (cut_below turn xs) (lt-ltb (rank x.caller) (turn + 5) (f x (inl refl))) ∙ ap (λ (l : List Item). x ∷ l) (cut-all turn xs (λ y i. f y (inr i)))
+cut-all turn (x ∷ xs) f = cond-true (is_below turn x) (x ∷ cut_below turn xs) (cut_below turn xs)
+    (lt-ltb (rank x.caller) (turn + 5) (f x (inl refl))) ∙ ap (λ (l : List Item). x ∷ l) (cut-all turn xs (λ y i. f y (inr i)))
 
 -- none, where none is
 pub cut-none : (turn : ℕ) (xs : List Item) → ((x : Item) → IsIn x xs → turn + 5 ≤ rank x.caller) → cut_below turn xs ≡ []
 cut-none turn [] f = refl
-cut-none turn (x ∷ xs) f = cond-false (is_below turn x) (x ∷ cut_below turn xs) (cut_below turn xs) (not-below turn x (f x (inl refl))) ∙ cut-none turn xs (λ y i. f y (inr i))
+cut-none turn (x ∷ xs) f = cond-false (is_below turn x) (x ∷ cut_below turn xs) (cut_below turn xs)
+    (not-below turn x (f x (inl refl))) ∙ cut-none turn xs (λ y i. f y (inr i))
   where
     not-below : (turn : ℕ) (x : Item) → turn + 5 ≤ rank x.caller → is_below turn x ≡ false
     not-below turn x l = false_from_ne_true (is_below turn x) (λ t. let m = ltb-true (rank x.caller) (turn + 5) t in omega (arith, l, m))
@@ -79,16 +81,27 @@ cut-more space turn (y ∷ older) d l x (inl q) e =
     let own : rank y.caller ≡ turn + 5 = ap (λ (z : Item). rank z.caller) (sym q) ∙ e in
     let rest : cut_below turn older ≡ older = cut-all turn older (λ z i. let m = d.0 z i in omega (arith, m, own)) in
     let more : cut_below (turn + 1) older ≡ older = cut-all (turn + 1) older (λ z i. let m = d.0 z i in omega (arith, m, own)) in
-    let here : cut_below turn (y ∷ older) ≡ older = cond-false (is_below turn y) (y ∷ cut_below turn older) (cut_below turn older) (false_from_ne_true (is_below turn y) (λ t. let m = ltb-true (rank y.caller) (turn + 5) t in omega (arith, m, own))) ∙ rest in
-    let next : cut_below (turn + 1) (y ∷ older) ≡ y ∷ older = cond-true (is_below (turn + 1) y) (y ∷ cut_below (turn + 1) older) (cut_below (turn + 1) older) (lt-ltb (rank y.caller) (turn + 1 + 5) (omega (arith, own))) ∙ ap (λ (z : List Item). y ∷ z) more in (
+    let here : cut_below turn (y ∷ older) ≡ older =
+    cond-false (is_below turn y) (y ∷ cut_below turn older) (cut_below turn older)
+    (false_from_ne_true (is_below turn y) (λ t. let m = ltb-true (rank y.caller) (turn + 5) t in
+    omega (arith, m, own))) ∙ rest in
+    let next : cut_below (turn + 1) (y ∷ older) ≡ y ∷ older =
+    cond-true (is_below (turn + 1) y) (y ∷ cut_below (turn + 1) older) (cut_below (turn + 1) older)
+    (lt-ltb (rank y.caller) (turn + 1 + 5) (omega (arith, own))) ∙ ap (λ (z : List Item). y ∷ z) more in (
       next ∙ ap (λ (z : Item). z ∷ older) (sym q) ∙ ap (λ (z : List Item). x ∷ z) (sym here),
       subst (λ (z : List Item). IsEffect space (object_now z) x) (sym here) (subst (IsEffect space (object_now older)) (sym q) l.0),
     )
 cut-more space turn (y ∷ older) d l x (inr i) e =
     let r = cut-more space turn older d.1 l.1 x i e in
     let high = d.0 x i in
-    let here : cut_below turn (y ∷ older) ≡ cut_below turn older = cond-false (is_below turn y) (y ∷ cut_below turn older) (cut_below turn older) (false_from_ne_true (is_below turn y) (λ t. let m = ltb-true (rank y.caller) (turn + 5) t in omega (arith, m, high, e))) in
-    let next : cut_below (turn + 1) (y ∷ older) ≡ cut_below (turn + 1) older = cond-false (is_below (turn + 1) y) (y ∷ cut_below (turn + 1) older) (cut_below (turn + 1) older) (false_from_ne_true (is_below (turn + 1) y) (λ t. let m = ltb-true (rank y.caller) (turn + 1 + 5) t in omega (arith, m, high, e))) in (
+    let here : cut_below turn (y ∷ older) ≡ cut_below turn older =
+    cond-false (is_below turn y) (y ∷ cut_below turn older) (cut_below turn older)
+    (false_from_ne_true (is_below turn y) (λ t. let m = ltb-true (rank y.caller) (turn + 5) t in
+    omega (arith, m, high, e))) in
+    let next : cut_below (turn + 1) (y ∷ older) ≡ cut_below (turn + 1) older =
+    cond-false (is_below (turn + 1) y) (y ∷ cut_below (turn + 1) older) (cut_below (turn + 1) older)
+    (false_from_ne_true (is_below (turn + 1) y) (λ t. let m = ltb-true (rank y.caller) (turn + 1 + 5) t in
+    omega (arith, m, high, e))) in (
       next ∙ r.0 ∙ ap (λ (z : List Item). x ∷ z) (sym here),
       subst (λ (z : List Item). IsEffect space (object_now z) x) (sym here) r.1,
     )

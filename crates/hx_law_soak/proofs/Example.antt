@@ -55,7 +55,9 @@ halts (Deliver id from message) = false
 
 none-halts : (t : List Entry) → list_all (λ (x : Entry). not (halts x.input)) t ≡ true → NoHalts t
 none-halts [] e x i = absurd i
-none-halts (y ∷ t) e x (inl q) = λ h. false≢true (sym (ap (λ (a : Input). not (halts a)) (ap (λ (z : Entry). z.input) (sym q) ∙ h)) ∙ (and_parts (not (halts y.input)) (list_all (λ (x : Entry). not (halts x.input)) t) e).0)
+none-halts (y ∷ t) e x (inl q) = λ h. false≢true
+    (sym (ap (λ (a : Input). not (halts a)) (ap (λ (z : Entry). z.input) (sym q) ∙ h))
+    ∙ (and_parts (not (halts y.input)) (list_all (λ (x : Entry). not (halts x.input)) t) e).0)
 none-halts (y ∷ t) e x (inr i) = none-halts t (and_parts (not (halts y.input)) (list_all (λ (x : Entry). not (halts x.input)) t) e).1 x i
 
 no_halts : list_all (λ (x : Entry). not (halts x.input)) trace ≡ true

@@ -27,7 +27,8 @@ ends-in (x ∷ older) c v a n (inr h) =
     let r = ends-in older c v a n h in
     record { newer = x ∷ r.newer; entry = r.entry; older = r.older; stands = ap (λ (l : List Entry). x ∷ l) r.stands; acts = r.acts; noted = r.noted }
 
-module _ (script : Script) (valid : IsScript script) (none : NoneAdministers script) (trace : List Entry) (run : IsRun script trace) (unhalted : NoHalts trace) where
+module _ (script : Script) (valid : IsScript script) (none : NoneAdministers script) (trace : List Entry)
+    (run : IsRun script trace) (unhalted : NoHalts trace) where
   -- what is asked of an answer: it is neither refused nor in doubt, and a search's has rows
   pub record IsPlain (op : Op) (a : Answer) : Type 0 where
     pub not_refused : is_refused a ≡ false
@@ -36,7 +37,8 @@ module _ (script : Script) (valid : IsScript script) (none : NoneAdministers scr
 
   -- no region of the space is lost
   loses-nothing : LosesNothing script trace
-  loses-nothing epoch config known g real = ap (λ (w : Config). is_lost w g) (only-first script valid none trace run unhalted epoch config known) ∙ not-lost script.space g real
+  loses-nothing epoch config known g real = ap (λ (w : Config). is_lost w g)
+      (only-first script valid none trace run unhalted epoch config known) ∙ not-lost script.space g real
 
   module _ (older : List Entry) (c : Caller) (op : Op) (called : call_of script c ≡ Some op) (n : ℕ) (v : Version) where
     abbrev call : AnsweredCall
@@ -71,7 +73,8 @@ module _ (script : Script) (valid : IsScript script) (none : NoneAdministers scr
     plain other k h = record { not_refused = refl; not_doubt = refl; rows = λ e. absurd (let r : Some h.key ≡ None = sym h.on_key ∙ e in cc) }
 
   -- so is the answer of each call that ended
-  pub answers-plain : (c : Caller) (op : Op) → call_of script c ≡ Some op → (begin : ℕ) → begin_of c trace ≡ Some begin → (v : Version) (a : Answer) (n : ℕ) → EndedAt trace c v a n → IsPlain op a
+  pub answers-plain : (c : Caller) (op : Op) → call_of script c ≡ Some op → (begin : ℕ)
+      → begin_of c trace ≡ Some begin → (v : Version) (a : Answer) (n : ℕ) → EndedAt trace c v a n → IsPlain op a
   answers-plain c op called begin began v a n h =
       let e = ends-in trace c v a n h in
       let entry : IsIn e.entry trace = subst (IsIn e.entry) (sym e.stands) (in_right e.newer (e.entry ∷ e.older) e.entry (inl refl)) in

@@ -1,4 +1,5 @@
--- A finished soak: each turn's call has ended, each key's history is its session's calls in order, and so what the map of the calls taken one after the other has.
+-- A finished soak: each turn's call has ended, each key's history is its session's calls in order,
+-- and so what the map of the calls taken one after the other has.
 use Rattle.hx_law_lemmas.proofs.Lemmas.Vocabulary.{[], add-one, ap, arith, begin_of, below, call_of, CallEnd, Caller, calls_of, cases_Bool, cond, cond-false}
 use Rattle.hx_law_lemmas.proofs.Lemmas.Vocabulary.{cond_both, effect_of, end_of, Entry, eq_of_same_text, Facts, false, false≢true, fold, fold_push, history_of}
 use Rattle.hx_law_lemmas.proofs.Lemmas.Vocabulary.{inl, inr, is_administrative, is_doubt, is_refused, is_rows, IsBefore, IsEffect, IsIn, IsLinear, IsScript}
@@ -78,11 +79,14 @@ module _ (seed calls : ℕ) (trace : List Entry) (finished : IsSoak seed calls t
       let at = ended_at c trace note.0 note.1 in
       let first = ended_began script known trace finished.run c note.0.version note.0.answer note.0.entry at in
       let begin = some-of (begin_of c trace) (begin_is c trace first.0 first.1) in
-      let plain = answers-plain script valid (none-administers seed calls) trace finished.run finished.no_halts c (op_at seed turn) called begin.0 begin.1 note.0.version note.0.answer note.0.entry at in
+      let plain = answers-plain script valid (none-administers seed calls) trace finished.run finished.no_halts c
+      (op_at seed turn) called begin.0 begin.1 note.0.version note.0.answer note.0.entry at in
       record {
         end = note.0;
         noted = note.1;
-        ended = ap (λ (o : Option CallEnd). when_some o None (λ (e : CallEnd). cond (is_doubt e.answer) None (Some e))) note.1 ∙ cond-false (is_doubt note.0.answer) None (Some note.0) plain.not_doubt;
+        ended = ap (λ (o : Option CallEnd). when_some o None
+            (λ (e : CallEnd). cond (is_doubt e.answer) None (Some e))) note.1
+            ∙ cond-false (is_doubt note.0.answer) None (Some note.0) plain.not_doubt;
         at = at;
         begin = begin.0;
         began = begin.1;
@@ -142,13 +146,15 @@ module _ (seed calls : ℕ) (trace : List Entry) (finished : IsSoak seed calls t
         let lower : x.caller.number < y.caller.number = omega (arith, l, session) in
         let e = ended-at s.turn s.below in
         let b = ended-at t.turn t.below in
-        let at : EndedAt trace x.caller e.end.version e.end.answer e.end.entry = subst (λ (c : Caller). EndedAt trace c e.end.version e.end.answer e.end.entry) (sym s.caller) e.at in
+        let at : EndedAt trace x.caller e.end.version e.end.answer e.end.entry =
+        subst (λ (c : Caller). EndedAt trace c e.end.version e.end.answer e.end.entry) (sym s.caller) e.at in
         let began : begin_of y.caller trace ≡ Some b.begin = subst (λ (c : Caller). begin_of c trace ≡ Some b.begin) (sym t.caller) b.began in
         let same : y.caller ≡ record { session = x.caller.session; number = y.caller.number } = (λ k. record { session = sym u k; number = y.caller.number }) in
         let first = ends_before script known trace finished.run x.caller y.caller.number lower e.end.version e.end.answer e.end.entry b.begin at
         (subst (λ (c : Caller). BeganAt trace c b.begin) same (began_at y.caller trace b.begin began)) in
         let ended : end_of x.caller trace ≡ Some e.end = subst (λ (c : Caller). end_of c trace ≡ Some e.end) (sym s.caller) e.ended in
-        linear.in_order x y b.begin i j began (ap (λ (o : Option CallEnd). when_some o false (λ (z : CallEnd). nat_lt z.entry b.begin)) ended ∙ lt-ltb e.end.entry b.begin first)
+        linear.in_order x y b.begin i j began (ap (λ (o : Option CallEnd). when_some o false
+        (λ (z : CallEnd). nat_lt z.entry b.begin)) ended ∙ lt-ltb e.end.entry b.begin first)
 
     pub descends : Descends history
     descends = descending history linear.honest.once same-caller later-above
@@ -203,19 +209,25 @@ module _ (seed calls : ℕ) (trace : List Entry) (finished : IsSoak seed calls t
 
   -- a search leaves the map; a call on a key puts what its effect is
   pub objects-searched : (t : Tally) (op : Op) → key_of op ≡ None → taken soak t op ≡ with_search t
-  objects-searched t op e = ap (λ (o : Option (List ℕ)). when_some o (with_search t) (λ (key : List ℕ). with_effect t key (effect_of soak (object_at key t.objects) op))) e
+  objects-searched t op e = ap (λ (o : Option (List ℕ)). when_some o (with_search t)
+      (λ (key : List ℕ). with_effect t key (effect_of soak (object_at key t.objects) op))) e
 
-  pub objects-put : (t : Tally) (op : Op) (key : List ℕ) → key_of op ≡ Some key → taken soak t op ≡ with_effect t key (effect_of soak (object_at key t.objects) op)
-  objects-put t op key e = ap (λ (o : Option (List ℕ)). when_some o (with_search t) (λ (key : List ℕ). with_effect t key (effect_of soak (object_at key t.objects) op))) e
+  pub objects-put : (t : Tally) (op : Op) (key : List ℕ) → key_of op ≡ Some key
+      → taken soak t op ≡ with_effect t key (effect_of soak (object_at key t.objects) op)
+  objects-put t op key e = ap (λ (o : Option (List ℕ)). when_some o (with_search t)
+      (λ (key : List ℕ). with_effect t key (effect_of soak (object_at key t.objects) op))) e
 
   -- it is one
   pub is-map : (turn : ℕ) → IsMap (tally turn).objects
   is-map zero = tt
-  is-map (suc turn) = subst (λ (t : Tally). IsMap t.objects) (sym (ap tally (sym (add-one turn)) ∙ one-more turn)) (by (key_of (op_at seed turn)) refl (is-map turn))
+  is-map (suc turn) = subst (λ (t : Tally). IsMap t.objects) (sym (ap tally (sym (add-one turn)) ∙ one-more turn))
+      (by (key_of (op_at seed turn)) refl (is-map turn))
     where
       by : (o : Option (List ℕ)) → key_of (op_at seed turn) ≡ o → IsMap (tally turn).objects → IsMap (taken soak (tally turn) (op_at seed turn)).objects
       by None e m = subst (λ (t : Tally). IsMap t.objects) (sym (objects-searched (tally turn) (op_at seed turn) e)) m
-      by (Some key) e m = subst (λ (t : Tally). IsMap t.objects) (sym (objects-put (tally turn) (op_at seed turn) key e)) (put-map key (effect_of soak (object_at key (tally turn).objects) (op_at seed turn)).object (tally turn).objects m)
+      by (Some key) e m = subst (λ (t : Tally). IsMap t.objects)
+          (sym (objects-put (tally turn) (op_at seed turn) key e))
+          (put-map key (effect_of soak (object_at key (tally turn).objects) (op_at seed turn)).object (tally turn).objects m)
 
   -- each key has the object of its history before a turn
   abbrev pub ObjectsAre : ℕ → Type 0
@@ -223,7 +235,8 @@ module _ (seed calls : ℕ) (trace : List Entry) (finished : IsSoak seed calls t
 
   pub objects-are : (turn : ℕ) → turn ≤ calls → ObjectsAre turn
   objects-are zero l key = sym (ap object_now (cut-start key))
-  objects-are (suc turn) l key = subst (λ n. object_at key (tally n).objects ≡ object_now (cut_below n (history key))) (add-one turn) (by (λ k. objects-are turn (omega (arith, l)) k) (key_of (op_at seed turn)) refl)
+  objects-are (suc turn) l key = subst (λ n. object_at key (tally n).objects ≡ object_now (cut_below n (history key)))
+      (add-one turn) (by (λ k. objects-are turn (omega (arith, l)) k) (key_of (op_at seed turn)) refl)
     where
       here : turn < calls
       here = omega (arith, l)
@@ -231,7 +244,9 @@ module _ (seed calls : ℕ) (trace : List Entry) (finished : IsSoak seed calls t
       left : ObjectsAre turn → key_of (op_at seed turn) ≢ Some key → object_at key (tally turn).objects ≡ object_now (cut_below (turn + 1) (history key))
       left before n = before key ∙ ap object_now (sym (leaves key turn n))
 
-      put : ObjectsAre turn → (k : List ℕ) → key_of (op_at seed turn) ≡ Some k → k ≡ key → (effect_of soak (object_at k (tally turn).objects) (op_at seed turn)).object ≡ object_now (cut_below (turn + 1) (history key))
+      put : ObjectsAre turn → (k : List ℕ) → key_of (op_at seed turn) ≡ Some k → k ≡ key
+          → (effect_of soak (object_at k (tally turn).objects) (op_at seed turn)).object
+          ≡ object_now (cut_below (turn + 1) (history key))
       put before k e q =
           let on : key_of (op_at seed turn) ≡ Some key = e ∙ ap Some q in
           let t = (takes key turn here on).0 in
@@ -241,7 +256,8 @@ module _ (seed calls : ℕ) (trace : List Entry) (finished : IsSoak seed calls t
           ∙ sym t.effect.object
           ∙ sym (ap object_now t.cut)
 
-      by : ObjectsAre turn → (o : Option (List ℕ)) → key_of (op_at seed turn) ≡ o → object_at key (tally (turn + 1)).objects ≡ object_now (cut_below (turn + 1) (history key))
+      by : ObjectsAre turn → (o : Option (List ℕ)) → key_of (op_at seed turn) ≡ o
+          → object_at key (tally (turn + 1)).objects ≡ object_now (cut_below (turn + 1) (history key))
       by before None e =
           ap (λ (t : Tally). object_at key t.objects) (one-more turn ∙ objects-searched (tally turn) (op_at seed turn) e)
           ∙ left before (λ q. let r : None ≡ Some key = sym e ∙ q in cc)
@@ -250,7 +266,8 @@ module _ (seed calls : ℕ) (trace : List Entry) (finished : IsSoak seed calls t
           ap (λ (t : Tally). object_at key t.objects) (one-more turn ∙ objects-put (tally turn) (op_at seed turn) k e)
           ∙ elim (cases_Bool (same_text k key)) [
             | inl t ↦ (let q = eq_of_same_text k key t in
-                subst (λ (w : List ℕ). object_at w (with_effect (tally turn) k f).objects ≡ f.object) q (put-at k f.object (tally turn).objects (is-map turn)) ∙ put before k e q)
+                subst (λ (w : List ℕ). object_at w (with_effect (tally turn) k f).objects ≡ f.object) q
+                (put-at k f.object (tally turn).objects (is-map turn)) ∙ put before k e q)
             | inr t ↦ (let n : k ≡ key → ⊥ = (λ q. false≢true (sym t ∙ text-same k key q)) in
                 put-other k key f.object (tally turn).objects n ∙ left before (λ q. n (let r : Some k ≡ Some key = sym e ∙ q in cc)))
           ]

@@ -52,7 +52,8 @@ keyed-at : (key : List ℕ) (object : Option (List Value)) (rest : List KeyObjec
 keyed-at key None rest e = e
 keyed-at key (Some v) rest e = at-first (record { key = key; object = v }) rest
 
-keyed-other : (key other : List ℕ) (object : Option (List Value)) (rest : List KeyObject) → (key ≡ other → ⊥) → object_at other (keyed key object ++ rest) ≡ object_at other rest
+keyed-other : (key other : List ℕ) (object : Option (List Value)) (rest : List KeyObject) → (key ≡ other → ⊥)
+    → object_at other (keyed key object ++ rest) ≡ object_at other rest
 keyed-other key other None rest n = refl
 keyed-other key other (Some v) rest n = at-rest other (record { key = key; object = v }) rest n
 
@@ -64,7 +65,9 @@ put-at key object [] m = by object
     by None = refl
     by (Some v) = at-first (record { key = key; object = v }) []
 put-at key object (o ∷ rest) m =
-    cond_both (same_text key o.key) (keyed key object ++ rest) (cond (text_below key o.key) (keyed key object ++ o ∷ rest) (o ∷ with_object key object rest)) (λ (l : List KeyObject). object_at key l ≡ object)
+    cond_both (same_text key o.key) (keyed key object ++ rest)
+    (cond (text_below key o.key) (keyed key object ++ o ∷ rest) (o ∷ with_object key object rest))
+    (λ (l : List KeyObject). object_at key l ≡ object)
     (λ t. keyed-at key object rest (above key rest (λ p i. subst (λ (k : List ℕ). text_below k p.key ≡ true) (sym (eq_of_same_text key o.key t)) (m.0 p i))))
     (
     λ t. cond_both (text_below key o.key) (keyed key object ++ o ∷ rest) (o ∷ with_object key object rest) (λ (l : List KeyObject). object_at key l ≡ object)
@@ -73,17 +76,21 @@ put-at key object (o ∷ rest) m =
     )
 
 -- another key has what it had
-pub put-other : (key other : List ℕ) (object : Option (List Value)) (objects : List KeyObject) → (key ≡ other → ⊥) → object_at other (with_object key object objects) ≡ object_at other objects
+pub put-other : (key other : List ℕ) (object : Option (List Value)) (objects : List KeyObject) → (key ≡ other → ⊥)
+    → object_at other (with_object key object objects) ≡ object_at other objects
 put-other key other object [] n = by object
   where
     by : (v : Option (List Value)) → object_at other (keyed key v) ≡ None
     by None = refl
     by (Some v) = at-rest other (record { key = key; object = v }) [] n
 put-other key other object (o ∷ rest) n =
-    cond_both (same_text key o.key) (keyed key object ++ rest) (cond (text_below key o.key) (keyed key object ++ o ∷ rest) (o ∷ with_object key object rest)) (λ (l : List KeyObject). object_at other l ≡ object_at other (o ∷ rest))
+    cond_both (same_text key o.key) (keyed key object ++ rest)
+    (cond (text_below key o.key) (keyed key object ++ o ∷ rest) (o ∷ with_object key object rest))
+    (λ (l : List KeyObject). object_at other l ≡ object_at other (o ∷ rest))
     (λ t. keyed-other key other object rest n ∙ sym (at-rest other o rest (λ e. n (eq_of_same_text key o.key t ∙ e))))
     (
-    λ t. cond_both (text_below key o.key) (keyed key object ++ o ∷ rest) (o ∷ with_object key object rest) (λ (l : List KeyObject). object_at other l ≡ object_at other (o ∷ rest))
+    λ t. cond_both (text_below key o.key) (keyed key object ++ o ∷ rest) (o ∷ with_object key object rest)
+    (λ (l : List KeyObject). object_at other l ≡ object_at other (o ∷ rest))
     (λ l. keyed-other key other object (o ∷ rest) n)
     (λ l. ap (λ (v : Option (List Value)). cond (same_text o.key other) (Some o.object) v) (put-other key other object rest n))
     )
@@ -91,7 +98,8 @@ put-other key other object (o ∷ rest) n =
 -- ---- the order of keys
 
 -- what stands in a map into which an object was put
-put-in : (key : List ℕ) (object : Option (List Value)) (objects : List KeyObject) (p : KeyObject) → IsIn p (with_object key object objects) → (p.key ≡ key) ⊎ IsIn p objects
+put-in : (key : List ℕ) (object : Option (List Value)) (objects : List KeyObject) (p : KeyObject)
+    → IsIn p (with_object key object objects) → (p.key ≡ key) ⊎ IsIn p objects
 put-in key object [] p = λ i. inl (by object i)
   where
     by : (v : Option (List Value)) → IsIn p (keyed key v) → p.key ≡ key
@@ -99,10 +107,13 @@ put-in key object [] p = λ i. inl (by object i)
     by (Some v) (inl e) = ap (λ (q : KeyObject). q.key) e
     by (Some v) (inr i) = absurd i
 put-in key object (o ∷ rest) p =
-    cond_both (same_text key o.key) (keyed key object ++ rest) (cond (text_below key o.key) (keyed key object ++ o ∷ rest) (o ∷ with_object key object rest)) (λ (l : List KeyObject). IsIn p l → (p.key ≡ key) ⊎ IsIn p (o ∷ rest))
+    cond_both (same_text key o.key) (keyed key object ++ rest)
+    (cond (text_below key o.key) (keyed key object ++ o ∷ rest) (o ∷ with_object key object rest))
+    (λ (l : List KeyObject). IsIn p l → (p.key ≡ key) ⊎ IsIn p (o ∷ rest))
     (λ t i. elim (first object rest i) [ inl e ↦ inl e | inr j ↦ inr (inr j) ])
     (
-    λ t. cond_both (text_below key o.key) (keyed key object ++ o ∷ rest) (o ∷ with_object key object rest) (λ (l : List KeyObject). IsIn p l → (p.key ≡ key) ⊎ IsIn p (o ∷ rest))
+    λ t. cond_both (text_below key o.key) (keyed key object ++ o ∷ rest) (o ∷ with_object key object rest)
+    (λ (l : List KeyObject). IsIn p l → (p.key ≡ key) ⊎ IsIn p (o ∷ rest))
     (λ l i. first object (o ∷ rest) i)
     (λ l i. elim i [ inl e ↦ inr (inl e) | inr j ↦ elim (put-in key object rest p j) [ inl e ↦ inl e | inr k ↦ inr (inr k) ] ])
     )
@@ -112,7 +123,8 @@ put-in key object (o ∷ rest) p =
     first (Some v) more (inl e) = inl (ap (λ (q : KeyObject). q.key) e)
     first (Some v) more (inr i) = inr i
 
-keyed-map : (key : List ℕ) (object : Option (List Value)) (rest : List KeyObject) → IsMap rest → ((p : KeyObject) → IsIn p rest → text_below key p.key ≡ true) → IsMap (keyed key object ++ rest)
+keyed-map : (key : List ℕ) (object : Option (List Value)) (rest : List KeyObject) → IsMap rest
+    → ((p : KeyObject) → IsIn p rest → text_below key p.key ≡ true) → IsMap (keyed key object ++ rest)
 keyed-map key None rest m f = m
 keyed-map key (Some v) rest m f = (f, m)
 
@@ -124,7 +136,8 @@ put-map key object [] m = by object
     by None = tt
     by (Some v) = ((λ p i. absurd i), tt)
 put-map key object (o ∷ rest) m =
-    cond_both (same_text key o.key) (keyed key object ++ rest) (cond (text_below key o.key) (keyed key object ++ o ∷ rest) (o ∷ with_object key object rest)) IsMap
+    cond_both (same_text key o.key) (keyed key object ++ rest)
+    (cond (text_below key o.key) (keyed key object ++ o ∷ rest) (o ∷ with_object key object rest)) IsMap
     (λ t. keyed-map key object rest m.1 (λ p i. subst (λ (k : List ℕ). text_below k p.key ≡ true) (sym (eq_of_same_text key o.key t)) (m.0 p i)))
     (
     λ t. cond_both (text_below key o.key) (keyed key object ++ o ∷ rest) (o ∷ with_object key object rest) IsMap

@@ -153,18 +153,25 @@ module _ (script : Script) (valid : IsScript script) (none : NoneAdministers scr
 
     of-coordinator : x.actor ≡ Coordinator → IsQuiet script (x ∷ older)
     of-coordinator acts =
-        let made : made_of script older Coordinator x.input ≡ record { posts = x.outputs; notes = x.notes } = subst (λ (a : Actor). made_of script older a x.input ≡ record { posts = x.outputs; notes = x.notes }) acts run.0.made in
+        let made : made_of script older Coordinator x.input ≡ record { posts = x.outputs; notes = x.notes } =
+        subst (λ (a : Actor). made_of script older a x.input ≡ record { posts = x.outputs; notes = x.notes }) acts
+        run.0.made in
         let h = calm-input older q x.actor x.input run.0.input unhalted in
         let r = rests-step script.space (length script.sessions) x.input h in
         record {
-          rests = ap (λ (a : Actor). coordinator_after a x.input before) acts ∙ ap (λ (c : CoordinatorState). (coordinator_step c x.input).state) q.rests ∙ r.state;
+          rests = ap (λ (a : Actor). coordinator_after a x.input before) acts
+              ∙ ap (λ (c : CoordinatorState). (coordinator_step c x.input).state) q.rests ∙ r.state;
           up = λ s. ap (λ (a : Actor). (server_after script.space s a x.input (server_of script s older)).halted) acts ∙ q.up s;
-          calm = calm-all (λ p i. r.calm p (subst (λ (ps : List Post). IsIn p ps) (sym (ap (λ (m : Output). m.posts) made) ∙ ap (λ (c : CoordinatorState). (coordinator_step c x.input).posts) q.rests) i));
+          calm = calm-all (λ p i. r.calm p (subst (λ (ps : List Post). IsIn p ps)
+              (sym (ap (λ (m : Output). m.posts) made) ∙ ap
+              (λ (c : CoordinatorState). (coordinator_step c x.input).posts) q.rests) i));
         }
 
     of-server : (i : ServerId) → x.actor ≡ Server i → IsQuiet script (x ∷ older)
     of-server i acts =
-        let made : made_of script older (Server i) x.input ≡ record { posts = x.outputs; notes = x.notes } = subst (λ (a : Actor). made_of script older a x.input ≡ record { posts = x.outputs; notes = x.notes }) acts run.0.made in
+        let made : made_of script older (Server i) x.input ≡ record { posts = x.outputs; notes = x.notes } =
+        subst (λ (a : Actor). made_of script older a x.input ≡ record { posts = x.outputs; notes = x.notes }) acts
+        run.0.made in
         let may : MayTake older (Server i) x.input = subst (λ (a : Actor). MayTake older a x.input) acts run.0.input in
         let real : is_actor script (Server i) ≡ true = ap (is_actor script) (sym acts) ∙ run.0.actor in
         let h = calm-input older q x.actor x.input run.0.input unhalted in
@@ -173,7 +180,8 @@ module _ (script : Script) (valid : IsScript script) (none : NoneAdministers scr
         record {
           rests = ap (λ (a : Actor). coordinator_after a x.input before) acts ∙ q.rests;
           up = λ s. ap (λ (a : Actor). (server_after script.space s a x.input (server_of script s older)).halted) acts
-              ∙ cond_both (same_server i s) (server_step script.space (server_of script s older) x.input).state (server_of script s older) (λ (w : ServerState). w.halted ≡ false)
+              ∙ cond_both (same_server i s) (server_step script.space (server_of script s older) x.input).state
+              (server_of script s older) (λ (w : ServerState). w.halted ≡ false)
               (λ t. up-step script.space (server_of script s older) (q.up s) x.input h) (λ t. q.up s);
           calm = calm-all (λ p j. calm-told i (server_step script.space (server_of script i older) x.input).state still p.to p.message
               (does.posts p (subst (λ (ps : List Post). IsIn p ps) (sym (ap (λ (m : Output). m.posts) made)) j)).1);
@@ -181,7 +189,8 @@ module _ (script : Script) (valid : IsScript script) (none : NoneAdministers scr
 
     of-session : (u : SessionId) → x.actor ≡ Session u → IsQuiet script (x ∷ older)
     of-session u acts =
-        let does = subst (SessionDoes script.space x.input (session_of script u older)) (step_is script older x u run.0 acts) (session-does script.space (session_of script u older) x.input) in
+        let does = subst (SessionDoes script.space x.input (session_of script u older))
+        (step_is script older x u run.0 acts) (session-does script.space (session_of script u older) x.input) in
         record {
           rests = ap (λ (a : Actor). coordinator_after a x.input before) acts ∙ q.rests;
           up = λ s. ap (λ (a : Actor). (server_after script.space s a x.input (server_of script s older)).halted) acts ∙ q.up s;
@@ -202,13 +211,15 @@ module _ (script : Script) (valid : IsScript script) (none : NoneAdministers scr
   quiet (x ∷ older) run unhalted = quiet-entry older (quiet older run.1 (λ y i. unhalted y (inr i))) x run (unhalted x (inl refl))
 
   -- and the first configuration is the only one
-  pub only-first : (t : List Entry) → IsRun script t → NoHalts t → (epoch : Epoch) (config : Config) → config_of script epoch t ≡ Some config → config ≡ first_config script.space
+  pub only-first : (t : List Entry) → IsRun script t → NoHalts t → (epoch : Epoch) (config : Config)
+      → config_of script epoch t ≡ Some config → config ≡ first_config script.space
   only-first t run unhalted epoch config e =
       let q = quiet t run unhalted in
       let known = (epochs-run script valid t run).known in
       let only = known.on.only epoch config e in
       let first : (coordinator_of script t).config ≡ first_config script.space = ap (λ (c : CoordinatorState). c.config) q.rests in
-      let newest : config_of script (first_config script.space).epoch t ≡ Some (first_config script.space) = subst (λ (c : Config). config_of script c.epoch t ≡ Some c) first known.newest in
+      let newest : config_of script (first_config script.space).epoch t ≡ Some (first_config script.space) =
+      subst (λ (c : Config). config_of script c.epoch t ≡ Some c) first known.newest in
       let low = only.0 in
       let high = only.1 in
       let top : (coordinator_of script t).config.epoch.0 ≡ 1 = ap (λ (c : Config). c.epoch.0) first in

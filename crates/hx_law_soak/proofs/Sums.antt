@@ -11,12 +11,14 @@ use Rattle.hx_law_soak.proofs.Turns.{caller_at, calls-of, dealt_out}
 -- a count over lists joined is the sum of counts
 pub count-joined : {A B : Type 0} (p : B → Bool) (f : A → List B) (xs : List A) → count_by p (flat_map f xs) ≡ sum_by (λ (x : A). count_by p (f x)) xs
 count-joined p f [] = refl
-count-joined p f (x ∷ xs) = sum_by-append (λ y. cond (p y) 1 0) (f x) (flat_map f xs) ∙ ap (λ k. count_by p (f x) + k) (count-joined p f xs) ∙ sym (sum_by-cons (λ y. count_by p (f y)) x xs)
+count-joined p f (x ∷ xs) = sum_by-append (λ y. cond (p y) 1 0) (f x) (flat_map f xs)
+    ∙ ap (λ k. count_by p (f x) + k) (count-joined p f xs) ∙ sym (sum_by-cons (λ y. count_by p (f y)) x xs)
 
 -- so is a sum over them
 sum-joined : {A B : Type 0} (w : B → ℕ) (f : A → List B) (xs : List A) → sum_by w (flat_map f xs) ≡ sum_by (λ (x : A). sum_by w (f x)) xs
 sum-joined w f [] = refl
-sum-joined w f (x ∷ xs) = sum_by-append w (f x) (flat_map f xs) ∙ ap (λ k. sum_by w (f x) + k) (sum-joined w f xs) ∙ sym (sum_by-cons (λ y. sum_by w (f y)) x xs)
+sum-joined w f (x ∷ xs) = sum_by-append w (f x) (flat_map f xs) ∙ ap (λ k. sum_by w (f x) + k) (sum-joined w f xs)
+    ∙ sym (sum_by-cons (λ y. sum_by w (f y)) x xs)
 
 sum-mapped : {A B : Type 0} (w : B → ℕ) (f : A → B) (xs : List A) → sum_by w (map f xs) ≡ sum_by (λ (x : A). w (f x)) xs
 sum-mapped w f [] = refl
@@ -37,7 +39,9 @@ module _ (w : Caller → ℕ) where
       ts : List ℕ
       ts = turns_of n (u + 1)
 
-      by : (b : Bool) → (session_at n == u + 1) ≡ b → sum_by (term u) (below (length (ts ++ cond b (n ∷ []) []))) ≡ sum_by (term u) (below (length ts)) + cond b (term u (n / 4)) 0
+      by : (b : Bool) → (session_at n == u + 1) ≡ b
+          → sum_by (term u) (below (length (ts ++ cond b (n ∷ []) [])))
+          ≡ sum_by (term u) (below (length ts)) + cond b (term u (n / 4)) 0
       by false t = ap (λ (l : List ℕ). sum_by (term u) (below (length l))) (append-nil ts) ∙ omega arith
       by true t =
           let own : n % 4 + 1 ≡ u + 1 = eqb-true (session_at n) (u + 1) t in
@@ -50,7 +54,8 @@ module _ (w : Caller → ℕ) where
           ∙ ap (λ k. sum_by (term u) (below (length ts)) + term u k) here
 
   -- it is the turn of one of four
-  of-four : (d q : ℕ) → d < 4 → cond (d + 1 == 1) (term 0 q) 0 + cond (d + 1 == 2) (term 1 q) 0 + cond (d + 1 == 3) (term 2 q) 0 + cond (d + 1 == 4) (term 3 q) 0 ≡ term d q
+  of-four : (d q : ℕ) → d < 4 → cond (d + 1 == 1) (term 0 q) 0 + cond (d + 1 == 2) (term 1 q) 0 + cond (d + 1 == 3)
+      (term 2 q) 0 + cond (d + 1 == 4) (term 3 q) 0 ≡ term d q
   of-four zero q l = omega arith
   of-four (suc zero) q l = omega arith
   of-four (suc (suc zero)) q l = omega arith
@@ -77,11 +82,13 @@ module _ (w : Caller → ℕ) where
       ∙ all-dealt calls
     where
       callers : ℕ → List Caller
-      callers u = map (λ n. record { session = record { 0 = u + 1 }; number = n + 1 }) (below (length (calls_of (script_drawn seed calls) (record { 0 = u + 1 }))))
+      callers u = map (λ n. record { session = record { 0 = u + 1 }; number = n + 1 })
+          (below (length (calls_of (script_drawn seed calls) (record { 0 = u + 1 }))))
 
       own : (u : ℕ) → u < 4 → sum_by w (callers u) ≡ dealt calls u
       own u l =
-          sum-mapped w (λ n. record { session = record { 0 = u + 1 }; number = n + 1 }) (below (length (calls_of (script_drawn seed calls) (record { 0 = u + 1 }))))
+          sum-mapped w (λ n. record { session = record { 0 = u + 1 }; number = n + 1 })
+          (below (length (calls_of (script_drawn seed calls) (record { 0 = u + 1 }))))
           ∙ ap (λ k. sum_by (term u) (below k))
           (
           ap (λ n. length (calls_of (script_drawn seed calls) (record { 0 = n }))) (add-one u)
@@ -89,8 +96,10 @@ module _ (w : Caller → ℕ) where
           ∙ length-map (turns_of calls (u + 1)) (λ turn. call_drawn (u + 1) (draw_of seed turn))
           )
 
-      joined : sum_by w (callers 0) ≡ dealt calls 0 → sum_by w (callers 1) ≡ dealt calls 1 → sum_by w (callers 2) ≡ dealt calls 2 → sum_by w (callers 3) ≡ dealt calls 3
+      joined : sum_by w (callers 0) ≡ dealt calls 0 → sum_by w (callers 1) ≡ dealt calls 1
+          → sum_by w (callers 2) ≡ dealt calls 2 → sum_by w (callers 3) ≡ dealt calls 3
           → sum_by (λ u. sum_by w (callers u)) (below 4) ≡ dealt calls 0 + dealt calls 1 + dealt calls 2 + dealt calls 3
       joined a b c e =
-          let h : sum_by (λ u. sum_by w (callers u)) (below 4) ≡ 0 + sum_by w (callers 0) + sum_by w (callers 1) + sum_by w (callers 2) + sum_by w (callers 3) = refl in
+          let h : sum_by (λ u. sum_by w (callers u)) (below 4)
+          ≡ 0 + sum_by w (callers 0) + sum_by w (callers 1) + sum_by w (callers 2) + sum_by w (callers 3) = refl in
           omega (arith, h, a, b, c, e)

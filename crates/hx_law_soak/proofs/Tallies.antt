@@ -73,17 +73,20 @@ effect-no-rows space (Some v) (Cput key tests sets) = by (tests_hold v tests) re
     by : (b : Bool) → tests_hold v tests ≡ b → is_rows (put_where (Some v) tests sets).answer ≡ false
     by true e = cond_both (tests_hold v tests) _ _ (λ (f : Effect). is_rows f.answer ≡ false) (λ t. refl) (λ t. refl)
     by false e = cond_both (tests_hold v tests) _ _ (λ (f : Effect). is_rows f.answer ≡ false) (λ t. refl) (λ t. refl)
-effect-no-rows space old (Atomic key edits) = atomic-both (λ (e : Effect). is_rows e.answer ≡ false) space old key edits (λ object. refl) refl (λ object. refl) (λ object. refl)
+effect-no-rows space old (Atomic key edits) = atomic-both
+    (λ (e : Effect). is_rows e.answer ≡ false) space old key edits (λ object. refl) refl (λ object. refl) (λ object. refl)
 effect-no-rows space old other = refl
 
 -- one more call on a key is counted by its answer
-counts-effect : (what : Counted) (t : Tally) (key : List ℕ) (old : Option (List Value)) (op : Op) → field what (with_effect t key (effect_of soak old op)) ≡ field what t + one_if (passes what (effect_of soak old op).answer)
+counts-effect : (what : Counted) (t : Tally) (key : List ℕ) (old : Option (List Value)) (op : Op)
+    → field what (with_effect t key (effect_of soak old op)) ≡ field what t + one_if (passes what (effect_of soak old op).answer)
 counts-effect a_count.Ended t key old op = refl
 counts-effect a_count.Done t key old op = refl
 counts-effect a_count.NotFound t key old op = refl
 counts-effect a_count.CmpFail t key old op = refl
 counts-effect a_count.Found t key old op = refl
-counts-effect a_count.Search t key old op = let e : one_if (is_rows (effect_of soak old op).answer) ≡ 0 = ap one_if (effect-no-rows soak old op) in omega (arith, e)
+counts-effect a_count.Search t key old op = let e : one_if (is_rows (effect_of soak old op).answer) ≡ 0 =
+    ap one_if (effect-no-rows soak old op) in omega (arith, e)
 
 -- one more search by its rows
 counts-search : (what : Counted) (t : Tally) (a : Answer) → is_rows a ≡ true → field what (with_search t) ≡ field what t + one_if (passes what a)
@@ -104,9 +107,11 @@ ascending (h ∷ rest) e =
     let a = and_parts (list_all (text_below h.key) (keys_of_histories rest)) (keys_ascend (keys_of_histories rest)) e in
     (λ g i. each h.key rest g a.0 i, ascending rest a.1)
   where
-    each : (key : List ℕ) (l : List KeyHistory) (g : KeyHistory) → list_all (text_below key) (keys_of_histories l) ≡ true → IsIn g l → text_below key g.key ≡ true
+    each : (key : List ℕ) (l : List KeyHistory) (g : KeyHistory)
+        → list_all (text_below key) (keys_of_histories l) ≡ true → IsIn g l → text_below key g.key ≡ true
     each key [] g t i = absurd i
-    each key (x ∷ l) g t (inl q) = subst (λ (z : KeyHistory). text_below key z.key ≡ true) (sym q) (and_parts (text_below key x.key) (list_all (text_below key) (keys_of_histories l)) t).0
+    each key (x ∷ l) g t (inl q) = subst (λ (z : KeyHistory). text_below key z.key ≡ true) (sym q)
+        (and_parts (text_below key x.key) (list_all (text_below key) (keys_of_histories l)) t).0
     each key (x ∷ l) g t (inr i) = each key l g (and_parts (text_below key x.key) (list_all (text_below key) (keys_of_histories l)) t).1 i
 
 abbrev present : List ℕ → Option (List Value) → List KeyObject
@@ -117,7 +122,8 @@ object-history : (listed : List KeyHistory) (p : KeyObject) → IsIn p (objects_
 object-history [] p i = absurd i
 object-history (h ∷ rest) p i = by (last_object h.items) (λ j. object-history rest p j) i
   where
-    by : (o : Option (List Value)) → (IsIn p (objects_of rest) → (g : KeyHistory) × IsIn g rest × (p.key ≡ g.key)) → IsIn p (present h.key o ++ objects_of rest) → (g : KeyHistory) × IsIn g (h ∷ rest) × (p.key ≡ g.key)
+    by : (o : Option (List Value)) → (IsIn p (objects_of rest) → (g : KeyHistory) × IsIn g rest × (p.key ≡ g.key))
+        → IsIn p (present h.key o ++ objects_of rest) → (g : KeyHistory) × IsIn g (h ∷ rest) × (p.key ≡ g.key)
     by None more i = let r = more i in (r.0, inr r.1, r.2)
     by (Some v) more (inl e) = (h, inl refl, ap (λ (q : KeyObject). q.key) e)
     by (Some v) more (inr i) = let r = more i in (r.0, inr r.1, r.2)
@@ -136,7 +142,8 @@ not-listed : (listed : List KeyHistory) (key : List ℕ) → ((h : KeyHistory) �
 not-listed listed key f = at-none key (objects_of listed) (λ p i e. let r = object-history listed p i in f r.0 r.1 (sym r.2 ∙ e))
 
 -- the key of a history has the object in which it ends
-listed-at : (listed : List KeyHistory) → Ascend (λ (h : KeyHistory). h.key) listed → (h : KeyHistory) → IsIn h listed → object_at h.key (objects_of listed) ≡ last_object h.items
+listed-at : (listed : List KeyHistory) → Ascend (λ (h : KeyHistory). h.key) listed → (h : KeyHistory) → IsIn h listed
+    → object_at h.key (objects_of listed) ≡ last_object h.items
 listed-at [] a h i = absurd i
 listed-at (g ∷ rest) a h (inl e) = subst (λ (z : KeyHistory). object_at z.key (objects_of (g ∷ rest)) ≡ last_object z.items) (sym e) (by (last_object g.items))
   where
@@ -148,7 +155,8 @@ listed-at (g ∷ rest) a h (inl e) = subst (λ (z : KeyHistory). object_at z.key
     by (Some v) = at-first (record { key = g.key; object = v }) (objects_of rest)
 listed-at (g ∷ rest) a h (inr i) = by (last_object g.items) (listed-at rest a.1 h i)
   where
-    by : (o : Option (List Value)) → object_at h.key (objects_of rest) ≡ last_object h.items → object_at h.key (present g.key o ++ objects_of rest) ≡ last_object h.items
+    by : (o : Option (List Value)) → object_at h.key (objects_of rest) ≡ last_object h.items
+        → object_at h.key (present g.key o ++ objects_of rest) ≡ last_object h.items
     by None e = e
     by (Some v) e = at-rest h.key (record { key = g.key; object = v }) (objects_of rest) (text_below-apart g.key h.key (a.0 h i)) ∙ e
 
@@ -164,14 +172,16 @@ module _ (seed calls : ℕ) (trace : List Entry) (finished : IsSoak seed calls t
   weight what c = count_by (is_counted what) (record_of trace c)
 
   -- an ended call counts by its answer
-  weighs : (what : Counted) (turn : ℕ) (l : turn < calls) → weight what (caller_at turn) ≡ one_if (passes what (ended-at seed calls trace finished turn l).end.answer)
+  weighs : (what : Counted) (turn : ℕ) (l : turn < calls)
+      → weight what (caller_at turn) ≡ one_if (passes what (ended-at seed calls trace finished turn l).end.answer)
   weighs what turn l =
       let c = caller_at turn in
       let e = ended-at seed calls trace finished turn l in
       let r = record_at c trace e.begin in
       ap (λ (o : Option ℕ). count_by (is_counted what) (list_of (option_map (record_at c trace) o))) e.began
       ∙ count-one (is_counted what) r
-      ∙ ap one_if (counted-by what r e.end.entry e.end.answer (ap (option_map (λ (x : CallEnd). x.entry)) e.ended) (ap (option_map (λ (x : CallEnd). x.answer)) e.noted))
+      ∙ ap one_if (counted-by what r e.end.entry e.end.answer (ap (option_map (λ (x : CallEnd). x.entry)) e.ended)
+      (ap (option_map (λ (x : CallEnd). x.answer)) e.noted))
 
   -- so does the call taken in its turn
   counts-one : (what : Counted) (turn : ℕ) → turn < calls → field what (tally (turn + 1)) ≡ field what (tally turn) + weight what (caller_at turn)
@@ -187,7 +197,8 @@ module _ (seed calls : ℕ) (trace : List Entry) (finished : IsSoak seed calls t
           ∙ ap (λ k. field what (tally turn) + k) (sym (weighs what turn l))
       by (Some key) e =
           let t = takes seed calls trace finished key turn l e in
-          let old : object_at key (tally turn).objects ≡ object_now (cut_below turn (history_of script key trace)) = objects-are seed calls trace finished turn (omega (arith, l)) key in
+          let old : object_at key (tally turn).objects ≡ object_now (cut_below turn (history_of script key trace)) =
+          objects-are seed calls trace finished turn (omega (arith, l)) key in
           let same : (effect_of soak (object_at key (tally turn).objects) (op_at seed turn)).answer ≡ answer =
           ap (λ (o : Option (List Value)). (effect_of soak o (op_at seed turn)).answer) old
           ∙ ap (λ (op : Op). (effect_of soak (object_now (cut_below turn (history_of script key trace))) op).answer) (sym t.0.op_is)
@@ -235,7 +246,8 @@ module _ (seed calls : ℕ) (trace : List Entry) (finished : IsSoak seed calls t
     listed-object key = by (history_of script key trace) refl
       where
         by : (items : List Item) → history_of script key trace ≡ items → object_at key (objects_of listed) ≡ object_now items
-        by [] e = not-listed listed key (λ h i q. (let r = is-history h i in r.some (r.items ∙ ap (λ (k : List ℕ). reverse (history_of script k trace)) q ∙ ap reverse e)))
+        by [] e = not-listed listed key (λ h i q. (let r = is-history h i in
+            r.some (r.items ∙ ap (λ (k : List ℕ). reverse (history_of script k trace)) q ∙ ap reverse e)))
         by (x ∷ items) e =
             let r = key-listed listed key (histories.every key (λ q. let z : x ∷ items ≡ [] = sym e ∙ q in cc)) in
             let h = is-history r.0 r.1 in
@@ -248,7 +260,8 @@ module _ (seed calls : ℕ) (trace : List Entry) (finished : IsSoak seed calls t
 
     -- the objects are those of the map
     pub objects-same : objects_of listed ≡ (tally calls).objects
-    objects-same = same-maps (objects_of listed) (tally calls).objects (objects-map listed order) (is-map seed calls trace finished calls) (λ key. listed-object key ∙ sym (objects-end seed calls trace finished key))
+    objects-same = same-maps (objects_of listed) (tally calls).objects (objects-map listed order)
+        (is-map seed calls trace finished calls) (λ key. listed-object key ∙ sym (objects-end seed calls trace finished key))
 
     -- and all that is told
     pub tallies-same : tally_of (records_of script trace) listed ≡ tally calls

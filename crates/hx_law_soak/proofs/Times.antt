@@ -31,7 +31,8 @@ module _ (script : Script) (facts : Facts script) where
       let turn = turn_is script older x c.session run.0 h.0 in
       let now = ends_now _ _ _ turn c.number v a h.1 in
       let b = begins_now _ _ _ turn k g.1 in
-      let new : (started turn.start (session_of script c.session older)).begun ≡ (session_of script c.session older).begun + 1 = ap (λ w. (started w (session_of script c.session older)).begun) b.1 in
+      let new : (started turn.start (session_of script c.session older)).begun
+      ≡ (session_of script c.session older).begun + 1 = ap (λ w. (started w (session_of script c.session older)).begun) b.1 in
       let first = now.number in
       let second = b.0 in
       absurd (omega (arith, l, first, second, new))

@@ -72,7 +72,9 @@ dealt_out (suc n) u l =
     (
     cond_both (session_at n == u + 1) (n ∷ []) [] (λ (more : List ℕ). Dealt (turns_of n (u + 1) ++ more) (suc n) u)
     (λ t. let q : n % 4 + 1 ≡ u + 1 = eqb-true (session_at n) (u + 1) t in dealt-more (turns_of n (u + 1)) n u l (omega (arith, q)) (dealt_out n u l))
-    (λ t. subst (λ (ts : List ℕ). Dealt ts (suc n) u) (sym (append-nil (turns_of n (u + 1)))) (dealt-other (turns_of n (u + 1)) n u l (λ q. false≢true (sym t ∙ eq-eqb (session_at n) (u + 1) (ap (λ k. k + 1) q))) (dealt_out n u l)))
+    (λ t. subst (λ (ts : List ℕ). Dealt ts (suc n) u) (sym (append-nil (turns_of n (u + 1))))
+    (dealt-other (turns_of n (u + 1)) n u l (λ q. false≢true
+    (sym t ∙ eq-eqb (session_at n) (u + 1) (ap (λ k. k + 1) q))) (dealt_out n u l)))
     )
 
 -- ---- turns and callers
@@ -94,7 +96,8 @@ no-calls seed calls (suc (suc (suc zero))) l = absurd (omega (arith, l))
 no-calls seed calls (suc (suc (suc (suc u)))) l = refl
 
 -- a call of a session
-pub drawn : (seed calls u k : ℕ) → u < 4 → slice_get (calls_drawn seed calls (u + 1)) k ≡ option_map (λ turn. call_drawn (u + 1) (draw_of seed turn)) (slice_get (turns_of calls (u + 1)) k)
+pub drawn : (seed calls u k : ℕ) → u < 4 → slice_get (calls_drawn seed calls (u + 1)) k
+    ≡ option_map (λ turn. call_drawn (u + 1) (draw_of seed turn)) (slice_get (turns_of calls (u + 1)) k)
 drawn seed calls u k l = slice_get-map (λ turn. call_drawn (u + 1) (draw_of seed turn)) (turns_of calls (u + 1)) k
 
 -- a turn's call is its caller's
@@ -127,12 +130,14 @@ turn-of seed calls c op e = by c.session.0 refl c.number refl e
     none zero q = cc
     none (suc n) q = cc
 
-    by : (s : ℕ) → c.session.0 ≡ s → (n : ℕ) → c.number ≡ n → numbered (calls_of (script_drawn seed calls) (record { 0 = s })) n ≡ Some op → IsTurn seed calls c op
+    by : (s : ℕ) → c.session.0 ≡ s → (n : ℕ) → c.number ≡ n
+        → numbered (calls_of (script_drawn seed calls) (record { 0 = s })) n ≡ Some op → IsTurn seed calls c op
     by zero p n q h = absurd (none n h)
     by (suc u) p zero q h = absurd (cc)
     by (suc u) p (suc k) q h = elim (cases_lt u 4) [
       | inr m ↦ absurd (none (suc k) (ap (λ (ops : List Op). slice_get ops k) (sym (no-calls seed calls u m)) ∙ h))
-      | inl m ↦ at m (slice_get (turns_of calls (u + 1)) k) refl (sym (drawn seed calls u k m) ∙ ap (λ (ops : List Op). slice_get ops k) (sym (calls-of seed calls u m)) ∙ h)
+      | inl m ↦ at m (slice_get (turns_of calls (u + 1)) k) refl
+          (sym (drawn seed calls u k m) ∙ ap (λ (ops : List Op). slice_get ops k) (sym (calls-of seed calls u m)) ∙ h)
     ]
       where
         length-of : (ts : List ℕ) (k t : ℕ) → slice_get ts k ≡ Some t → k < length ts
@@ -140,7 +145,8 @@ turn-of seed calls c op e = by c.session.0 refl c.number refl e
         length-of (x ∷ ts) zero t e = omega arith
         length-of (x ∷ ts) (suc k) t e = let r = length-of ts k t e in omega (arith, r)
 
-        at : u < 4 → (o : Option ℕ) → slice_get (turns_of calls (u + 1)) k ≡ o → option_map (λ turn. call_drawn (u + 1) (draw_of seed turn)) o ≡ Some op → IsTurn seed calls c op
+        at : u < 4 → (o : Option ℕ) → slice_get (turns_of calls (u + 1)) k ≡ o
+            → option_map (λ turn. call_drawn (u + 1) (draw_of seed turn)) o ≡ Some op → IsTurn seed calls c op
         at m None r h = absurd (cc)
         at m (Some t) r h =
             let d = dealt_out calls u m in

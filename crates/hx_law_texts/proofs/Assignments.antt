@@ -23,7 +23,8 @@ abbrev pub tok_of_value : Value → Tok
 tok_of_value (values.Text t) = Text t
 tok_of_value (values.Int n) = Number n
 
-value_says : (v : Value) (ts : List Tok) (rest : List ℕ) → IsSayable v → begins_with is_digit rest ≡ false → Says ts rest → Says (tok_of_value v ∷ ts) (value_text v ++ rest)
+value_says : (v : Value) (ts : List Tok) (rest : List ℕ) → IsSayable v → begins_with is_digit rest ≡ false
+    → Says ts rest → Says (tok_of_value v ∷ ts) (value_text v ++ rest)
 unfolding value_text
 value_says (values.Text t) ts rest is stop h = text_says t ts rest is h
 value_says (values.Int n) ts rest is stop h = signed_says n ts rest is stop h
@@ -34,12 +35,14 @@ named_toks w v ts = Word w ∷ Sign (codes "=") ∷ tok_of_value v ∷ ts
 named_parts : (o n e v r : List ℕ) → (o ++ n ++ e ++ v) ++ r ≡ o ++ (n ++ (e ++ (v ++ r)))
 named_parts o n e v r = simp append_assoc
 
-pub named_says : (w : List ℕ) (v : Value) (ts : List Tok) (rest : List ℕ) → IsWord w → IsSayable v → begins_with is_digit rest ≡ false → Says ts rest → Says (named_toks w v ts) (named_text w v ++ rest)
+pub named_says : (w : List ℕ) (v : Value) (ts : List Tok) (rest : List ℕ) → IsWord w → IsSayable v
+    → begins_with is_digit rest ≡ false → Says ts rest → Says (named_toks w v ts) (named_text w v ++ rest)
 unfolding named_text
 named_says w v ts rest is said stop h =
     subst (λ (x : List ℕ). Says (named_toks w v ts) x) (sym (named_parts (codes " ") w (codes "=") (value_text v) rest))
     (blank_says (named_toks w v ts) (w ++ (61 ∷ (value_text v ++ rest)))
-    (word_says w (Sign (codes "=") ∷ tok_of_value v ∷ ts) (61 ∷ (value_text v ++ rest)) is refl (equals_says (tok_of_value v ∷ ts) (value_text v ++ rest) (value_says v ts rest said stop h))))
+    (word_says w (Sign (codes "=") ∷ tok_of_value v ∷ ts) (61 ∷ (value_text v ++ rest)) is refl
+    (equals_says (tok_of_value v ∷ ts) (value_text v ++ rest) (value_says v ts rest said stop h))))
 
 abbrev pub assign_toks : Space → Assign → List Tok → List Tok
 assign_toks s a ts = named_toks (name_of s a.attribute) a.value ts
@@ -48,11 +51,13 @@ abbrev pub assigns_toks : Space → List Assign → List Tok → List Tok
 assigns_toks s [] ts = ts
 assigns_toks s (a ∷ left) ts = assign_toks s a (assigns_toks s left ts)
 
-assigns_cons : (s : Space) (a : Assign) (left : List Assign) (rest : List ℕ) → assigns_text s (a ∷ left) ++ rest ≡ assign_text s a ++ (assigns_text s left ++ rest)
+assigns_cons : (s : Space) (a : Assign) (left : List Assign) (rest : List ℕ)
+    → assigns_text s (a ∷ left) ++ rest ≡ assign_text s a ++ (assigns_text s left ++ rest)
 assigns_cons s a left rest = ap (λ (x : List ℕ). x ++ rest) (flat_map-cons (assign_text s) a left) ∙ append_assoc (assign_text s a) (assigns_text s left) rest
 
 -- what goes on at neither a blank nor the rest
-pub goes_no_further : (p : ℕ → Bool) (s : Space) (assigns : List Assign) (rest : List ℕ) → p 32 ≡ false → begins_with p rest ≡ false → begins_with p (assigns_text s assigns ++ rest) ≡ false
+pub goes_no_further : (p : ℕ → Bool) (s : Space) (assigns : List Assign) (rest : List ℕ) → p 32 ≡ false
+    → begins_with p rest ≡ false → begins_with p (assigns_text s assigns ++ rest) ≡ false
 unfolding named_text
 goes_no_further p s [] rest blank stop = stop
 goes_no_further p s (a ∷ left) rest blank stop = ap (begins_with p) (assigns_cons s a left rest) ∙ blank
@@ -81,7 +86,9 @@ below (y ∷ xs) (suc i) x e = omega (arith, below xs i x e)
 fits_at : (s : Space) (a : Assign) → AssignFits s a → (x : Attribute) × IsAt s a.attribute x × IsOfKind x.kind a.value
 fits_at s a fits = by_option (slice_get s.attributes (a.attribute - 1)) refl fits.1
   where
-    by_option : (o : Option Attribute) → slice_get s.attributes (a.attribute - 1) ≡ o → IsSomeAnd o (λ (x : Attribute). IsOfKind x.kind a.value) → (x : Attribute) × IsAt s a.attribute x × IsOfKind x.kind a.value
+    by_option : (o : Option Attribute) → slice_get s.attributes (a.attribute - 1) ≡ o
+        → IsSomeAnd o (λ (x : Attribute). IsOfKind x.kind a.value) → (x : Attribute) × IsAt s a.attribute x
+        × IsOfKind x.kind a.value
     by_option None e is = absurd is
     by_option (Some x) e is = (x, record { some = fits.0; here = e }, is)
 
@@ -117,12 +124,17 @@ left_after s made a left are = record {
 pub all_left : (s : Space) (assigns : List Assign) → AssignsFit s assigns → ValuesAreSayable assigns → AreLeft s [] assigns
 all_left s assigns fit said = record { each = fit.each; once = fit.once; said = said }
 
-pub assigns_say : (left : List Assign) (s : Space) (made : List Assign) (ts : List Tok) (rest : List ℕ) → IsSpace s → AreLeft s made left → begins_with is_digit rest ≡ false → Says ts rest → Says (assigns_toks s left ts) (assigns_text s left ++ rest)
+pub assigns_say : (left : List Assign) (s : Space) (made : List Assign) (ts : List Tok) (rest : List ℕ) → IsSpace s
+    → AreLeft s made left → begins_with is_digit rest ≡ false → Says ts rest
+    → Says (assigns_toks s left ts) (assigns_text s left ++ rest)
 assigns_say [] s made ts rest is are stop h = h
 assigns_say (a ∷ left) s made ts rest is are stop h =
     let next : IsNext s made a = is_next s made a left is are in
     subst (λ (x : List ℕ). Says (assigns_toks s (a ∷ left) ts) x) (sym (assigns_cons s a left rest))
-    (named_says (name_of s a.attribute) a.value (assigns_toks s left ts) (assigns_text s left ++ rest) next.declared.name.word next.said (goes_no_further is_digit s left rest refl stop) (assigns_say left s (made ++ a ∷ []) ts rest is (left_after s made a left are) stop h))
+    (named_says (name_of s a.attribute) a.value (assigns_toks s left ts)
+    (assigns_text s left ++ rest) next.declared.name.word next.said
+    (goes_no_further is_digit s left rest refl stop)
+    (assigns_say left s (made ++ a ∷ []) ts rest is (left_after s made a left are) stop h))
 
 -- ---- they are read
 
@@ -130,7 +142,9 @@ assign_again : (s : Space) (made : List Assign) (a : Assign) (ts : List Tok) →
 unfolding assign free_attribute value named
 assign_again s made a ts is = by_value a.attribute a.value is
   where
-    by_value : (at : ℕ) (v : Value) → IsNext s made (record { attribute = at; value = v }) → assign s made (Word (name_of s at) ∷ Sign (codes "=") ∷ tok_of_value v ∷ ts) ≡ Ok (record { attribute = at; value = v }, ts)
+    by_value : (at : ℕ) (v : Value) → IsNext s made (record { attribute = at; value = v })
+        → assign s made (Word (name_of s at) ∷ Sign (codes "=") ∷ tok_of_value v ∷ ts)
+        ≡ Ok (record { attribute = at; value = v }, ts)
     by_value at (values.Text t) is = rw (is.declared.name.free, is.declared.number, is.new, is.fits, is.short) refl
     by_value at (values.Int n) is = rw (is.declared.name.free, is.declared.number, is.new, is.fits) refl
 
@@ -144,16 +158,21 @@ goes_past : (u : Until) (w : List ℕ) (ts : List Tok) → IsNamed w → is_at u
 goes_past until.End w ts is = refl
 goes_past until.Set w ts is = not_set (bytes_eq w (codes "if")) (bytes_eq w (codes "set")) is.free
 
-pub assigns_again : (left : List Assign) (u : Until) (s : Space) (made : List Assign) (ts : List Tok) → IsSpace s → AreLeft s made left → is_at u ts ≡ true → repeat u (one_more s) made (assigns_toks s left ts) ≡ Ok (made ++ left, ts)
+pub assigns_again : (left : List Assign) (u : Until) (s : Space) (made : List Assign) (ts : List Tok) → IsSpace s
+    → AreLeft s made left → is_at u ts ≡ true → repeat u (one_more s) made (assigns_toks s left ts) ≡ Ok (made ++ left, ts)
 assigns_again [] u s made ts is are end = assigns_end s u made ts end ∙ ap (λ (x : List Assign). Ok (x, ts)) (sym (append-nil made))
 assigns_again (a ∷ left) u s made ts is are end =
     let next : IsNext s made a = is_next s made a left is are in
-    assigns_go_on s u made (assigns_toks s (a ∷ left) ts) a (assigns_toks s left ts) (goes_past u (name_of s a.attribute) (Sign (codes "=") ∷ tok_of_value a.value ∷ assigns_toks s left ts) next.declared.name) (assign_again s made a (assigns_toks s left ts) next)
+    assigns_go_on s u made (assigns_toks s (a ∷ left) ts) a (assigns_toks s left ts)
+    (goes_past u (name_of s a.attribute) (Sign (codes "=") ∷ tok_of_value a.value ∷ assigns_toks s left ts)
+    next.declared.name) (assign_again s made a (assigns_toks s left ts) next)
     ∙ assigns_again left u s (made ++ a ∷ []) ts is (left_after s made a left are) end
     ∙ ap (λ (x : List Assign). Ok (x, ts)) (append_assoc made (a ∷ []) left)
 
 -- one assignment or more
-pub some_again : (assigns : List Assign) (u : Until) (s : Space) (ts : List Tok) → IsSpace s → AreLeft s [] assigns → 0 < length assigns → is_at u ts ≡ true → some_assigns s u (assigns_toks s assigns ts) ≡ Ok (assigns, ts)
+pub some_again : (assigns : List Assign) (u : Until) (s : Space) (ts : List Tok) → IsSpace s → AreLeft s [] assigns
+    → 0 < length assigns → is_at u ts ≡ true → some_assigns s u (assigns_toks s assigns ts) ≡ Ok (assigns, ts)
 unfolding some_assigns one_more
 some_again [] u s ts is are some end = absurd (omega (arith, some))
-some_again (a ∷ left) u s ts is are some end = rw (assign_again s [] a (assigns_toks s left ts) (is_next s [] a left is are)) (assigns_again left u s (a ∷ []) ts is (left_after s [] a left are) end)
+some_again (a ∷ left) u s ts is are some end = rw (assign_again s [] a (assigns_toks s left ts)
+    (is_next s [] a left is are)) (assigns_again left u s (a ∷ []) ts is (left_after s [] a left are) end)

@@ -48,19 +48,29 @@ add_parts x o y = simp append_assoc
 key_says : (key : List ℕ) (ts : List Tok) (tail : List ℕ) → IsText key → Says ts tail → Says (Text key ∷ ts) (32 ∷ (quoted key ++ tail))
 key_says key ts tail text says = blank_says (Text key ∷ ts) (quoted key ++ tail) (text_says key ts tail text says)
 
-cput_rest_says : (s : Space) (key : List ℕ) (tests sets : List Assign) → IsSpace s → AssignsFit s tests → AssignsFit s sets → IsText key → ValuesAreSayable tests → ValuesAreSayable sets → Says (rest_toks s (Cput key tests sets)) (op_rest s (Cput key tests sets) ++ [])
+cput_rest_says : (s : Space) (key : List ℕ) (tests sets : List Assign) → IsSpace s → AssignsFit s tests
+    → AssignsFit s sets → IsText key → ValuesAreSayable tests → ValuesAreSayable sets
+    → Says (rest_toks s (Cput key tests sets)) (op_rest s (Cput key tests sets) ++ [])
 unfolding op_rest
 cput_rest_says s key tests sets is fit_tests fit_sets text said_tests said_sets =
     let last : List ℕ = assigns_text s sets ++ [] in
     let us : List Tok = assigns_toks s sets [] in
     let written : Says us last = assigns_say sets s [] [] [] is (all_left s sets fit_sets said_sets) refl nil_says in
-    let set : Says (Word (codes "set") ∷ us) (codes "set" ++ last) = word_says (codes "set") us last (record { letter = refl; parts = refl }) (goes_no_further is_word_part s sets [] refl refl) written in
+    let set : Says (Word (codes "set") ∷ us) (codes "set" ++ last) =
+    word_says (codes "set") us last (record { letter = refl; parts = refl })
+    (goes_no_further is_word_part s sets [] refl refl) written in
     let behind : List ℕ = 32 ∷ (codes "set" ++ last) in
     let ts : List Tok = assigns_toks s tests (Word (codes "set") ∷ us) in
-    let tested : Says ts (assigns_text s tests ++ behind) = assigns_say tests s [] (Word (codes "set") ∷ us) behind is (all_left s tests fit_tests said_tests) refl (blank_says (Word (codes "set") ∷ us) (codes "set" ++ last) set) in
-    let if_says : Says (Word (codes "if") ∷ ts) (codes "if" ++ (assigns_text s tests ++ behind)) = word_says (codes "if") ts (assigns_text s tests ++ behind) (record { letter = refl; parts = refl }) (goes_no_further is_word_part s tests behind refl refl) tested in
-    subst (λ (x : List ℕ). Says (rest_toks s (Cput key tests sets)) x) (sym (cput_parts (quoted key) (codes " if") (assigns_text s tests) (codes " set") (assigns_text s sets)))
-    (key_says key (Word (codes "if") ∷ ts) (32 ∷ (codes "if" ++ (assigns_text s tests ++ behind))) text (blank_says (Word (codes "if") ∷ ts) (codes "if" ++ (assigns_text s tests ++ behind)) if_says))
+    let tested : Says ts (assigns_text s tests ++ behind) =
+    assigns_say tests s [] (Word (codes "set") ∷ us) behind is (all_left s tests fit_tests said_tests) refl
+    (blank_says (Word (codes "set") ∷ us) (codes "set" ++ last) set) in
+    let if_says : Says (Word (codes "if") ∷ ts) (codes "if" ++ (assigns_text s tests ++ behind)) =
+    word_says (codes "if") ts (assigns_text s tests ++ behind) (record { letter = refl; parts = refl })
+    (goes_no_further is_word_part s tests behind refl refl) tested in
+    subst (λ (x : List ℕ). Says (rest_toks s (Cput key tests sets)) x)
+    (sym (cput_parts (quoted key) (codes " if") (assigns_text s tests) (codes " set") (assigns_text s sets)))
+    (key_says key (Word (codes "if") ∷ ts) (32 ∷ (codes "if" ++ (assigns_text s tests ++ behind))) text
+    (blank_says (Word (codes "if") ∷ ts) (codes "if" ++ (assigns_text s tests ++ behind)) if_says))
 
 pub rest_says : (s : Space) (op : Op) → IsSpace s → Fits s op → CallIsSayable op → Says (rest_toks s op) (op_rest s op ++ [])
 unfolding op_rest
@@ -79,7 +89,8 @@ rest_says s (Add server region) is fits said =
     let below : region.0 < 4096 = few_regions s region is fits.1 in
     let tail : List ℕ = decimal region.0 ++ [] in
     subst (λ (x : List ℕ). Says (rest_toks s (Add server region)) x) (sym (add_parts (decimal server.0) (codes " ") (decimal region.0)))
-    (blank_says (Number (pos server.0) ∷ Number (pos region.0) ∷ []) (decimal server.0 ++ (32 ∷ tail)) (number_says server.0 (Number (pos region.0) ∷ []) (32 ∷ tail) (omega (arith, few)) refl
+    (blank_says (Number (pos server.0) ∷ Number (pos region.0) ∷ []) (decimal server.0 ++ (32 ∷ tail))
+    (number_says server.0 (Number (pos region.0) ∷ []) (32 ∷ tail) (omega (arith, few)) refl
     (blank_says (Number (pos region.0) ∷ []) tail (number_says region.0 [] [] (omega (arith, below)) refl nil_says))))
 rest_says s (Atomic key edits) is fits said =
     subst (λ (x : List ℕ). Says (rest_toks s (Atomic key edits)) x) (sym (two_parts (quoted key) (edits_text s edits)))

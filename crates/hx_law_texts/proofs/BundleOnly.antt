@@ -11,7 +11,8 @@ as_many n [] = refl
 as_many n (s ∷ rest) = ap suc (as_many (n + 1) rest)
 
 -- what is said of steps but for their lines
-same_steps : (P : BundleStep → Type 0) → ((n : ℕ) (s : BundleStep) → P (record s { line = n }) → P s) → (n : ℕ) (steps : List BundleStep) → All P (bundle_steps_from n steps) → All P steps
+same_steps : (P : BundleStep → Type 0) → ((n : ℕ) (s : BundleStep) → P (record s { line = n }) → P s)
+    → (n : ℕ) (steps : List BundleStep) → All P (bundle_steps_from n steps) → All P steps
 same_steps P lineless n [] all = All-nil P
 same_steps P lineless n (s ∷ rest) all =
     All-cons P s rest (lineless n s (All-head P (record s { line = n }) (bundle_steps_from (n + 1) rest) all))

@@ -33,21 +33,35 @@ pub record SpaceSaid (d : Draft) : Type 0 where
 
 tells_key : (d : Draft) → SpaceSaid d → Tells (key_line d) SpaceSaid
 unfolding key_line
-tells_key d so = tells_then Any tells_name (λ w i. tells_then (λ n. n ≤ 256) (tells_number_in 1 256) (λ n h. tells_then Any tells_end (λ u t. tells_give (record d { section = sections.Attributes; regions = n; space = record d.space { key_name = w; key_parts = n } }) (record { bounds = so.bounds; calls = so.calls }))))
+tells_key d so = tells_then Any tells_name (λ w i. tells_then (λ n. n ≤ 256) (tells_number_in 1 256)
+    (λ n h. tells_then Any tells_end (λ u t. tells_give
+    (record d { section = sections.Attributes; regions = n; space = record d.space { key_name = w; key_parts = n } })
+    (record { bounds = so.bounds; calls = so.calls }))))
 
-tells_attribute : (d : Draft) (attribute : Space → Reader Attribute) → SpaceSaid d → Tells (attribute d.space) IsBounded → Tells (attribute_line d attribute) SpaceSaid
+tells_attribute : (d : Draft) (attribute : Space → Reader Attribute) → SpaceSaid d
+    → Tells (attribute d.space) IsBounded → Tells (attribute_line d attribute) SpaceSaid
 unfolding attribute_line
-tells_attribute d attribute so y = tells_then Any (tells_check (nat_lt (length d.space.attributes) 16) Limit) (λ u room. tells_then IsBounded y (λ a n. tells_give (record d { space = record d.space { attributes = d.space.attributes ++ a ∷ [] } })
+tells_attribute d attribute so y = tells_then Any (tells_check (nat_lt (length d.space.attributes) 16) Limit)
+    (λ u room. tells_then IsBounded y (λ a n. tells_give
+    (record d { space = record d.space { attributes = d.space.attributes ++ a ∷ [] } })
     (record { bounds = All-push IsBounded d.space.attributes a so.bounds n; calls = so.calls })))
 
 tells_subspace_line : (d : Draft) → SpaceSaid d → Tells (subspace_line d) SpaceSaid
 unfolding subspace_line
-tells_subspace_line d so = tells_then Any (tells_check (nat_lt (length d.space.subspaces) 8) Limit) (λ u room. tells_then Any (tells_subspace d.space d.regions) (λ x f. tells_give (record d { section = sections.Subspaces; regions = d.regions + x.size; space = record d.space { subspaces = d.space.subspaces ++ x.axes ∷ [] } })
+tells_subspace_line d so = tells_then Any (tells_check (nat_lt (length d.space.subspaces) 8) Limit)
+    (λ u room. tells_then Any (tells_subspace d.space d.regions)
+    (λ x f. tells_give (record d {
+      section = sections.Subspaces;
+      regions = d.regions + x.size;
+      space = record d.space { subspaces = d.space.subspaces ++ x.axes ∷ [] };
+    })
     (record { bounds = so.bounds; calls = so.calls })))
 
 tells_call_line : (d : Draft) (w : CallWord) → SpaceSaid d → Tells (call_line d w) SpaceSaid
 unfolding call_line
-tells_call_line d w so = tells_then Any (tells_check (nat_lt d.calls 16384) Limit) (λ u room. tells_then CallIsSayable (tells_call d.space d.regions w) (λ op f. tells_give (record d { sessions = push_to_last d.sessions op; calls = d.calls + 1 })
+tells_call_line d w so = tells_then Any (tells_check (nat_lt d.calls 16384) Limit)
+    (λ u room. tells_then CallIsSayable (tells_call d.space d.regions w)
+    (λ op f. tells_give (record d { sessions = push_to_last d.sessions op; calls = d.calls + 1 })
     (record { bounds = so.bounds; calls = all_last CallIsSayable d.sessions op so.calls f })))
 
 tells_key_heading : (d : Draft) (sec : Section) → SpaceSaid d → Tells (heading_line d sec headings.Key) SpaceSaid
@@ -67,11 +81,16 @@ tells_subspace_heading d sections.Attributes so = tells_subspace_line d so
 tells_subspace_heading d sections.Subspaces so = tells_subspace_line d so
 tells_subspace_heading d sec so = tells_refuse Order
 
-tells_in_draft : (spaces : List Draft) (k : ℕ) (line : Draft → Reader Draft) (o : Option Draft) → slice_get spaces k ≡ o → All SpaceSaid spaces → ((d : Draft) → SpaceSaid d → Tells (line d) SpaceSaid) → Tells (in_draft spaces k line o) (All SpaceSaid)
+tells_in_draft : (spaces : List Draft) (k : ℕ) (line : Draft → Reader Draft) (o : Option Draft)
+    → slice_get spaces k ≡ o → All SpaceSaid spaces → ((d : Draft) → SpaceSaid d → Tells (line d) SpaceSaid)
+    → Tells (in_draft spaces k line o) (All SpaceSaid)
 tells_in_draft spaces k line None e all each = tells_refuse Order
-tells_in_draft spaces k line (Some d) e all each = tells_then SpaceSaid (each d (all_at SpaceSaid spaces k d all e)) (λ x so. tells_give (slice_set spaces k x) (All-set SpaceSaid spaces k x so all))
+tells_in_draft spaces k line (Some d) e all each =
+    tells_then SpaceSaid (each d (all_at SpaceSaid spaces k d all e))
+    (λ x so. tells_give (slice_set spaces k x) (All-set SpaceSaid spaces k x so all))
 
-tells_in_space : (spaces : List Draft) (k : ℕ) (line : Draft → Reader Draft) → All SpaceSaid spaces → ((d : Draft) → SpaceSaid d → Tells (line d) SpaceSaid) → Tells (in_space spaces k line) (All SpaceSaid)
+tells_in_space : (spaces : List Draft) (k : ℕ) (line : Draft → Reader Draft) → All SpaceSaid spaces
+    → ((d : Draft) → SpaceSaid d → Tells (line d) SpaceSaid) → Tells (in_space spaces k line) (All SpaceSaid)
 tells_in_space spaces k line all each = tells_in_draft spaces k line (slice_get spaces k) refl all each
 
 -- ---- what holds of the draft of all
@@ -82,39 +101,60 @@ pub record AllSaid (b : BundleDraft) : Type 0 where
 
 tells_second_hx : (b : BundleDraft) → AllSaid b → Tells (second_hx_line b) AllSaid
 unfolding second_hx_line
-tells_second_hx b so = tells_then (λ n. n ≤ 2) (tells_number_in 2 2) (λ n h. tells_then Any tells_end (λ u t. tells_give (record b { section = stages.Serving }) (record { spaces = so.spaces; steps = so.steps })))
+tells_second_hx b so = tells_then (λ n. n ≤ 2) (tells_number_in 2 2)
+    (λ n h. tells_then Any tells_end (λ u t. tells_give (record b { section = stages.Serving })
+    (record { spaces = so.spaces; steps = so.steps })))
 
 tells_all_servers : (b : BundleDraft) → AllSaid b → Tells (all_servers_line b) AllSaid
 unfolding all_servers_line
-tells_all_servers b so = tells_then (λ n. n ≤ 16) (tells_number_in 1 16) (λ n h. tells_then Any tells_end (λ u t. tells_give (record b { section = stages.Tolerance; servers = n }) (record { spaces = so.spaces; steps = so.steps })))
+tells_all_servers b so = tells_then (λ n. n ≤ 16) (tells_number_in 1 16)
+    (λ n h. tells_then Any tells_end (λ u t. tells_give (record b { section = stages.Tolerance; servers = n })
+    (record { spaces = so.spaces; steps = so.steps })))
 
 tells_all_tolerate : (b : BundleDraft) → AllSaid b → Tells (all_tolerate_line b) AllSaid
 unfolding all_tolerate_line
-tells_all_tolerate b so = tells_then (λ n. n ≤ min (b.servers - 1) 4) (tells_number_in 0 (min (b.servers - 1) 4)) (λ n h. tells_then Any tells_end (λ u t. tells_give (record b { section = stages.Naming; tolerate = n }) (record { spaces = so.spaces; steps = so.steps })))
+tells_all_tolerate b so = tells_then (λ n. n ≤ min (b.servers - 1) 4) (tells_number_in 0 (min (b.servers - 1) 4))
+    (λ n h. tells_then Any tells_end (λ u t. tells_give (record b { section = stages.Naming; tolerate = n })
+    (record { spaces = so.spaces; steps = so.steps })))
 
 tells_new_space : (spaces : List Draft) → Tells (new_space_name spaces) Any
 unfolding new_space_name
-tells_new_space spaces = tells_then Any tells_named (λ w m. tells_then Any (tells_check (not (list_any (is_space w) spaces)) Twice) (λ u n. tells_then Any (tells_check (nat_le (length w) 32) Limit) (λ u h. tells_give w tt)))
+tells_new_space spaces = tells_then Any tells_named
+    (λ w m. tells_then Any (tells_check (not (list_any (is_space w) spaces)) Twice)
+    (λ u n. tells_then Any (tells_check (nat_le (length w) 32) Limit) (λ u h. tells_give w tt)))
 
 nothing_said : (servers tolerate : ℕ) (w : List ℕ) → SpaceSaid (named_draft servers tolerate w)
 nothing_said servers tolerate w = record { bounds = All-nil (λ (a : Attribute). BoundsAreSayable a.kind); calls = All-nil (All CallIsSayable) }
 
 tells_next_space : (b : BundleDraft) → AllSaid b → Tells (next_space_line b) AllSaid
 unfolding next_space_line
-tells_next_space b so = tells_then Any (tells_check (nat_lt (length b.spaces) 8) Limit) (λ u room. tells_then Any (tells_new_space b.spaces) (λ w n. tells_then Any tells_end (λ u t. tells_give (record b { section = stages.Spaces; spaces = b.spaces ++ named_draft b.servers b.tolerate w ∷ [] })
+tells_next_space b so = tells_then Any (tells_check (nat_lt (length b.spaces) 8) Limit)
+    (λ u room. tells_then Any (tells_new_space b.spaces)
+    (λ w n. tells_then Any tells_end (λ u t. tells_give
+    (record b { section = stages.Spaces; spaces = b.spaces ++ named_draft b.servers b.tolerate w ∷ [] })
     (record { spaces = All-push SpaceSaid b.spaces (named_draft b.servers b.tolerate w) so.spaces (nothing_said b.servers b.tolerate w); steps = so.steps }))))
 
-tells_last_space : (b : BundleDraft) (h : Heading) → AllSaid b → ((d : Draft) → SpaceSaid d → Tells (heading_line d d.section h) SpaceSaid) → Tells (last_space_line b h) AllSaid
+tells_last_space : (b : BundleDraft) (h : Heading) → AllSaid b
+    → ((d : Draft) → SpaceSaid d → Tells (heading_line d d.section h) SpaceSaid) → Tells (last_space_line b h) AllSaid
 unfolding last_space_line
-tells_last_space b h so each = tells_then (All SpaceSaid) (tells_in_space b.spaces (length b.spaces - 1) (λ d. heading_line d d.section h) so.spaces each) (λ spaces all. tells_give (record b { spaces = spaces }) (record { spaces = all; steps = so.steps }))
+tells_last_space b h so each = tells_then (All SpaceSaid)
+    (tells_in_space b.spaces (length b.spaces - 1) (λ d. heading_line d d.section h) so.spaces each)
+    (λ spaces all. tells_give (record b { spaces = spaces }) (record { spaces = all; steps = so.steps }))
 
 session_said : (d : Draft) → SpaceSaid d → SpaceSaid (with_session d)
 session_said d so = record { bounds = so.bounds; calls = All-push (All CallIsSayable) d.sessions [] so.calls (All-nil CallIsSayable) }
 
 tells_next_session : (b : BundleDraft) → AllSaid b → Tells (next_session_line b) AllSaid
 unfolding next_session_line
-tells_next_session b so = tells_then Any (tells_check (nat_lt (length b.turns) 16) Limit) (λ u room. tells_then (λ n. n ≤ length b.turns + 1) (tells_number_in (length b.turns + 1) (length b.turns + 1)) (λ n h. tells_then Any tells_end (λ u t. tells_give (record b { section = stages.Calls; spaces = map with_session b.spaces; turns = b.turns ++ [] ∷ [] })
-    (record { spaces = All-map SpaceSaid with_session b.spaces (All-weaker SpaceSaid (λ (d : Draft). SpaceSaid (with_session d)) session_said b.spaces so.spaces); steps = so.steps }))))
+tells_next_session b so = tells_then Any (tells_check (nat_lt (length b.turns) 16) Limit)
+    (λ u room. tells_then (λ n. n ≤ length b.turns + 1) (tells_number_in (length b.turns + 1) (length b.turns + 1))
+    (λ n h. tells_then Any tells_end (λ u t. tells_give
+    (record b { section = stages.Calls; spaces = map with_session b.spaces; turns = b.turns ++ [] ∷ [] })
+    (record {
+      spaces = All-map SpaceSaid with_session b.spaces
+          (All-weaker SpaceSaid (λ (d : Draft). SpaceSaid (with_session d)) session_said b.spaces so.spaces);
+      steps = so.steps;
+    }))))
 
 tells_all_steps : (b : BundleDraft) → AllSaid b → Tells (all_steps_line b) AllSaid
 unfolding all_steps_line
@@ -126,7 +166,11 @@ tells_space_named spaces = tells_then Any tells_named (λ w u. record { at = λ 
 
 tells_space_call : (b : BundleDraft) (c : CallWord) → AllSaid b → Tells (space_call_line b c) AllSaid
 unfolding space_call_line
-tells_space_call b c so = tells_then Any (tells_check (nat_lt b.calls 16384) Limit) (λ u room. tells_then Any (tells_space_named b.spaces) (λ k n. tells_then (All SpaceSaid) (tells_in_space b.spaces k (λ d. call_line d c) so.spaces (λ d said. tells_call_line d c said)) (λ spaces all. tells_give (record b { spaces = spaces; turns = push_to_last b.turns k; calls = b.calls + 1 })
+tells_space_call b c so = tells_then Any (tells_check (nat_lt b.calls 16384) Limit)
+    (λ u room. tells_then Any (tells_space_named b.spaces)
+    (λ k n. tells_then (All SpaceSaid) (tells_in_space b.spaces k (λ d. call_line d c) so.spaces
+    (λ d said. tells_call_line d c said)) (λ spaces all. tells_give
+    (record b { spaces = spaces; turns = push_to_last b.turns k; calls = b.calls + 1 })
     (record { spaces = all; steps = so.steps }))))
 
 post_said : (servers sessions : ℕ) (s : Step) → StepIsSayable servers sessions s → PostIsSayable s
@@ -136,8 +180,15 @@ post_said servers sessions (Halt a) h = tt
 
 tells_space_step : (n : ℕ) (b : BundleDraft) (w : StepWord) → AllSaid b → Tells (space_step_line n b w) AllSaid
 unfolding space_step_line
-tells_space_step n b w so = tells_then Any (tells_check (nat_lt (length b.steps) 65536) Limit) (λ u room. tells_then Any (tells_space_named b.spaces) (λ k m. tells_then (StepIsSayable b.servers (length b.turns)) (tells_step b.servers (length b.turns) w) (λ s h. tells_give (record b { steps = b.steps ++ record { line = n; space = k; step = s } ∷ [] })
-    (record { spaces = so.spaces; steps = All-push (λ (x : BundleStep). PostIsSayable x.step) b.steps (record { line = n; space = k; step = s }) so.steps (post_said b.servers (length b.turns) s h) }))))
+tells_space_step n b w so = tells_then Any (tells_check (nat_lt (length b.steps) 65536) Limit)
+    (λ u room. tells_then Any (tells_space_named b.spaces)
+    (λ k m. tells_then (StepIsSayable b.servers (length b.turns)) (tells_step b.servers (length b.turns) w)
+    (λ s h. tells_give (record b { steps = b.steps ++ record { line = n; space = k; step = s } ∷ [] })
+    (record {
+      spaces = so.spaces;
+      steps = All-push (λ (x : BundleStep). PostIsSayable x.step) b.steps
+          (record { line = n; space = k; step = s }) so.steps (post_said b.servers (length b.turns) s h);
+    }))))
 
 -- ---- each line
 
@@ -199,12 +250,15 @@ bundle_is b c e = cc
 
 so_far_said : (b : BundleDraft) → AllSaid b → IsSayableBundle (bundle_so_far b)
 so_far_said b so = record {
-  bounds = All-map (λ (s : Script). All (λ (a : Attribute). BoundsAreSayable a.kind) s.space.attributes) script_so_far b.spaces (All-weaker SpaceSaid BoundsSoFar (λ d said. said.bounds) b.spaces so.spaces);
-  calls = All-map (λ (s : Script). All (λ (calls : List Op). All CallIsSayable calls) s.sessions) script_so_far b.spaces (All-weaker SpaceSaid CallsSoFar (λ d said. said.calls) b.spaces so.spaces);
+  bounds = All-map (λ (s : Script). All (λ (a : Attribute). BoundsAreSayable a.kind) s.space.attributes) script_so_far
+      b.spaces (All-weaker SpaceSaid BoundsSoFar (λ d said. said.bounds) b.spaces so.spaces);
+  calls = All-map (λ (s : Script). All (λ (calls : List Op). All CallIsSayable calls) s.sessions) script_so_far
+      b.spaces (All-weaker SpaceSaid CallsSoFar (λ d said. said.calls) b.spaces so.spaces);
   steps = so.steps;
 }
 
-ends : (n : ℕ) (b : BundleDraft) (may : Bool) (a : Bundle) → AllSaid b → cond may (Ok (bundle_so_far b)) (Err (errors.Refused n Order)) ≡ Ok a → IsSayableBundle a
+ends : (n : ℕ) (b : BundleDraft) (may : Bool) (a : Bundle) → AllSaid b
+    → cond may (Ok (bundle_so_far b)) (Err (errors.Refused n Order)) ≡ Ok a → IsSayableBundle a
 ends n b true a so e = subst IsSayableBundle (bundle_is (bundle_so_far b) a e) (so_far_said b so)
 ends n b false a so e = absurd cc
 
@@ -220,10 +274,13 @@ empty_said = record { spaces = All-nil SpaceSaid; steps = All-nil (λ (s : Bundl
 
 -- ---- one space
 
-steps_said : (servers sessions : ℕ) (steps : List (ℕ × Step)) → All (λ (x : ℕ × Step). StepIsSayable servers sessions x.1) steps → All (λ (s : BundleStep). PostIsSayable s.step) (map first_space_step steps)
+steps_said : (servers sessions : ℕ) (steps : List (ℕ × Step))
+    → All (λ (x : ℕ × Step). StepIsSayable servers sessions x.1) steps
+    → All (λ (s : BundleStep). PostIsSayable s.step) (map first_space_step steps)
 steps_said servers sessions steps all =
     All-map (λ (s : BundleStep). PostIsSayable s.step) first_space_step steps
-    (All-weaker (λ (x : ℕ × Step). StepIsSayable servers sessions x.1) (λ (x : ℕ × Step). PostIsSayable x.1) (λ x h. post_said servers sessions x.1 h) steps all)
+    (All-weaker (λ (x : ℕ × Step). StepIsSayable servers sessions x.1) (λ (x : ℕ × Step). PostIsSayable x.1)
+    (λ x h. post_said servers sessions x.1 h) steps all)
 
 alone_said : (s : Script) → IsSayableScript s → IsSayableBundle (one_space s)
 alone_said s said =

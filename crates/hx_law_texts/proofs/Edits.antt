@@ -48,7 +48,8 @@ no_part : (w : List ℕ) (v : Value) (rest : List ℕ) → begins_with is_word_p
 unfolding named_text
 no_part w v rest = refl
 
-edit_says : (s : Space) (e : Edit) (ts : List Tok) (rest : List ℕ) → IsWord (name_of s e.attribute) → IsSayable e.value → begins_with is_digit rest ≡ false → Says ts rest → Says (edit_toks s e ts) (edit_text s e ++ rest)
+edit_says : (s : Space) (e : Edit) (ts : List Tok) (rest : List ℕ) → IsWord (name_of s e.attribute)
+    → IsSayable e.value → begins_with is_digit rest ≡ false → Says ts rest → Says (edit_toks s e ts) (edit_text s e ++ rest)
 unfolding edit_text
 edit_says s e ts rest is said stop h =
     let named : List ℕ = named_text (name_of s e.attribute) e.value in
@@ -85,7 +86,8 @@ Suits e k = IsEditOf e.what k × IsOfKind k e.value
 fits_at : (s : Space) (e : Edit) → EditFits s e → (x : Attribute) × IsAt s e.attribute x × Suits e x.kind
 fits_at s e fits = by_option (slice_get s.attributes (e.attribute - 1)) refl fits.1
   where
-    by_option : (o : Option Attribute) → slice_get s.attributes (e.attribute - 1) ≡ o → IsSomeAnd o (λ (x : Attribute). Suits e x.kind) → (x : Attribute) × IsAt s e.attribute x × Suits e x.kind
+    by_option : (o : Option Attribute) → slice_get s.attributes (e.attribute - 1) ≡ o
+        → IsSomeAnd o (λ (x : Attribute). Suits e x.kind) → (x : Attribute) × IsAt s e.attribute x × Suits e x.kind
     by_option None same is = absurd is
     by_option (Some x) same is = (x, record { some = fits.0; here = same }, is)
 
@@ -149,11 +151,13 @@ edit_again s made e ts is = by_value e.what e.attribute e.value is
     by_value :
         (what : EditKind) (at : ℕ) (v : Value)
         → IsNext s made (record { what = what; attribute = at; value = v })
-        → edit s made (Word (word_of what) ∷ Word (name_of s at) ∷ Sign (codes "=") ∷ tok_of_value v ∷ ts) ≡ Ok (record { what = what; attribute = at; value = v }, ts)
+        → edit s made (Word (word_of what) ∷ Word (name_of s at) ∷ Sign (codes "=") ∷ tok_of_value v ∷ ts)
+        ≡ Ok (record { what = what; attribute = at; value = v }, ts)
     by_value what at (values.Text t) is = rw (word_again what, is.declared.name.free, is.declared.number, is.new, is.edits, is.fits, is.short) refl
     by_value what at (values.Int n) is = rw (word_again what, is.declared.name.free, is.declared.number, is.new, is.edits, is.fits) refl
 
-left_again : (left : List Edit) (s : Space) (made : List Edit) → IsSpace s → AreLeft s made left → repeat until.End (one_more_edit s) made (edits_toks s left) ≡ Ok (made ++ left, [])
+left_again : (left : List Edit) (s : Space) (made : List Edit) → IsSpace s → AreLeft s made left
+    → repeat until.End (one_more_edit s) made (edits_toks s left) ≡ Ok (made ++ left, [])
 left_again [] s made is are = edits_end s made [] refl ∙ ap (λ (x : List Edit). Ok (x, [])) (sym (append-nil made))
 left_again (e ∷ left) s made is are =
     let next : IsNext s made e = is_next s made e left is are in
@@ -161,7 +165,8 @@ left_again (e ∷ left) s made is are =
     ∙ left_again left s (made ++ e ∷ []) is (left_after s made e left are)
     ∙ ap (λ (x : List Edit). Ok (x, [])) (append_assoc made (e ∷ []) left)
 
-pub edits_again : (edits : List Edit) (s : Space) → IsSpace s → EditsFit s edits → EditsAreSayable edits → 0 < length edits → some_edits s (edits_toks s edits) ≡ Ok (edits, [])
+pub edits_again : (edits : List Edit) (s : Space) → IsSpace s → EditsFit s edits → EditsAreSayable edits
+    → 0 < length edits → some_edits s (edits_toks s edits) ≡ Ok (edits, [])
 unfolding some_edits one_more_edit
 edits_again [] s is fit said some = absurd (omega (arith, some))
 edits_again (e ∷ left) s is fit said some =

@@ -47,12 +47,19 @@ calls =
     ∷ Search (Range 2 (negsuc 6) (pos 2010) ∷ Equal 0 (values.Text (codes "a")) ∷ [])
     ∷ Stop (record { 0 = 3 })
     ∷ Add (record { 0 = 4 }) (record { 0 = 7 })
-    ∷ Atomic (codes "a") (record { what = an_edit.Add; attribute = 2; value = values.Int (negsuc 0) } ∷ record { what = an_edit.Append; attribute = 1; value = values.Text (codes "b") } ∷ [])
+    ∷ Atomic (codes "a") (record {
+      what = an_edit.Add;
+      attribute = 2;
+      value = values.Int (negsuc 0);
+    } ∷ record { what = an_edit.Append; attribute = 1; value = values.Text (codes "b") } ∷ [])
     ∷ []
 
 -- its steps, on four lines from one on
 abbrev stepped : (a b c d : ℕ) → List (ℕ × Step)
-stepped a b c d = (a, Deliver (record { entry = 1; place = 0 })) ∷ (b, Tick Coordinator) ∷ (c, Tick (Session (record { 0 = 2 }))) ∷ (d, Halt (Server (record { 0 = 4 }))) ∷ []
+stepped a b c d = (a, Deliver (record { entry = 1; place = 0 })) ∷ (b, Tick Coordinator) ∷ (
+  c,
+  Tick (Session (record { 0 = 2 })),
+) ∷ (d, Halt (Server (record { 0 = 4 }))) ∷ []
 
 abbrev script : List (ℕ × Step) → Script
 script s = record { space = books; sessions = calls ∷ [] ∷ []; steps = s }
@@ -72,16 +79,30 @@ plain =
     ++ codes "steps\ndeliver 1.0\ntick c\ntick u2\nhalt s4\n"
 
 is_read : script_of written ≡ Ok (script (stepped 23 25 26 27))
-unfolding tokens_from piece_at number_at text_at inside_at content comment_at utf8_valid_len is_utf8 chars encode read_lines number_in natural number_from steps named name new_name free_axis parts axis next_axis subspace hx_line space_line key_line string_attribute int_attribute attribute_line subspace_line servers_line tolerate_line session_line steps_line call_line step_line command short_text value free_attribute assign one_more some_assigns free_known range term one_more_term put get del cput search_call stop add atomic deliver tick halt actor edit_word unedited_attribute edit_value edit one_more_edit some_edits
+unfolding tokens_from piece_at number_at text_at inside_at content comment_at utf8_valid_len is_utf8 chars encode
+    read_lines number_in natural number_from steps named name new_name free_axis parts axis next_axis subspace hx_line
+    space_line key_line string_attribute int_attribute attribute_line subspace_line servers_line tolerate_line
+    session_line steps_line call_line step_line command short_text value free_attribute assign one_more some_assigns
+    free_known range term one_more_term put get del cput search_call stop add atomic deliver tick halt actor edit_word
+    unedited_attribute edit_value edit one_more_edit some_edits
 is_read = refl
 
 is_printed : script_text (script (stepped 23 25 26 27)) ≡ plain
-unfolding digits script_text space_text sessions_text session_text steps_text printing.space_line printing.key_line printing.string_line printing.int_line printing.bounds_text printing.subspace_line printing.axes_text printing.axis_text printing.next_axis_text printing.servers_line printing.tolerate_line printing.call_line printing.op_text printing.cput_text printing.add_text printing.edit_text printing.quoted printing.named_text printing.range_text printing.value_text printing.step_line printing.step_text printing.post_name printing.actor_text
+unfolding digits script_text space_text sessions_text session_text steps_text printing.space_line printing.key_line
+    printing.string_line printing.int_line printing.bounds_text printing.subspace_line printing.axes_text
+    printing.axis_text printing.next_axis_text printing.servers_line printing.tolerate_line printing.call_line
+    printing.op_text printing.cput_text printing.add_text printing.edit_text printing.quoted printing.named_text
+    printing.range_text printing.value_text printing.step_line printing.step_text printing.post_name printing.actor_text
 is_printed = refl
 
 renumbered : on_printed_lines (script (stepped 23 25 26 27)) ≡ script (stepped 21 22 23 24)
 renumbered = refl
 
 is_read_back : script_of plain ≡ Ok (script (stepped 21 22 23 24))
-unfolding tokens_from piece_at number_at text_at inside_at content comment_at utf8_valid_len is_utf8 chars encode read_lines number_in natural number_from steps named name new_name free_axis parts axis next_axis subspace hx_line space_line key_line string_attribute int_attribute attribute_line subspace_line servers_line tolerate_line session_line steps_line call_line step_line command short_text value free_attribute assign one_more some_assigns free_known range term one_more_term put get del cput search_call stop add atomic deliver tick halt actor edit_word unedited_attribute edit_value edit one_more_edit some_edits
+unfolding tokens_from piece_at number_at text_at inside_at content comment_at utf8_valid_len is_utf8 chars encode
+    read_lines number_in natural number_from steps named name new_name free_axis parts axis next_axis subspace hx_line
+    space_line key_line string_attribute int_attribute attribute_line subspace_line servers_line tolerate_line
+    session_line steps_line call_line step_line command short_text value free_attribute assign one_more some_assigns
+    free_known range term one_more_term put get del cput search_call stop add atomic deliver tick halt actor edit_word
+    unedited_attribute edit_value edit one_more_edit some_edits
 is_read_back = refl

@@ -61,22 +61,28 @@ neither true b e f = absurd cc
 neither false b e f = f
 
 -- where numbers differ, none before has that of a later item
-pub none_before : {A : Type 0} (f : A → ℕ) (front : List A) (x : A) (more : List A) → AllDiffer (map f (front ++ x ∷ more)) → list_any (λ y. f y == f x) front ≡ false
+pub none_before : {A : Type 0} (f : A → ℕ) (front : List A) (x : A) (more : List A)
+    → AllDiffer (map f (front ++ x ∷ more)) → list_any (λ y. f y == f x) front ≡ false
 none_before f [] x more d = refl
-none_before f (y ∷ front) x more d = neither (f y == f x) (list_any (λ z. f z == f x) front) (ne_eqb (f y) (f x) (λ e. all_mapped (λ m. m ≢ f y) f front x more d.0 (sym e))) (none_before f front x more d.1)
+none_before f (y ∷ front) x more d = neither (f y == f x) (list_any (λ z. f z == f x) front)
+    (ne_eqb (f y) (f x) (λ e. all_mapped (λ m. m ≢ f y) f front x more d.0 (sym e))) (none_before f front x more d.1)
 
 -- the same of names
-pub none_named : {A : Type 0} (f : A → List ℕ) (front : List A) (x : A) (more : List A) → NamesDiffer (map f (front ++ x ∷ more)) → list_any (λ y. bytes_eq (f y) (f x)) front ≡ false
+pub none_named : {A : Type 0} (f : A → List ℕ) (front : List A) (x : A) (more : List A)
+    → NamesDiffer (map f (front ++ x ∷ more)) → list_any (λ y. bytes_eq (f y) (f x)) front ≡ false
 none_named f [] x more d = refl
-none_named f (y ∷ front) x more d = neither (bytes_eq (f y) (f x)) (list_any (λ z. bytes_eq (f z) (f x)) front) (bytes_apart (f y) (f x) (λ e. all_mapped (λ m. m ≢ f y) f front x more d.0 (sym e))) (none_named f front x more d.1)
+none_named f (y ∷ front) x more d = neither (bytes_eq (f y) (f x)) (list_any (λ z. bytes_eq (f z) (f x)) front)
+    (bytes_apart (f y) (f x) (λ e. all_mapped (λ m. m ≢ f y) f front x more d.0 (sym e))) (none_named f front x more d.1)
 
 -- the key's name is none of an attribute
-pub key_apart : {A : Type 0} (f : A → List ℕ) (key : List ℕ) (front : List A) (x : A) (more : List A) → NamesDiffer (key ∷ map f (front ++ x ∷ more)) → bytes_eq key (f x) ≡ false
+pub key_apart : {A : Type 0} (f : A → List ℕ) (key : List ℕ) (front : List A) (x : A) (more : List A)
+    → NamesDiffer (key ∷ map f (front ++ x ∷ more)) → bytes_eq key (f x) ≡ false
 key_apart f key front x more d = bytes_apart key (f x) (λ e. all_mapped (λ m. m ≢ key) f front x more d.0 (sym e))
 
 -- ---- attributes by their names
 
-mapped_at : (P : List ℕ → Type 0) (xs : List Attribute) (i : ℕ) (x : Attribute) → All P (map (λ (a : Attribute). a.name) xs) → slice_get xs i ≡ Some x → P x.name
+mapped_at : (P : List ℕ → Type 0) (xs : List Attribute) (i : ℕ) (x : Attribute)
+    → All P (map (λ (a : Attribute). a.name) xs) → slice_get xs i ≡ Some x → P x.name
 mapped_at P [] i x all e = absurd cc
 mapped_at P (y ∷ xs) zero x all e = subst (λ (a : Attribute). P a.name) (some_is y x e) (All-head P y.name (map (λ (a : Attribute). a.name) xs) all)
   where
@@ -84,9 +90,11 @@ mapped_at P (y ∷ xs) zero x all e = subst (λ (a : Attribute). P a.name) (some
     some_is y x e = cc
 mapped_at P (y ∷ xs) (suc i) x all e = mapped_at P xs i x (All-tail P y.name (map (λ (a : Attribute). a.name) xs) all) e
 
-first_named : (xs : List Attribute) (i : ℕ) (x : Attribute) → NamesDiffer (map (λ (a : Attribute). a.name) xs) → slice_get xs i ≡ Some x → position_or_len (λ (a : Attribute). bytes_eq a.name x.name) xs ≡ i
+first_named : (xs : List Attribute) (i : ℕ) (x : Attribute) → NamesDiffer (map (λ (a : Attribute). a.name) xs)
+    → slice_get xs i ≡ Some x → position_or_len (λ (a : Attribute). bytes_eq a.name x.name) xs ≡ i
 first_named [] i x d e = absurd cc
-first_named (y ∷ xs) zero x d e = let s : bytes_eq y.name x.name ≡ true = subst (λ (a : Attribute). bytes_eq y.name a.name ≡ true) (some_is y x e) (bytes_same y.name) in rw s refl
+first_named (y ∷ xs) zero x d e = let s : bytes_eq y.name x.name ≡ true =
+    subst (λ (a : Attribute). bytes_eq y.name a.name ≡ true) (some_is y x e) (bytes_same y.name) in rw s refl
   where
     some_is : (y x : Attribute) → Some y ≡ Some x → y ≡ x
     some_is y x e = cc
@@ -118,7 +126,8 @@ name_is space a x is = rw (not_zero a is.some, is.here) refl
 
 declared_as : (space : Space) (a : ℕ) (x : Attribute) → IsSpace space → IsAt space a x → a ≤ length space.attributes → declared_number space x.name ≡ Ok a
 declared_as space a x s is high =
-    let k : position_or_len (λ (y : Attribute). bytes_eq y.name x.name) space.attributes ≡ a - 1 = first_named space.attributes (a - 1) x s.names_differ.1 is.here in
+    let k : position_or_len (λ (y : Attribute). bytes_eq y.name x.name) space.attributes ≡ a - 1 =
+    first_named space.attributes (a - 1) x s.names_differ.1 is.here in
     let low : 0 < a = is.some in
     let n : a - 1 + 1 ≡ a = omega (arith, low) in
     rw (k, lt-ltb (a - 1) (length space.attributes) (omega (arith, low, high)), n) refl
@@ -133,7 +142,8 @@ declared space a s low high =
     let at = attribute_at space a low high in
     let e : name_of space a ≡ at.0.name = name_is space a at.0 at.1 in
     record {
-      name = subst IsNamed (sym e) (a_name at.0.name (all_at (λ (x : Attribute). IsName x.name × IsKind x.kind) space.attributes (a - 1) at.0 s.names at.1.here).0);
+      name = subst IsNamed (sym e) (a_name at.0.name
+          (all_at (λ (x : Attribute). IsName x.name × IsKind x.kind) space.attributes (a - 1) at.0 s.names at.1.here).0);
       number = subst (λ w. declared_number space w ≡ Ok a) (sym e) (declared_as space a at.0 s at.1 high);
     }
 
@@ -148,5 +158,7 @@ known space (suc n) s high =
     let d = declared space (suc n) s (omega arith) high in
     let at = attribute_at space (suc n) (omega arith) high in
     let e : name_of space (suc n) ≡ at.0.name = name_is space (suc n) at.0 at.1 in
-    let apart : bytes_eq space.key_name (name_of space (suc n)) ≡ false = rw e (bytes_apart space.key_name at.0.name (λ f. mapped_at (λ m. m ≢ space.key_name) space.attributes (suc n - 1) at.0 s.names_differ.0 at.1.here (sym f))) in
+    let apart : bytes_eq space.key_name (name_of space (suc n)) ≡ false =
+    rw e (bytes_apart space.key_name at.0.name (λ f. mapped_at (λ m. m ≢ space.key_name) space.attributes
+    (suc n - 1) at.0 s.names_differ.0 at.1.here (sym f))) in
     record { name = d.name; number = rw apart d.number }

@@ -25,7 +25,8 @@ use Rattle.hx_law_texts.proofs.Says.{Says, IsClean, says, says_piece, both_clean
 abbrev by_tests : (p q r s : Bool) → ℕ → List ℕ
 by_tests p q r s b = cond p (codes "\\\"") (cond q (codes "\\\\") (cond r (codes "\\n") (cond s (codes "\\t") (b ∷ []))))
 
-inside_by : (p q r s : Bool) (b : ℕ) (more : List ℕ) → eqb b 34 ≡ p → eqb b 92 ≡ q → inside_len false (by_tests p q r s b ++ more) ≡ length (by_tests p q r s b) + inside_len false more
+inside_by : (p q r s : Bool) (b : ℕ) (more : List ℕ) → eqb b 34 ≡ p → eqb b 92 ≡ q
+    → inside_len false (by_tests p q r s b ++ more) ≡ length (by_tests p q r s b) + inside_len false more
 inside_by true q r s b more e f = omega arith
 inside_by false true r s b more e f = omega arith
 inside_by false false true s b more e f = omega arith
@@ -36,11 +37,16 @@ inside_escaped : (t more : List ℕ) → inside_len false (flat_map escape t ++ 
 inside_escaped [] more = refl
 inside_escaped (b ∷ bs) more =
     let e : flat_map escape (b ∷ bs) ≡ escape b ++ flat_map escape bs = flat_map-cons escape b bs in
-    let g : (escape b ++ flat_map escape bs) ++ 34 ∷ more ≡ escape b ++ (flat_map escape bs ++ 34 ∷ more) = append_assoc (escape b) (flat_map escape bs) (34 ∷ more) in
+    let g : (escape b ++ flat_map escape bs) ++ 34 ∷ more ≡ escape b ++ (flat_map escape bs ++ 34 ∷ more) =
+    append_assoc (escape b) (flat_map escape bs) (34 ∷ more) in
     let h = inside_by (eqb b 34) (eqb b 92) (eqb b 10) (eqb b 9) b (flat_map escape bs ++ 34 ∷ more) refl refl in
-    ap (λ x. inside_len false (x ++ 34 ∷ more)) e ∙ ap (inside_len false) g ∙ h ∙ ap (λ n. length (escape b) + n) (inside_escaped bs more) ∙ sym (length-append (escape b) (flat_map escape bs)) ∙ ap length (sym e)
+    ap (λ x. inside_len false (x ++ 34 ∷ more)) e ∙ ap (inside_len false) g ∙ h
+    ∙ ap (λ n. length (escape b) + n) (inside_escaped bs more)
+    ∙ sym (length-append (escape b) (flat_map escape bs)) ∙ ap length (sym e)
 
-content_by : (p q r s : Bool) (at b : ℕ) (more : List ℕ) → eqb b 34 ≡ p → eqb b 92 ≡ q → eqb b 10 ≡ r → eqb b 9 ≡ s → is_plain b ≡ true → content false at (by_tests p q r s b ++ more) ≡ followed_by b (content false (at + length (by_tests p q r s b)) more)
+content_by : (p q r s : Bool) (at b : ℕ) (more : List ℕ) → eqb b 34 ≡ p → eqb b 92 ≡ q → eqb b 10 ≡ r → eqb b 9 ≡ s
+    → is_plain b ≡ true → content false at (by_tests p q r s b ++ more)
+    ≡ followed_by b (content false (at + length (by_tests p q r s b)) more)
 unfolding content
 content_by true q r s at b more e f g h plain = rw (eqb-true b 34 e) refl
 content_by false true r s at b more e f g h plain = rw (eqb-true b 92 f) refl
@@ -79,19 +85,29 @@ high_fixed : (bs : List ℕ) → ((k : ℕ) → k < length bs → 128 ≤ get_or
 high_fixed [] high = refl
 high_fixed (b ∷ bs) high =
     let le : 128 ≤ b = high 0 (omega arith) in
-    flat_map-cons escape b bs ∙ rw (high_not b 34 le (lit< tt), high_not b 92 le (lit< tt), high_not b 10 le (lit< tt), high_not b 9 le (lit< tt)) (ap (λ r. b ∷ r) (high_fixed bs (λ k lt. high (suc k) (omega arith))))
+    flat_map-cons escape b bs ∙ rw (
+      high_not b 34 le (lit< tt),
+      high_not b 92 le (lit< tt),
+      high_not b 10 le (lit< tt),
+      high_not b 9 le (lit< tt),
+    )
+    (ap (λ r. b ∷ r) (high_fixed bs (λ k lt. high (suc k) (omega arith))))
 
 char_utf8 : (c : ℕ) → IsScalar c → IsUtf8 (flat_map escape (encode_utf8 c))
 char_utf8 c is =
     elim (cases_lt c 128) [
-      | inl lt ↦ rw (encode_ascii c lt) (subst IsUtf8 (sym (flat_map-cons escape c [] ∙ append-nil (escape c))) (escape_by_utf8 (eqb c 34) (eqb c 92) (eqb c 10) (eqb c 9) c lt))
+      | inl lt ↦ rw (encode_ascii c lt) (subst IsUtf8 (sym (flat_map-cons escape c [] ∙ append-nil (escape c)))
+          (escape_by_utf8 (eqb c 34) (eqb c 92) (eqb c 10) (eqb c 9) c lt))
       | inr le ↦ subst IsUtf8 (sym (high_fixed (encode_utf8 c) (λ k lt. high_bytes c k le lt))) (IsUtf8-encode c is)
     ]
 
 chars_utf8 : (cs : List ℕ) → strings.all_scalars cs ≡ true → IsUtf8 (flat_map escape (strings.encode_utf8_all cs))
 chars_utf8 [] all = IsUtf8-nil
 chars_utf8 (c ∷ cs) all =
-    rw (flat_map-append escape (encode_utf8 c) (strings.encode_utf8_all cs)) (IsUtf8-append (flat_map escape (encode_utf8 c)) (flat_map escape (strings.encode_utf8_all cs)) (char_utf8 c (and_left (scalar c) (strings.all_scalars cs) all)) (chars_utf8 cs (and_right (scalar c) (strings.all_scalars cs) all)))
+    rw (flat_map-append escape (encode_utf8 c) (strings.encode_utf8_all cs))
+    (IsUtf8-append (flat_map escape (encode_utf8 c)) (flat_map escape (strings.encode_utf8_all cs))
+    (char_utf8 c (and_left (scalar c) (strings.all_scalars cs) all))
+    (chars_utf8 cs (and_right (scalar c) (strings.all_scalars cs) all)))
 
 escaped_utf8 : (t : List ℕ) → IsUtf8 t → IsUtf8 (flat_map escape t)
 escaped_utf8 t u = subst (λ (x : List ℕ). IsUtf8 (flat_map escape x)) u.1.1 (chars_utf8 u.0 u.1.0)
@@ -100,17 +116,22 @@ inside_escaped_at : (at : ℕ) (t : List ℕ) → IsText t → inside_at at (fla
 unfolding inside_at
 inside_escaped_at at t is =
     let whole : utf8_valid_len (flat_map escape t) ≡ length (flat_map escape t) = utf8_valid_len-IsUtf8 (flat_map escape t) (escaped_utf8 t is.utf8) in
-    let all : take (length (flat_map escape t)) (flat_map escape t) ≡ flat_map escape t = take_all (length (flat_map escape t)) (flat_map escape t) (omega arith) in
+    let all : take (length (flat_map escape t)) (flat_map escape t) ≡ flat_map escape t =
+    take_all (length (flat_map escape t)) (flat_map escape t) (omega arith) in
     rw (whole, all, content_escaped at t is.plain, eq-eqb (length (flat_map escape t)) (length (flat_map escape t)) refl) refl
 
-text_piece : (at : ℕ) (t rest : List ℕ) → IsText t → piece_at at (34 ∷ (flat_map escape t ++ 34 ∷ rest)) ≡ token_piece (kinds.Text t) (length (flat_map escape t) + 2)
+text_piece : (at : ℕ) (t rest : List ℕ) → IsText t
+    → piece_at at (34 ∷ (flat_map escape t ++ 34 ∷ rest)) ≡ token_piece (kinds.Text t) (length (flat_map escape t) + 2)
 unfolding piece_at text_at
 text_piece at t rest is =
     let n : inside_len false (flat_map escape t ++ 34 ∷ rest) ≡ length (flat_map escape t) = inside_escaped t rest in
-    let k : eqb (length (flat_map escape t)) (length (flat_map escape t ++ 34 ∷ rest)) ≡ false = ne_eqb (length (flat_map escape t)) (length (flat_map escape t ++ 34 ∷ rest)) (λ e. omega (arith, e, length-append (flat_map escape t) (34 ∷ rest))) in
+    let k : eqb (length (flat_map escape t)) (length (flat_map escape t ++ 34 ∷ rest)) ≡ false =
+    ne_eqb (length (flat_map escape t)) (length (flat_map escape t ++ 34 ∷ rest))
+    (λ e. omega (arith, e, length-append (flat_map escape t) (34 ∷ rest))) in
     rw (n, k, take_at (flat_map escape t) (34 ∷ rest) (length (flat_map escape t)) refl, inside_escaped_at (at + 1) t is) refl
 
-text_said : (t : List ℕ) (ts : List Tok) (rest : List ℕ) → IsText t → ((at : ℕ) → says at 0 rest ≡ Ok ts) → (at : ℕ) → says at 0 (quoted t ++ rest) ≡ Ok (Text t ∷ ts)
+text_said : (t : List ℕ) (ts : List Tok) (rest : List ℕ) → IsText t → ((at : ℕ) → says at 0 rest ≡ Ok ts) → (at : ℕ)
+    → says at 0 (quoted t ++ rest) ≡ Ok (Text t ∷ ts)
 unfolding quoted
 text_said t ts rest is h at =
     let n : ℕ = length (flat_map escape t) in
@@ -132,7 +153,9 @@ escape_clean false false false false b e = rw e refl
 
 inside_clean : (t : List ℕ) → IsClean (flat_map escape t)
 inside_clean [] = refl
-inside_clean (b ∷ bs) = ap (list_all on_line) (flat_map-cons escape b bs) ∙ both_clean (escape b) (flat_map escape bs) (escape_clean (eqb b 34) (eqb b 92) (eqb b 10) (eqb b 9) b refl) (inside_clean bs)
+inside_clean (b ∷ bs) = ap (list_all on_line) (flat_map-cons escape b bs)
+    ∙ both_clean (escape b) (flat_map escape bs) (escape_clean (eqb b 34) (eqb b 92) (eqb b 10) (eqb b 9) b refl)
+    (inside_clean bs)
 
 quoted_clean : (t : List ℕ) → IsClean (quoted t)
 unfolding quoted

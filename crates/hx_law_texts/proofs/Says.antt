@@ -25,17 +25,20 @@ says at zero (b ∷ bs) = piece_at at (b ∷ bs) >>= λ p. before_tok p.kind (ta
 abbrev pub meant : List ℕ → Result (List Token) LexError → Result (List Tok) LexError
 meant line read = read >>= λ ts. Ok (map (meaning line) ts)
 
-one_kind : (line bytes : List ℕ) (at : ℕ) (k : Option TokenKind) (len : ℕ) (read : Result (List Token) LexError) (said : Result (List Tok) LexError) → slice_range line at (at + len) ≡ bytes → meant line read ≡ said
+one_kind : (line bytes : List ℕ) (at : ℕ) (k : Option TokenKind) (len : ℕ) (read : Result (List Token) LexError)
+    (said : Result (List Tok) LexError) → slice_range line at (at + len) ≡ bytes → meant line read ≡ said
     → meant line (before (token_of at (record { kind = k; len = len })) read) ≡ before_tok k bytes said
 one_kind line bytes at None len read said s e = e
 one_kind line bytes at (Some k) len (Ok ts) said s e = rw (← e, s) refl
 one_kind line bytes at (Some k) len (Err d) said s e = rw (← e) refl
 
-one_meant : (line bytes : List ℕ) (at : ℕ) (p : Piece) (read : Result (List Token) LexError) (said : Result (List Tok) LexError) → slice_range line at (at + p.len) ≡ bytes → meant line read ≡ said
+one_meant : (line bytes : List ℕ) (at : ℕ) (p : Piece) (read : Result (List Token) LexError)
+    (said : Result (List Tok) LexError) → slice_range line at (at + p.len) ≡ bytes → meant line read ≡ said
     → meant line (before (token_of at p) read) ≡ before_tok p.kind bytes said
 one_meant line bytes at p read said s e = one_kind line bytes at p.kind p.len read said s e
 
-bind_meant : (line : List ℕ) (r : Result Piece LexError) (f : Piece → Result (List Token) LexError) (g : Piece → Result (List Tok) LexError) → ((p : Piece) → meant line (f p) ≡ g p) → meant line (r >>= f) ≡ (r >>= g)
+bind_meant : (line : List ℕ) (r : Result Piece LexError) (f : Piece → Result (List Token) LexError)
+    (g : Piece → Result (List Tok) LexError) → ((p : Piece) → meant line (f p) ≡ g p) → meant line (r >>= f) ≡ (r >>= g)
 bind_meant line (Ok p) f g h = h p
 bind_meant line (Err e) f g h = refl
 
@@ -49,9 +52,11 @@ says_meant line front (b ∷ bs) at zero e n =
     let next : line ≡ (front ++ b ∷ []) ++ bs = e ∙ sym (append_assoc front (b ∷ []) bs) in
     let size : length (front ++ b ∷ []) ≡ at + 1 = omega (arith, length-append front (b ∷ []), n) in
     let here : drop at line ≡ b ∷ bs = rw e (drop_at front (b ∷ bs) at n) in
-    bind_meant line (piece_at at (b ∷ bs)) (λ p. before (token_of at p) (tokens_from (at + 1) (p.len - 1) bs)) (λ p. before_tok p.kind (take p.len (b ∷ bs)) (says (at + 1) (p.len - 1) bs))
+    bind_meant line (piece_at at (b ∷ bs)) (λ p. before (token_of at p) (tokens_from (at + 1) (p.len - 1) bs))
+    (λ p. before_tok p.kind (take p.len (b ∷ bs)) (says (at + 1) (p.len - 1) bs))
     (λ p. let len : at + p.len - at ≡ p.len = omega arith in
-    one_meant line (take p.len (b ∷ bs)) at p (tokens_from (at + 1) (p.len - 1) bs) (says (at + 1) (p.len - 1) bs) (rw (len, here) refl) (says_meant line (front ++ b ∷ []) bs (at + 1) (p.len - 1) next size))
+    one_meant line (take p.len (b ∷ bs)) at p (tokens_from (at + 1) (p.len - 1) bs) (says (at + 1) (p.len - 1) bs)
+    (rw (len, here) refl) (says_meant line (front ++ b ∷ []) bs (at + 1) (p.len - 1) next size))
 
 says_skipped : (at skip : ℕ) (bs : List ℕ) → says at skip bs ≡ says (at + skip) 0 (drop skip bs)
 unfolding says
@@ -76,7 +81,8 @@ pub record Says (ts : List Tok) (bytes : List ℕ) : Type 0 where
 pub both_clean : (x y : List ℕ) → IsClean x → IsClean y → IsClean (x ++ y)
 both_clean x y p q = rw (list_all-append on_line x y, p, q) refl
 
-pub says_piece : (at b : ℕ) (bs : List ℕ) (p : Piece) (ts : List Tok) → piece_at at (b ∷ bs) ≡ Ok p → 0 < p.len → says (at + p.len) 0 (drop p.len (b ∷ bs)) ≡ Ok ts → says at 0 (b ∷ bs) ≡ before_tok p.kind (take p.len (b ∷ bs)) (Ok ts)
+pub says_piece : (at b : ℕ) (bs : List ℕ) (p : Piece) (ts : List Tok) → piece_at at (b ∷ bs) ≡ Ok p → 0 < p.len
+    → says (at + p.len) 0 (drop p.len (b ∷ bs)) ≡ Ok ts → says at 0 (b ∷ bs) ≡ before_tok p.kind (take p.len (b ∷ bs)) (Ok ts)
 unfolding says
 says_piece at b bs p ts e moves rest =
     let k : p.len ≡ suc (p.len - 1) = omega arith in
@@ -123,14 +129,16 @@ piece_word : (at b : ℕ) (bs : List ℕ) → is_lower b ≡ true → piece_at a
 unfolding piece_at
 piece_word at b bs h = rw (lower_not b 32 h (lit< tt), lower_not b 9 h (lit< tt), lower_not b 13 h (lit< tt), lower_not b 35 h (lit< tt), h) refl
 
-word_said : (w : List ℕ) (ts : List Tok) (rest : List ℕ) → IsWord w → begins_with is_word_part rest ≡ false → ((at : ℕ) → says at 0 rest ≡ Ok ts) → (at : ℕ) → says at 0 (w ++ rest) ≡ Ok (Word w ∷ ts)
+word_said : (w : List ℕ) (ts : List Tok) (rest : List ℕ) → IsWord w → begins_with is_word_part rest ≡ false
+    → ((at : ℕ) → says at 0 rest ≡ Ok ts) → (at : ℕ) → says at 0 (w ++ rest) ≡ Ok (Word w ∷ ts)
 word_said [] ts rest is stop h at = absurd (let e : false ≡ true = is.letter in cc)
 word_said (b ∷ bs) ts rest is stop h at =
     let n : prefix_len is_word_part (b ∷ (bs ++ rest)) ≡ length (b ∷ bs) = whole_run is_word_part (b ∷ bs) rest is.parts stop in
     let p : Piece = record { kind = Some kinds.Word; len = length (b ∷ bs) } in
     let d : drop (length (b ∷ bs)) (b ∷ (bs ++ rest)) ≡ rest = drop_at (b ∷ bs) rest (length (b ∷ bs)) refl in
     let t : take (length (b ∷ bs)) (b ∷ (bs ++ rest)) ≡ b ∷ bs = take_at (b ∷ bs) rest (length (b ∷ bs)) refl in
-    says_piece at b (bs ++ rest) p ts (piece_word at b (bs ++ rest) is.letter ∙ ap (token_piece kinds.Word) n) (omega arith) (rw d (h (at + length (b ∷ bs)))) ∙ rw t refl
+    says_piece at b (bs ++ rest) p ts (piece_word at b (bs ++ rest) is.letter ∙ ap (token_piece kinds.Word) n)
+    (omega arith) (rw d (h (at + length (b ∷ bs)))) ∙ rw t refl
 
 pub word_says : (w : List ℕ) (ts : List Tok) (rest : List ℕ) → IsWord w → begins_with is_word_part rest ≡ false → Says ts rest → Says (Word w ∷ ts) (w ++ rest)
 word_says w ts rest is stop h = record { said = word_said w ts rest is stop h.said; clean = both_clean w rest (clean_by is_word_part refl w is.parts) h.clean }
@@ -153,7 +161,8 @@ comma_said ts rest h at = says_piece at 44 rest (record { kind = Some kinds.Sign
 pub comma_says : (ts : List Tok) (rest : List ℕ) → Says ts rest → Says (Sign (codes ",") ∷ ts) (44 ∷ rest)
 comma_says ts rest h = record { said = comma_said ts rest h.said; clean = h.clean }
 
-dot_said : (ts : List Tok) (rest : List ℕ) → begins_with (eqb 46) rest ≡ false → ((at : ℕ) → says at 0 rest ≡ Ok ts) → (at : ℕ) → says at 0 (46 ∷ rest) ≡ Ok (Sign (codes ".") ∷ ts)
+dot_said : (ts : List Tok) (rest : List ℕ) → begins_with (eqb 46) rest ≡ false → ((at : ℕ) → says at 0 rest ≡ Ok ts)
+    → (at : ℕ) → says at 0 (46 ∷ rest) ≡ Ok (Sign (codes ".") ∷ ts)
 unfolding piece_at
 dot_said ts rest stop h at = says_piece at 46 rest (record { kind = Some kinds.Sign; len = 1 }) ts (one rest stop) (lit< tt) (h (at + 1))
   where

@@ -22,7 +22,8 @@ MayCall at = (at ≡ sections.Sessions) ⊎ (at ≡ sections.Calls)
 -- ---- the line of a session
 
 session_toks : (n : ℕ) (at : Section) (s : Space) (regions : ℕ) (front : List (List Op)) (calls : ℕ) → MayCall at → length front < 16
-    → line_of_toks n (calling at s regions front calls) (Word (codes "session") ∷ Number (pos (length front + 1)) ∷ []) ≡ Ok (calling sections.Calls s regions (front ++ [] ∷ []) calls)
+    → line_of_toks n (calling at s regions front calls)
+    (Word (codes "session") ∷ Number (pos (length front + 1)) ∷ []) ≡ Ok (calling sections.Calls s regions (front ++ [] ∷ []) calls)
 unfolding command session_line number_in
 session_toks n at s regions front calls (inl e) room = rw (e, lt-ltb (length front) 16 room, le-leb (length front + 1) (length front + 1) (omega arith)) refl
 session_toks n at s regions front calls (inr e) room = rw (e, lt-ltb (length front) 16 room, le-leb (length front + 1) (length front + 1) (omega arith)) refl
@@ -30,13 +31,20 @@ session_toks n at s regions front calls (inr e) room = rw (e, lt-ltb (length fro
 pub session_parts : (a d n c r : List ℕ) → (a ++ d ++ n ++ c) ++ r ≡ (a ++ (d ++ [])) ++ (n ++ (c ++ r))
 session_parts a d n c r = simp (append_assoc, append-nil)
 
-session_reads : (n : ℕ) (at : Section) (s : Space) (regions : ℕ) (front : List (List Op)) (calls : ℕ) (ops : List Op) (rest : List ℕ) (script : Script) → MayCall at → length front < 16
-    → ReadsTo (n + 1) (calling sections.Calls s regions (front ++ [] ∷ []) calls) (flat_map (call_text s) ops ++ rest) script → ReadsTo n (calling at s regions front calls) (session_text s (length front + 1) ops ++ rest) script
+session_reads : (n : ℕ) (at : Section) (s : Space) (regions : ℕ) (front : List (List Op)) (calls : ℕ) (ops : List Op)
+    (rest : List ℕ) (script : Script) → MayCall at → length front < 16
+    → ReadsTo (n + 1) (calling sections.Calls s regions (front ++ [] ∷ []) calls)
+    (flat_map (call_text s) ops ++ rest) script → ReadsTo n (calling at s regions front calls)
+    (session_text s (length front + 1) ops ++ rest) script
 unfolding session_text
 session_reads n at s regions front calls ops rest script here room next =
-    line_reads n (calling at s regions front calls) (calling sections.Calls s regions (front ++ [] ∷ []) calls) (session_text s (length front + 1) ops ++ rest) (codes "session" ++ (32 ∷ (decimal (length front + 1) ++ []))) (flat_map (call_text s) ops ++ rest)
+    line_reads n (calling at s regions front calls) (calling sections.Calls s regions (front ++ [] ∷ []) calls)
+    (session_text s (length front + 1) ops ++ rest) (codes "session" ++ (32 ∷ (decimal (length front + 1) ++ [])))
+    (flat_map (call_text s) ops ++ rest)
     (Word (codes "session") ∷ Number (pos (length front + 1)) ∷ []) script
-    (session_parts (codes "session ") (decimal (length front + 1)) (codes "\n") (flat_map (call_text s) ops) rest) (word_number (codes "session") (length front + 1) (record { letter = refl; parts = refl }) (omega arith)) (session_toks (n + 1) at s regions front calls here room) next
+    (session_parts (codes "session ") (decimal (length front + 1)) (codes "\n") (flat_map (call_text s) ops) rest)
+    (word_number (codes "session") (length front + 1) (record { letter = refl; parts = refl }) (omega arith))
+    (session_toks (n + 1) at s regions front calls here room) next
 
 -- ---- all sessions
 
@@ -55,7 +63,8 @@ record AreLeft (s : Space) (front left : List (List Op)) (calls : ℕ) : Type 0 
   pub fits : All (λ (ops : List Op). All (Fits s) ops) left
   pub said : All (λ (ops : List Op). All CallIsSayable ops) left
 
-left_after : (s : Space) (front : List (List Op)) (ops : List Op) (left : List (List Op)) (calls : ℕ) → AreLeft s front (ops ∷ left) calls → AreLeft s (front ++ ops ∷ []) left (calls + length ops)
+left_after : (s : Space) (front : List (List Op)) (ops : List Op) (left : List (List Op)) (calls : ℕ)
+    → AreLeft s front (ops ∷ left) calls → AreLeft s (front ++ ops ∷ []) left (calls + length ops)
 left_after s front ops left calls are =
     let few : length front + length (ops ∷ left) ≤ 16 = are.few in
     let few_calls : calls + calls_in (ops ∷ left) ≤ 16384 = are.few_calls in
@@ -66,13 +75,17 @@ left_after s front ops left calls are =
       said = All-tail (λ (x : List Op). All CallIsSayable x) ops left are.said;
     }
 
-room_for : (s : Space) (front : List (List Op)) (ops : List Op) (left : List (List Op)) (calls : ℕ) → AreLeft s front (ops ∷ left) calls → calls + length ops ≤ 16384
+room_for : (s : Space) (front : List (List Op)) (ops : List Op) (left : List (List Op)) (calls : ℕ)
+    → AreLeft s front (ops ∷ left) calls → calls + length ops ≤ 16384
 room_for s front ops left calls are =
     let few_calls : calls + calls_in (ops ∷ left) ≤ 16384 = are.few_calls in
     omega (arith, few_calls, sum_by-cons (λ (x : List Op). length x) ops left)
 
-sessions_left : (left : List (List Op)) (n : ℕ) (at : Section) (s : Space) (regions : ℕ) (front : List (List Op)) (calls : ℕ) (rest : List ℕ) (script : Script) → MayCall at → IsSpace s → regions ≡ region_count s → AreLeft s front left calls
-    → ((last : Section) → MayCall last → ReadsTo (n + lines_in left) (calling last s regions (front ++ left) (calls + calls_in left)) rest script) → ReadsTo n (calling at s regions front calls) (sessions_text s (length front + 1) left ++ rest) script
+sessions_left : (left : List (List Op)) (n : ℕ) (at : Section) (s : Space) (regions : ℕ) (front : List (List Op))
+    (calls : ℕ) (rest : List ℕ) (script : Script) → MayCall at → IsSpace s → regions ≡ region_count s → AreLeft s front left calls
+    → ((last : Section) → MayCall last → ReadsTo (n + lines_in left)
+    (calling last s regions (front ++ left) (calls + calls_in left)) rest script)
+    → ReadsTo n (calling at s regions front calls) (sessions_text s (length front + 1) left ++ rest) script
 unfolding sessions_text
 sessions_left [] n at s regions front calls rest script here is all are next =
     let k : n + lines_in [] ≡ n = omega arith in
@@ -84,47 +97,65 @@ sessions_left (ops ∷ left) n at s regions front calls rest script here is all 
     let few : length front + length (ops ∷ left) ≤ 16 = are.few in
     let number : length (front ++ ops ∷ []) + 1 ≡ length front + 1 + 1 = omega (arith, length-append front (ops ∷ [])) in
     let later : List ℕ = sessions_text s (length front + 1 + 1) left ++ rest in
-    let text : (session_text s (length front + 1) ops ++ sessions_text s (length front + 1 + 1) left) ++ rest ≡ session_text s (length front + 1) ops ++ later = append_assoc (session_text s (length front + 1) ops) (sessions_text s (length front + 1 + 1) left) rest in
+    let text : (session_text s (length front + 1) ops ++ sessions_text s (length front + 1 + 1) left) ++ rest
+    ≡ session_text s (length front + 1) ops ++ later =
+    append_assoc (session_text s (length front + 1) ops) (sessions_text s (length front + 1 + 1) left) rest in
     let k : n + lines_in (ops ∷ left) ≡ n + 1 + length ops + lines_in left = omega (arith, sum_by-cons (λ (x : List Op). length x + 1) ops left) in
     let c : calls + calls_in (ops ∷ left) ≡ calls + length ops + calls_in left = omega (arith, sum_by-cons (λ (x : List Op). length x) ops left) in
     let moved : front ++ ops ∷ left ≡ (front ++ ops ∷ []) ++ left = sym (append_assoc front (ops ∷ []) left) in
     let more : ReadsTo (n + 1 + length ops) (calling sections.Calls s regions (front ++ ops ∷ []) (calls + length ops)) later script =
-    subst (λ (m : ℕ). ReadsTo (n + 1 + length ops) (calling sections.Calls s regions (front ++ ops ∷ []) (calls + length ops)) (sessions_text s m left ++ rest) script) number
-    (sessions_left left (n + 1 + length ops) sections.Calls s regions (front ++ ops ∷ []) (calls + length ops) rest script (inr refl) is all (left_after s front ops left calls are)
+    subst (λ (m : ℕ). ReadsTo (n + 1 + length ops)
+    (calling sections.Calls s regions (front ++ ops ∷ []) (calls + length ops))
+    (sessions_text s m left ++ rest) script) number
+    (sessions_left left (n + 1 + length ops) sections.Calls s regions (front ++ ops ∷ [])
+    (calls + length ops) rest script (inr refl) is all (left_after s front ops left calls are)
     (λ last may. subst (λ (m : ℕ). ReadsTo m (calling last s regions ((front ++ ops ∷ []) ++ left) (calls + length ops + calls_in left)) rest script) k
     (subst (λ (m : ℕ). ReadsTo (n + lines_in (ops ∷ left)) (calling last s regions ((front ++ ops ∷ []) ++ left) m) rest script) c
-    (subst (λ (xs : List (List Op)). ReadsTo (n + lines_in (ops ∷ left)) (calling last s regions xs (calls + calls_in (ops ∷ left))) rest script) moved (next last may))))) in
+    (subst (λ (xs : List (List Op)). ReadsTo (n + lines_in (ops ∷ left))
+    (calling last s regions xs (calls + calls_in (ops ∷ left))) rest script) moved (next last may))))) in
     subst (λ (x : List ℕ). ReadsTo n (calling at s regions front calls) x script) (sym text)
     (session_reads n at s regions front calls ops later script here (omega (arith, few))
-    (calls_read ops (n + 1) s regions front [] calls later script is all (All-head (λ (x : List Op). All (Fits s) x) ops left are.fits) (All-head (λ (x : List Op). All CallIsSayable x) ops left are.said) (room_for s front ops left calls are) more))
+    (calls_read ops (n + 1) s regions front [] calls later script is all
+    (All-head (λ (x : List Op). All (Fits s) x) ops left are.fits)
+    (All-head (λ (x : List Op). All CallIsSayable x) ops left are.said) (room_for s front ops left calls are) more))
 
 -- ---- the steps
 
-steps_toks : (n : ℕ) (at : Section) (s : Space) (regions : ℕ) (sessions : List (List Op)) (calls : ℕ) → MayCall at → line_of_toks n (calling at s regions sessions calls) (Word (codes "steps") ∷ []) ≡ Ok (stepping s regions sessions calls [])
+steps_toks : (n : ℕ) (at : Section) (s : Space) (regions : ℕ) (sessions : List (List Op)) (calls : ℕ) → MayCall at
+    → line_of_toks n (calling at s regions sessions calls) (Word (codes "steps") ∷ []) ≡ Ok (stepping s regions sessions calls [])
 unfolding command steps_line
 steps_toks n at s regions sessions calls (inl e) = rw e refl
 steps_toks n at s regions sessions calls (inr e) = rw e refl
 
-nothing_left : (n : ℕ) (at : Section) (s : Space) (regions : ℕ) (sessions : List (List Op)) (calls : ℕ) → MayCall at → ReadsTo n (calling at s regions sessions calls) [] (with_steps s sessions [])
+nothing_left : (n : ℕ) (at : Section) (s : Space) (regions : ℕ) (sessions : List (List Op)) (calls : ℕ) → MayCall at
+    → ReadsTo n (calling at s regions sessions calls) [] (with_steps s sessions [])
 unfolding read_lines
 nothing_left n at s regions sessions calls (inl e) = record { reads = rw e refl }
 nothing_left n at s regions sessions calls (inr e) = record { reads = rw e refl }
 
-steps_section : (steps : List (ℕ × Step)) (n : ℕ) (at : Section) (s : Space) (regions : ℕ) (sessions : List (List Op)) (calls : ℕ) → MayCall at → s.servers ≤ 16 → length sessions ≤ 16 → All (λ (x : ℕ × Step). StepIsSayable s.servers (length sessions) x.1) steps → length steps ≤ 65536
+steps_section : (steps : List (ℕ × Step)) (n : ℕ) (at : Section) (s : Space) (regions : ℕ) (sessions : List (List Op))
+    (calls : ℕ) → MayCall at → s.servers ≤ 16 → length sessions ≤ 16
+    → All (λ (x : ℕ × Step). StepIsSayable s.servers (length sessions) x.1) steps → length steps ≤ 65536
     → ReadsTo n (calling at s regions sessions calls) (steps_text steps) (with_steps s sessions (on_lines_from (n + 1 + 1) steps))
 unfolding steps_text
 steps_section [] n at s regions sessions calls here f g all few = nothing_left n at s regions sessions calls here
 steps_section (x ∷ steps) n at s regions sessions calls here f g all few =
     let text : codes "steps\n" ++ flat_map line_text (x ∷ steps) ≡ (codes "steps" ++ []) ++ 10 ∷ flat_map line_text (x ∷ steps) = refl in
-    line_reads n (calling at s regions sessions calls) (stepping s regions sessions calls []) (codes "steps\n" ++ flat_map line_text (x ∷ steps)) (codes "steps" ++ []) (flat_map line_text (x ∷ steps)) (Word (codes "steps") ∷ []) (with_steps s sessions (on_lines_from (n + 1 + 1) (x ∷ steps)))
+    line_reads n (calling at s regions sessions calls) (stepping s regions sessions calls [])
+    (codes "steps\n" ++ flat_map line_text (x ∷ steps)) (codes "steps" ++ []) (flat_map line_text (x ∷ steps))
+    (Word (codes "steps") ∷ []) (with_steps s sessions (on_lines_from (n + 1 + 1) (x ∷ steps)))
     text (word_says (codes "steps") [] [] (record { letter = refl; parts = refl }) refl nil_says) (steps_toks (n + 1) at s regions sessions calls here)
     (steps_read (x ∷ steps) (n + 1) s regions sessions calls [] f g all (omega (arith, few)))
 
 -- the sessions of a script, and its steps
-pub sections_read : (n : ℕ) (s : Space) (regions : ℕ) (sessions : List (List Op)) (steps : List (ℕ × Step)) → IsSpace s → regions ≡ region_count s → length sessions ≤ 16 → calls_in sessions ≤ 16384
-    → All (λ (ops : List Op). All (Fits s) ops) sessions → All (λ (ops : List Op). All CallIsSayable ops) sessions → All (λ (x : ℕ × Step). StepIsSayable s.servers (length sessions) x.1) steps → length steps ≤ 65536
-    → ReadsTo n (calling sections.Sessions s regions [] 0) (sessions_text s 1 sessions ++ steps_text steps) (with_steps s sessions (on_lines_from (n + lines_in sessions + 1 + 1) steps))
+pub sections_read : (n : ℕ) (s : Space) (regions : ℕ) (sessions : List (List Op)) (steps : List (ℕ × Step))
+    → IsSpace s → regions ≡ region_count s → length sessions ≤ 16 → calls_in sessions ≤ 16384
+    → All (λ (ops : List Op). All (Fits s) ops) sessions → All (λ (ops : List Op). All CallIsSayable ops) sessions
+    → All (λ (x : ℕ × Step). StepIsSayable s.servers (length sessions) x.1) steps → length steps ≤ 65536
+    → ReadsTo n (calling sections.Sessions s regions [] 0) (sessions_text s 1 sessions ++ steps_text steps)
+    (with_steps s sessions (on_lines_from (n + lines_in sessions + 1 + 1) steps))
 sections_read n s regions sessions steps is all few few_calls fits said steps_said few_steps =
-    sessions_left sessions n sections.Sessions s regions [] 0 (steps_text steps) (with_steps s sessions (on_lines_from (n + lines_in sessions + 1 + 1) steps)) (inl refl) is all
+    sessions_left sessions n sections.Sessions s regions [] 0 (steps_text steps)
+    (with_steps s sessions (on_lines_from (n + lines_in sessions + 1 + 1) steps)) (inl refl) is all
     (record { few = omega (arith, few); few_calls = omega (arith, few_calls); fits = fits; said = said })
     (λ last may. steps_section steps (n + lines_in sessions) last s regions sessions (0 + calls_in sessions) may is.servers.1 few steps_said few_steps)

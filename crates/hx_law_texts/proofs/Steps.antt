@@ -37,7 +37,8 @@ digit_is_part b h = either (is_lower b) (is_digit b) (b == 95) h
 
 digits_are_parts : (ds : List ℕ) → list_all is_digit ds ≡ true → list_all is_word_part ds ≡ true
 digits_are_parts [] all = refl
-digits_are_parts (b ∷ bs) all = rw (digit_is_part b (and_left (is_digit b) (list_all is_digit bs) all)) (digits_are_parts bs (and_right (is_digit b) (list_all is_digit bs) all))
+digits_are_parts (b ∷ bs) all = rw (digit_is_part b (and_left (is_digit b) (list_all is_digit bs) all))
+    (digits_are_parts bs (and_right (is_digit b) (list_all is_digit bs) all))
 
 letter_and_digits : (b n : ℕ) → is_lower b ≡ true → is_word_part b ≡ true → n < 2 ^ 64 → IsWord (b ∷ decimal n)
 letter_and_digits b n letter part small = record { letter = letter; parts = rw part (digits_are_parts (decimal n) (decimal_digits n small)) }
@@ -54,7 +55,8 @@ actor_is_word servers sessions Coordinator f g is = record { letter = refl; part
 actor_is_word servers sessions (Server s) f g is = letter_and_digits 115 s.0 refl refl (small_too s.0 (few servers s.0 f is.1))
 actor_is_word servers sessions (Session u) f g is = letter_and_digits 117 u.0 refl refl (small_too u.0 (few sessions u.0 g is.1))
 
-actor_again : (servers sessions : ℕ) (a : Actor) (ts : List Tok) → servers ≤ 16 → sessions ≤ 16 → IsActorOf servers sessions a → actor servers sessions (Word (actor_text a) ∷ ts) ≡ Ok (a, ts)
+actor_again : (servers sessions : ℕ) (a : Actor) (ts : List Tok) → servers ≤ 16 → sessions ≤ 16
+    → IsActorOf servers sessions a → actor servers sessions (Word (actor_text a) ∷ ts) ≡ Ok (a, ts)
 unfolding actor actor_text
 actor_again servers sessions Coordinator ts f g is = refl
 actor_again servers sessions (Server s) ts f g is =
@@ -84,9 +86,11 @@ deliver_says id is =
     let place : id.place < 2 ^ 63 = in_range id.place is.place in
     let tail : List ℕ = decimal id.place ++ [] in
     subst (λ (x : List ℕ). Says (step_toks (Deliver id)) x) (sym (deliver_parts (codes "deliver ") (decimal id.entry) (codes ".") (decimal id.place)))
-    (word_and_blank (codes "deliver") (Number (pos id.entry) ∷ Sign (codes ".") ∷ Number (pos id.place) ∷ []) (decimal id.entry ++ (46 ∷ tail)) (record { letter = refl; parts = refl })
+    (word_and_blank (codes "deliver") (Number (pos id.entry) ∷ Sign (codes ".") ∷ Number (pos id.place) ∷ [])
+    (decimal id.entry ++ (46 ∷ tail)) (record { letter = refl; parts = refl })
     (number_says id.entry (Sign (codes ".") ∷ Number (pos id.place) ∷ []) (46 ∷ tail) is.entry refl
-    (dot_says (Number (pos id.place) ∷ []) tail (no_dot (decimal id.place) (decimal_digits id.place (small_too id.place place))) (number_says id.place [] [] place refl nil_says))))
+    (dot_says (Number (pos id.place) ∷ []) tail (no_dot (decimal id.place)
+    (decimal_digits id.place (small_too id.place place))) (number_says id.place [] [] place refl nil_says))))
   where
     in_range : (n : ℕ) → n < 2 ^ 32 → n < 2 ^ 63
     in_range n lt = omega arith
@@ -94,8 +98,12 @@ deliver_says id is =
 step_says : (servers sessions : ℕ) (x : Step) → servers ≤ 16 → sessions ≤ 16 → StepIsSayable servers sessions x → Says (step_toks x) (step_text x ++ [])
 unfolding step_text
 step_says servers sessions (Deliver id) f g is = deliver_says id is
-step_says servers sessions (Tick a) f g is = word_and_blank (codes "tick") (Word (actor_text a) ∷ []) (actor_text a ++ []) (record { letter = refl; parts = refl }) (word_says (actor_text a) [] [] (actor_is_word servers sessions a f g is) refl nil_says)
-step_says servers sessions (Halt a) f g is = word_and_blank (codes "halt") (Word (actor_text a) ∷ []) (actor_text a ++ []) (record { letter = refl; parts = refl }) (word_says (actor_text a) [] [] (actor_is_word servers sessions a f g is) refl nil_says)
+step_says servers sessions (Tick a) f g is = word_and_blank (codes "tick") (Word (actor_text a) ∷ [])
+    (actor_text a ++ []) (record { letter = refl; parts = refl })
+    (word_says (actor_text a) [] [] (actor_is_word servers sessions a f g is) refl nil_says)
+step_says servers sessions (Halt a) f g is = word_and_blank (codes "halt") (Word (actor_text a) ∷ [])
+    (actor_text a ++ []) (record { letter = refl; parts = refl })
+    (word_says (actor_text a) [] [] (actor_is_word servers sessions a f g is) refl nil_says)
 
 -- ---- it is read
 
@@ -109,15 +117,18 @@ deliver_again id is = rw (natural_is id.entry, le-leb 0 id.place (omega arith), 
     below : (n : ℕ) → n < 2 ^ 32 → n ≤ 4294967295
     below n lt = omega arith
 
-pub tick_again : (servers sessions : ℕ) (a : Actor) → servers ≤ 16 → sessions ≤ 16 → IsActorOf servers sessions a → tick servers sessions (Word (actor_text a) ∷ []) ≡ Ok (Tick a, [])
+pub tick_again : (servers sessions : ℕ) (a : Actor) → servers ≤ 16 → sessions ≤ 16 → IsActorOf servers sessions a
+    → tick servers sessions (Word (actor_text a) ∷ []) ≡ Ok (Tick a, [])
 unfolding tick
 tick_again servers sessions a f g is = rw (actor_again servers sessions a [] f g is) refl
 
-pub halt_again : (servers sessions : ℕ) (a : Actor) → servers ≤ 16 → sessions ≤ 16 → IsActorOf servers sessions a → halt servers sessions (Word (actor_text a) ∷ []) ≡ Ok (Halt a, [])
+pub halt_again : (servers sessions : ℕ) (a : Actor) → servers ≤ 16 → sessions ≤ 16 → IsActorOf servers sessions a
+    → halt servers sessions (Word (actor_text a) ∷ []) ≡ Ok (Halt a, [])
 unfolding halt
 halt_again servers sessions a f g is = rw (actor_again servers sessions a [] f g is) refl
 
-step_again : (n : ℕ) (s : Space) (regions : ℕ) (sessions : List (List Op)) (calls : ℕ) (front : List (ℕ × Step)) (x : Step) → s.servers ≤ 16 → length sessions ≤ 16 → StepIsSayable s.servers (length sessions) x → length front < 65536
+step_again : (n : ℕ) (s : Space) (regions : ℕ) (sessions : List (List Op)) (calls : ℕ) (front : List (ℕ × Step))
+    (x : Step) → s.servers ≤ 16 → length sessions ≤ 16 → StepIsSayable s.servers (length sessions) x → length front < 65536
     → line_of_toks n (stepping s regions sessions calls front) (step_toks x) ≡ Ok (stepping s regions sessions calls (front ++ (n, x) ∷ []))
 unfolding command step_line
 step_again n s regions sessions calls front (Deliver id) f g is room = rw (lt-ltb (length front) 65536 room, deliver_again id is) refl
@@ -132,25 +143,41 @@ with_steps s sessions steps = record { space = s; sessions = sessions; steps = s
 pub line_parts : (o n r : List ℕ) → (o ++ n) ++ r ≡ (o ++ []) ++ (n ++ r)
 line_parts o n r = simp (append_assoc, append-nil)
 
-step_reads : (n : ℕ) (s : Space) (regions : ℕ) (sessions : List (List Op)) (calls : ℕ) (front : List (ℕ × Step)) (x : ℕ × Step) (rest : List ℕ) (script : Script) → s.servers ≤ 16 → length sessions ≤ 16 → StepIsSayable s.servers (length sessions) x.1 → length front < 65536
-    → ReadsTo (n + 1) (stepping s regions sessions calls (front ++ (n + 1, x.1) ∷ [])) rest script → ReadsTo n (stepping s regions sessions calls front) (line_text x ++ rest) script
+step_reads : (n : ℕ) (s : Space) (regions : ℕ) (sessions : List (List Op)) (calls : ℕ) (front : List (ℕ × Step))
+    (x : ℕ × Step) (rest : List ℕ) (script : Script) → s.servers ≤ 16 → length sessions ≤ 16
+    → StepIsSayable s.servers (length sessions) x.1 → length front < 65536
+    → ReadsTo (n + 1) (stepping s regions sessions calls (front ++ (n + 1, x.1) ∷ [])) rest script
+    → ReadsTo n (stepping s regions sessions calls front) (line_text x ++ rest) script
 unfolding line_text
 step_reads n s regions sessions calls front x rest script f g is room next =
-    line_reads n (stepping s regions sessions calls front) (stepping s regions sessions calls (front ++ (n + 1, x.1) ∷ [])) (line_text x ++ rest) (step_text x.1 ++ []) rest (step_toks x.1) script
-    (line_parts (step_text x.1) (codes "\n") rest) (step_says s.servers (length sessions) x.1 f g is) (step_again (n + 1) s regions sessions calls front x.1 f g is room) next
+    line_reads n (stepping s regions sessions calls front)
+    (stepping s regions sessions calls (front ++ (n + 1, x.1) ∷ [])) (line_text x ++ rest)
+    (step_text x.1 ++ []) rest (step_toks x.1) script
+    (line_parts (step_text x.1) (codes "\n") rest) (step_says s.servers (length sessions) x.1 f g is)
+    (step_again (n + 1) s regions sessions calls front x.1 f g is room) next
 
-steps_end : (n : ℕ) (s : Space) (regions : ℕ) (sessions : List (List Op)) (calls : ℕ) (front : List (ℕ × Step)) → ReadsTo n (stepping s regions sessions calls front) [] (with_steps s sessions front)
+steps_end : (n : ℕ) (s : Space) (regions : ℕ) (sessions : List (List Op)) (calls : ℕ) (front : List (ℕ × Step))
+    → ReadsTo n (stepping s regions sessions calls front) [] (with_steps s sessions front)
 unfolding read_lines
 steps_end n s regions sessions calls front = record { reads = refl }
 
-pub steps_read : (left : List (ℕ × Step)) (n : ℕ) (s : Space) (regions : ℕ) (sessions : List (List Op)) (calls : ℕ) (front : List (ℕ × Step)) → s.servers ≤ 16 → length sessions ≤ 16 → All (λ (x : ℕ × Step). StepIsSayable s.servers (length sessions) x.1) left → length front + length left ≤ 65536
+pub steps_read : (left : List (ℕ × Step)) (n : ℕ) (s : Space) (regions : ℕ) (sessions : List (List Op)) (calls : ℕ)
+    (front : List (ℕ × Step)) → s.servers ≤ 16 → length sessions ≤ 16
+    → All (λ (x : ℕ × Step). StepIsSayable s.servers (length sessions) x.1) left → length front + length left ≤ 65536
     → ReadsTo n (stepping s regions sessions calls front) (flat_map line_text left) (with_steps s sessions (front ++ on_lines_from (n + 1) left))
-steps_read [] n s regions sessions calls front f g all few = subst (λ (xs : List (ℕ × Step)). ReadsTo n (stepping s regions sessions calls front) [] (with_steps s sessions xs)) (sym (append-nil front)) (steps_end n s regions sessions calls front)
+steps_read [] n s regions sessions calls front f g all few =
+    subst (λ (xs : List (ℕ × Step)). ReadsTo n (stepping s regions sessions calls front) []
+    (with_steps s sessions xs)) (sym (append-nil front)) (steps_end n s regions sessions calls front)
 steps_read (x ∷ left) n s regions sessions calls front f g all few =
     let one : ℕ × Step = (n + 1, x.1) in
     let P : ℕ × Step → Type 0 = λ (y : ℕ × Step). StepIsSayable s.servers (length sessions) y.1 in
-    let more : ReadsTo (n + 1) (stepping s regions sessions calls (front ++ one ∷ [])) (flat_map line_text left) (with_steps s sessions ((front ++ one ∷ []) ++ on_lines_from (n + 1 + 1) left)) =
+    let more : ReadsTo (n + 1) (stepping s regions sessions calls (front ++ one ∷ [])) (flat_map line_text left)
+    (with_steps s sessions ((front ++ one ∷ []) ++ on_lines_from (n + 1 + 1) left)) =
     steps_read left (n + 1) s regions sessions calls (front ++ one ∷ []) f g (All-tail P x left all) (omega (arith, few, length-append front (one ∷ []))) in
-    subst (λ (text : List ℕ). ReadsTo n (stepping s regions sessions calls front) text (with_steps s sessions (front ++ one ∷ on_lines_from (n + 1 + 1) left))) (sym (flat_map-cons line_text x left))
-    (step_reads n s regions sessions calls front x (flat_map line_text left) (with_steps s sessions (front ++ one ∷ on_lines_from (n + 1 + 1) left)) f g (All-head P x left all) (omega (arith, few))
-    (subst (λ (xs : List (ℕ × Step)). ReadsTo (n + 1) (stepping s regions sessions calls (front ++ one ∷ [])) (flat_map line_text left) (with_steps s sessions xs)) (append_assoc front (one ∷ []) (on_lines_from (n + 1 + 1) left)) more))
+    subst (λ (text : List ℕ). ReadsTo n (stepping s regions sessions calls front) text
+    (with_steps s sessions (front ++ one ∷ on_lines_from (n + 1 + 1) left))) (sym (flat_map-cons line_text x left))
+    (step_reads n s regions sessions calls front x (flat_map line_text left)
+    (with_steps s sessions (front ++ one ∷ on_lines_from (n + 1 + 1) left)) f g (All-head P x left all) (omega (arith, few))
+    (subst (λ (xs : List (ℕ × Step)). ReadsTo (n + 1) (stepping s regions sessions calls (front ++ one ∷ []))
+    (flat_map line_text left) (with_steps s sessions xs))
+    (append_assoc front (one ∷ []) (on_lines_from (n + 1 + 1) left)) more))

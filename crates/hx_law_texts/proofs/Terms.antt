@@ -26,16 +26,22 @@ range_toks w lo hi ts = Word w ∷ Sign (codes "=") ∷ Number lo ∷ Sign (code
 range_parts : (o n e l d h r : List ℕ) → (o ++ n ++ e ++ l ++ d ++ h) ++ r ≡ o ++ (n ++ (e ++ (l ++ (d ++ (h ++ r)))))
 range_parts o n e l d h r = simp append_assoc
 
-range_says : (w : List ℕ) (lo hi : ℤ) (ts : List Tok) (rest : List ℕ) → IsWord w → FitsSigned w64 lo → FitsSigned w64 hi → begins_with is_digit rest ≡ false → Says ts rest → Says (range_toks w lo hi ts) (range_text w lo hi ++ rest)
+range_says : (w : List ℕ) (lo hi : ℤ) (ts : List Tok) (rest : List ℕ) → IsWord w → FitsSigned w64 lo
+    → FitsSigned w64 hi → begins_with is_digit rest ≡ false → Says ts rest
+    → Says (range_toks w lo hi ts) (range_text w lo hi ++ rest)
 unfolding range_text
 range_says w lo hi ts rest is low high stop h =
     let two : Says (Number hi ∷ ts) (signed_decimal hi ++ rest) = signed_says hi ts rest high stop h in
     let tail : List ℕ = 46 ∷ 46 ∷ (signed_decimal hi ++ rest) in
     let dots : Says (Sign (codes "..") ∷ Number hi ∷ ts) tail = dots_say (Number hi ∷ ts) (signed_decimal hi ++ rest) two in
-    let one : Says (Number lo ∷ Sign (codes "..") ∷ Number hi ∷ ts) (signed_decimal lo ++ tail) = signed_says lo (Sign (codes "..") ∷ Number hi ∷ ts) tail low refl dots in
-    subst (λ (x : List ℕ). Says (range_toks w lo hi ts) x) (sym (range_parts (codes " ") w (codes "=") (signed_decimal lo) (codes "..") (signed_decimal hi) rest))
+    let one : Says (Number lo ∷ Sign (codes "..") ∷ Number hi ∷ ts) (signed_decimal lo ++ tail) =
+    signed_says lo (Sign (codes "..") ∷ Number hi ∷ ts) tail low refl dots in
+    subst (λ (x : List ℕ). Says (range_toks w lo hi ts) x)
+    (sym (range_parts (codes " ") w (codes "=") (signed_decimal lo) (codes "..") (signed_decimal hi) rest))
     (blank_says (range_toks w lo hi ts) (w ++ (61 ∷ (signed_decimal lo ++ tail)))
-    (word_says w (Sign (codes "=") ∷ Number lo ∷ Sign (codes "..") ∷ Number hi ∷ ts) (61 ∷ (signed_decimal lo ++ tail)) is refl (equals_says (Number lo ∷ Sign (codes "..") ∷ Number hi ∷ ts) (signed_decimal lo ++ tail) one)))
+    (word_says w (Sign (codes "=") ∷ Number lo ∷ Sign (codes "..") ∷ Number hi ∷ ts)
+    (61 ∷ (signed_decimal lo ++ tail)) is refl (equals_says (Number lo ∷ Sign (codes "..") ∷ Number hi ∷ ts)
+    (signed_decimal lo ++ tail) one)))
 
 abbrev term_toks : Space → Term → List Tok → List Tok
 term_toks s (Equal a v) ts = named_toks (name_of s a) v ts
@@ -89,7 +95,8 @@ is_next s made t left is are = record {
   said = All-head TermIsSayable t left are.said;
 }
 
-term_says : (s : Space) (t : Term) (made : List Term) (ts : List Tok) (rest : List ℕ) → IsNext s made t → begins_with is_digit rest ≡ false → Says ts rest → Says (term_toks s t ts) (term_text s t ++ rest)
+term_says : (s : Space) (t : Term) (made : List Term) (ts : List Tok) (rest : List ℕ) → IsNext s made t
+    → begins_with is_digit rest ≡ false → Says ts rest → Says (term_toks s t ts) (term_text s t ++ rest)
 term_says s (Equal a v) made ts rest is stop h = named_says (name_of s a) v ts rest is.known.name.word is.said stop h
 term_says s (Range a lo hi) made ts rest is stop h = range_says (name_of s a) lo hi ts rest is.known.name.word is.said.0 is.said.1 stop h
 
@@ -97,7 +104,8 @@ terms_say_left : (left : List Term) (s : Space) (made : List Term) → IsSpace s
 terms_say_left [] s made is are = nil_says
 terms_say_left (t ∷ left) s made is are =
     subst (λ (x : List ℕ). Says (terms_toks s (t ∷ left)) x) (sym (terms_cons s t left))
-    (term_says s t made (terms_toks s left) (terms_text s left ++ []) (is_next s made t left is are) (goes_no_further is_digit s left refl) (terms_say_left left s (made ++ t ∷ []) is (left_after s made t left are)))
+    (term_says s t made (terms_toks s left) (terms_text s left ++ []) (is_next s made t left is are)
+    (goes_no_further is_digit s left refl) (terms_say_left left s (made ++ t ∷ []) is (left_after s made t left are)))
 
 -- ---- they are read
 
@@ -125,10 +133,12 @@ goes_past : (s : Space) (t : Term) (ts : List Tok) → is_at until.End (term_tok
 goes_past s (Equal a v) ts = refl
 goes_past s (Range a lo hi) ts = refl
 
-again_left : (left : List Term) (s : Space) (made : List Term) → IsSpace s → AreLeft s made left → repeat until.End (one_more_term s) made (terms_toks s left) ≡ Ok (made ++ left, [])
+again_left : (left : List Term) (s : Space) (made : List Term) → IsSpace s → AreLeft s made left
+    → repeat until.End (one_more_term s) made (terms_toks s left) ≡ Ok (made ++ left, [])
 again_left [] s made is are = terms_end s made [] refl ∙ ap (λ (x : List Term). Ok (x, [])) (sym (append-nil made))
 again_left (t ∷ left) s made is are =
-    terms_go_on s made (terms_toks s (t ∷ left)) t (terms_toks s left) (goes_past s t (terms_toks s left)) (term_again s made t (terms_toks s left) (no_dots s left) (is_next s made t left is are))
+    terms_go_on s made (terms_toks s (t ∷ left)) t (terms_toks s left) (goes_past s t (terms_toks s left))
+    (term_again s made t (terms_toks s left) (no_dots s left) (is_next s made t left is are))
     ∙ again_left left s (made ++ t ∷ []) is (left_after s made t left are)
     ∙ ap (λ (x : List Term). Ok (x, [])) (append_assoc made (t ∷ []) left)
 
@@ -138,5 +148,6 @@ left_of s terms fit said = record { each = fit.each; once = fit.once; said = sai
 pub terms_say : (s : Space) (terms : List Term) → IsSpace s → TermsFit s terms → All TermIsSayable terms → Says (terms_toks s terms) (terms_text s terms ++ [])
 terms_say s terms is fit said = terms_say_left terms s [] is (left_of s terms fit said)
 
-pub terms_again : (s : Space) (terms : List Term) → IsSpace s → TermsFit s terms → All TermIsSayable terms → repeat until.End (one_more_term s) [] (terms_toks s terms) ≡ Ok (terms, [])
+pub terms_again : (s : Space) (terms : List Term) → IsSpace s → TermsFit s terms → All TermIsSayable terms
+    → repeat until.End (one_more_term s) [] (terms_toks s terms) ≡ Ok (terms, [])
 terms_again s terms is fit said = again_left terms s [] is (left_of s terms fit said)

@@ -20,7 +20,8 @@ pub record Tells {A : Type 0} (p : Reader A) (Q : A → Type 0) : Type 0 where
 abbrev pub Any : {A : Type 0} → A → Type 0
 Any x = Unit {0}
 
-pub tells_then : {A B : Type 0} {p : Reader A} {f : A → Reader B} (P : A → Type 0) {Q : B → Type 0} → Tells p P → ((a : A) → P a → Tells (f a) Q) → Tells (p >>= f) Q
+pub tells_then : {A B : Type 0} {p : Reader A} {f : A → Reader B} (P : A → Type 0) {Q : B → Type 0} → Tells p P
+    → ((a : A) → P a → Tells (f a) Q) → Tells (p >>= f) Q
 tells_then {A} {B} {p} {f} P {Q} tp tf = record {
   at = λ ts x all e.
       let o = on_ok_ok (p ts) (λ y. f y.0 y.1) x e in
@@ -110,7 +111,9 @@ at_most lo hi (negsuc n) h = absurd cc
 
 pub tells_number_in : (lo hi : ℕ) → Tells (number_in lo hi) (λ n. n ≤ hi)
 unfolding number_in
-tells_number_in lo hi = tells_then (FitsSigned w64) tells_number (λ n f. tells_then (λ u. is_between lo hi n ≡ true) (tells_true (is_between lo hi n) Bounds) (λ u h. tells_give (nat_of n) (at_most lo hi n h)))
+tells_number_in lo hi = tells_then (FitsSigned w64) tells_number
+    (λ n f. tells_then (λ u. is_between lo hi n ≡ true) (tells_true (is_between lo hi n) Bounds)
+    (λ u h. tells_give (nat_of n) (at_most lo hi n h)))
 
 small : (n : ℤ) → FitsSigned w64 n → int_le (pos 0) n ≡ true → nat_of n < 2 ^ 63
 small (pos n) f h = f.sfits
@@ -118,14 +121,18 @@ small (negsuc n) f h = absurd cc
 
 pub tells_natural : Tells natural (λ n. n < 2 ^ 63)
 unfolding natural
-tells_natural = tells_then (FitsSigned w64) tells_number (λ n f. tells_then (λ u. int_le (pos 0) n ≡ true) (tells_true (int_le (pos 0) n) Bounds) (λ u h. tells_give (nat_of n) (small n f h)))
+tells_natural = tells_then (FitsSigned w64) tells_number
+    (λ n f. tells_then (λ u. int_le (pos 0) n ≡ true) (tells_true (int_le (pos 0) n) Bounds)
+    (λ u h. tells_give (nat_of n) (small n f h)))
 
 pub tells_number_from : (lo : ℤ) → Tells (number_from lo) (FitsSigned w64)
 unfolding number_from
 tells_number_from lo = tells_then (FitsSigned w64) tells_number (λ hi f. tells_then Any (tells_check (int_le lo hi) Bounds) (λ u h. tells_give hi f))
 
 -- what each step keeps stands behind a repetition
-steps_tell : {B : Type 0} (Q : B → Type 0) (u : Until) (step : B → Reader B) → ((b : B) → Q b → Tells (step b) Q) → (fuel : ℕ) (b : B) → Q b → (ts : List Tok) (x : B × List Tok) → AllTold ts → steps u step fuel b ts ≡ Ok x → Q x.0 × AllTold x.1
+steps_tell : {B : Type 0} (Q : B → Type 0) (u : Until) (step : B → Reader B) → ((b : B) → Q b → Tells (step b) Q)
+    → (fuel : ℕ) (b : B) → Q b → (ts : List Tok) (x : B × List Tok) → AllTold ts → steps u step fuel b ts ≡ Ok x
+    → Q x.0 × AllTold x.1
 unfolding steps
 steps_tell {B} Q u step y zero b q ts x all e = by_end (is_at u ts) e
   where
@@ -134,12 +141,15 @@ steps_tell {B} Q u step y zero b q ts x all e = by_end (is_at u ts) e
     by_end false e = absurd cc
 steps_tell {B} Q u step y (suc fuel) b q ts x all e = by_end (is_at u ts) (λ c r us z more f. steps_tell Q u step y fuel c r us z more f) e
   where
-    by_end : (t : Bool) → ((c : B) → Q c → (us : List Tok) (z : B × List Tok) → AllTold us → steps u step fuel c us ≡ Ok z → Q z.0 × AllTold z.1) → cond t (Ok (b, ts)) ((step b >>= steps u step fuel) ts) ≡ Ok x → Q x.0 × AllTold x.1
+    by_end : (t : Bool) → ((c : B) → Q c → (us : List Tok) (z : B × List Tok) → AllTold us
+        → steps u step fuel c us ≡ Ok z → Q z.0 × AllTold z.1)
+        → cond t (Ok (b, ts)) ((step b >>= steps u step fuel) ts) ≡ Ok x → Q x.0 × AllTold x.1
     by_end true again e = subst (λ (y : B × List Tok). Q y.0 × AllTold y.1) (ok_is (b, ts) x e) (q, all)
     by_end false again e =
         let o = on_ok_ok (step b ts) (λ y. steps u step fuel y.0 y.1) x e in
         let a = (y b q).at ts o.0 all o.1 in
         again o.0.0 a.0 o.0.1 x a.1 o.2
 
-pub tells_repeat : {B : Type 0} (Q : B → Type 0) (u : Until) (step : B → Reader B) → ((b : B) → Q b → Tells (step b) Q) → (b : B) → Q b → Tells (repeat u step b) Q
+pub tells_repeat : {B : Type 0} (Q : B → Type 0) (u : Until) (step : B → Reader B)
+    → ((b : B) → Q b → Tells (step b) Q) → (b : B) → Q b → Tells (repeat u step b) Q
 tells_repeat Q u step y b q = record { at = λ ts x all e. steps_tell Q u step y (length ts) b q ts x all e }

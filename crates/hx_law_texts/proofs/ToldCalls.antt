@@ -43,7 +43,9 @@ tells_any_value = record { at = any_value_at }
 
 tells_value : (kind : Kind) → Tells (value kind) IsSayable
 unfolding value
-tells_value kind = tells_then IsSayable tells_any_value (λ v is. tells_then Any (tells_check (is_of kind v) TypeOf) (λ u k. tells_then Any (tells_check (is_short v) Limit) (λ u s. tells_give v is)))
+tells_value kind = tells_then IsSayable tells_any_value
+    (λ v is. tells_then Any (tells_check (is_of kind v) TypeOf)
+    (λ u k. tells_then Any (tells_check (is_short v) Limit) (λ u s. tells_give v is)))
 
 -- ---- assignments
 
@@ -52,11 +54,15 @@ Said a = IsSayable a.value
 
 tells_free : (space : Space) (assigns : List Assign) → Tells (free_attribute space assigns) Any
 unfolding free_attribute
-tells_free space assigns = tells_then Any tells_named (λ w m. tells_then (λ a. declared_number space w ≡ Ok a) (tells_judged (declared_number space w)) (λ a d. tells_then Any (tells_check (not (has_assign assigns a)) Twice) (λ u n. tells_give a tt)))
+tells_free space assigns = tells_then Any tells_named
+    (λ w m. tells_then (λ a. declared_number space w ≡ Ok a) (tells_judged (declared_number space w))
+    (λ a d. tells_then Any (tells_check (not (has_assign assigns a)) Twice) (λ u n. tells_give a tt)))
 
 tells_assign : (space : Space) (assigns : List Assign) → Tells (assign space assigns) Said
 unfolding assign
-tells_assign space assigns = tells_then Any (tells_free space assigns) (λ a f. tells_then Any (tells_sign (codes "=")) (λ u t. tells_then IsSayable (tells_value (kind_at space a)) (λ v s. tells_give (record { attribute = a; value = v }) s)))
+tells_assign space assigns = tells_then Any (tells_free space assigns)
+    (λ a f. tells_then Any (tells_sign (codes "="))
+    (λ u t. tells_then IsSayable (tells_value (kind_at space a)) (λ v s. tells_give (record { attribute = a; value = v }) s)))
 
 tells_one_more : (space : Space) (assigns : List Assign) → ValuesAreSayable assigns → Tells (one_more space assigns) ValuesAreSayable
 unfolding one_more
@@ -73,11 +79,14 @@ tells_some space u = tells_then ValuesAreSayable (tells_one_more space [] (All-n
 
 tells_free_known : (space : Space) (terms : List Term) → Tells (free_known space terms) Any
 unfolding free_known
-tells_free_known space terms = tells_then Any tells_named (λ w m. tells_then (λ a. known_number space w ≡ Ok a) (tells_judged (known_number space w)) (λ a d. tells_then Any (tells_check (not (has_term terms a)) Twice) (λ u n. tells_give a tt)))
+tells_free_known space terms = tells_then Any tells_named
+    (λ w m. tells_then (λ a. known_number space w ≡ Ok a) (tells_judged (known_number space w))
+    (λ a d. tells_then Any (tells_check (not (has_term terms a)) Twice) (λ u n. tells_give a tt)))
 
 tells_range : (a : ℕ) (lo : ℤ) → FitsSigned w64 lo → Tells (range a lo) TermIsSayable
 unfolding range
-tells_range a lo f = tells_then Any (tells_sign (codes "..")) (λ u t. tells_then (FitsSigned w64) (tells_number_from lo) (λ hi h. tells_give (Range a lo hi) (f, h)))
+tells_range a lo f = tells_then Any (tells_sign (codes ".."))
+    (λ u t. tells_then (FitsSigned w64) (tells_number_from lo) (λ hi h. tells_give (Range a lo hi) (f, h)))
 
 tells_either : (b : Bool) (a : ℕ) (n : ℤ) → FitsSigned w64 n → Tells (range_or_equal b a n) TermIsSayable
 tells_either true a n f = tells_range a n f
@@ -89,11 +98,14 @@ tells_rest a (values.Int n) is = record { at = λ ts x all e. (tells_either (is_
 
 tells_term : (space : Space) (terms : List Term) → Tells (term space terms) TermIsSayable
 unfolding term
-tells_term space terms = tells_then Any (tells_free_known space terms) (λ a f. tells_then Any (tells_sign (codes "=")) (λ u t. tells_then IsSayable (tells_value (kind_at space a)) (λ v s. tells_rest a v s)))
+tells_term space terms = tells_then Any (tells_free_known space terms)
+    (λ a f. tells_then Any (tells_sign (codes "="))
+    (λ u t. tells_then IsSayable (tells_value (kind_at space a)) (λ v s. tells_rest a v s)))
 
 tells_one_more_term : (space : Space) (terms : List Term) → All TermIsSayable terms → Tells (one_more_term space terms) (All TermIsSayable)
 unfolding one_more_term
-tells_one_more_term space terms said = tells_then TermIsSayable (tells_term space terms) (λ t s. tells_give (terms ++ t ∷ []) (All-push TermIsSayable terms t said s))
+tells_one_more_term space terms said = tells_then TermIsSayable (tells_term space terms)
+    (λ t s. tells_give (terms ++ t ∷ []) (All-push TermIsSayable terms t said s))
 
 tells_terms : (space : Space) → Tells (all_terms space) (All TermIsSayable)
 tells_terms space = tells_repeat (All TermIsSayable) until.End (one_more_term space) (λ b q. tells_one_more_term space b q) [] (All-nil TermIsSayable)
@@ -143,7 +155,9 @@ tells_some_edits space =
 
 tells_put : (space : Space) → Tells (put space) CallIsSayable
 unfolding put
-tells_put space = tells_then IsText tells_short_text (λ key k. tells_then ValuesAreSayable (tells_more space until.End [] (All-nil Said)) (λ sets s. tells_give (Put key sets) (k, s)))
+tells_put space = tells_then IsText tells_short_text
+    (λ key k. tells_then ValuesAreSayable (tells_more space until.End [] (All-nil Said))
+    (λ sets s. tells_give (Put key sets) (k, s)))
 
 tells_get : Tells get CallIsSayable
 unfolding get
@@ -155,7 +169,11 @@ tells_del = tells_then IsText tells_short_text (λ key k. tells_then Any tells_e
 
 tells_cput : (space : Space) → Tells (cput space) CallIsSayable
 unfolding cput
-tells_cput space = tells_then IsText tells_short_text (λ key k. tells_then Any (tells_fixed (codes "if")) (λ u v. tells_then ValuesAreSayable (tells_some space until.Set) (λ tests t. tells_then Any (tells_fixed (codes "set")) (λ w x. tells_then ValuesAreSayable (tells_some space until.End) (λ sets s. tells_give (Cput key tests sets) (k, t, s))))))
+tells_cput space = tells_then IsText tells_short_text
+    (λ key k. tells_then Any (tells_fixed (codes "if"))
+    (λ u v. tells_then ValuesAreSayable (tells_some space until.Set)
+    (λ tests t. tells_then Any (tells_fixed (codes "set"))
+    (λ w x. tells_then ValuesAreSayable (tells_some space until.End) (λ sets s. tells_give (Cput key tests sets) (k, t, s))))))
 
 tells_search : (space : Space) → Tells (search_call space) CallIsSayable
 unfolding search_call
@@ -163,15 +181,19 @@ tells_search space = tells_then (All TermIsSayable) (tells_terms space) (λ term
 
 tells_stop : (space : Space) → Tells (stop space) CallIsSayable
 unfolding stop
-tells_stop space = tells_then (λ n. n ≤ space.servers) (tells_number_in 1 space.servers) (λ n h. tells_then Any tells_end (λ u t. tells_give (Stop (record { 0 = n })) tt))
+tells_stop space = tells_then (λ n. n ≤ space.servers) (tells_number_in 1 space.servers)
+    (λ n h. tells_then Any tells_end (λ u t. tells_give (Stop (record { 0 = n })) tt))
 
 tells_add : (space : Space) (regions : ℕ) → Tells (add space regions) CallIsSayable
 unfolding add
-tells_add space regions = tells_then (λ n. n ≤ space.servers) (tells_number_in 1 space.servers) (λ n h. tells_then (λ g. g ≤ regions - 1) (tells_number_in 0 (regions - 1)) (λ g k. tells_then Any tells_end (λ u t. tells_give (Add (record { 0 = n }) (record { 0 = g })) tt)))
+tells_add space regions = tells_then (λ n. n ≤ space.servers) (tells_number_in 1 space.servers)
+    (λ n h. tells_then (λ g. g ≤ regions - 1) (tells_number_in 0 (regions - 1))
+    (λ g k. tells_then Any tells_end (λ u t. tells_give (Add (record { 0 = n }) (record { 0 = g })) tt)))
 
 tells_atomic : (space : Space) → Tells (atomic space) CallIsSayable
 unfolding atomic
-tells_atomic space = tells_then IsText tells_short_text (λ key k. tells_then EditsAreSayable (tells_some_edits space) (λ edits s. tells_give (Atomic key edits) (k, s)))
+tells_atomic space = tells_then IsText tells_short_text
+    (λ key k. tells_then EditsAreSayable (tells_some_edits space) (λ edits s. tells_give (Atomic key edits) (k, s)))
 
 pub tells_call : (space : Space) (regions : ℕ) (w : CallWord) → Tells (call space regions w) CallIsSayable
 tells_call space regions calls.Put = tells_put space
@@ -191,16 +213,23 @@ done x = Ok x
 number_word_is : (most : ℕ) (digits : List ℕ) (n : ℕ) → number_word most digits ≡ Ok n → IsUpTo most n
 number_word_is most digits n e = by_tests (is_decimal digits) (nat_le 1 (value_of digits) && nat_le (value_of digits) most) refl e
   where
-    by_tests : (p q : Bool) → (nat_le 1 (value_of digits) && nat_le (value_of digits) most) ≡ q → cond (not p) (Err Order) (cond q (Ok (value_of digits)) (Err Bounds)) ≡ Ok n → IsUpTo most n
+    by_tests : (p q : Bool) → (nat_le 1 (value_of digits) && nat_le (value_of digits) most) ≡ q
+        → cond (not p) (Err Order) (cond q (Ok (value_of digits)) (Err Bounds)) ≡ Ok n → IsUpTo most n
     by_tests false q h e = absurd cc
     by_tests true false h e = absurd cc
-    by_tests true true h e = subst (IsUpTo most) (ok_is (value_of digits) n e) (leb-true 1 (value_of digits) (and_left (nat_le 1 (value_of digits)) (nat_le (value_of digits) most) h), leb-true (value_of digits) most (and_right (nat_le 1 (value_of digits)) (nat_le (value_of digits) most) h))
+    by_tests true true h e = subst (IsUpTo most) (ok_is (value_of digits) n e) (
+      leb-true 1 (value_of digits) (and_left (nat_le 1 (value_of digits)) (nat_le (value_of digits) most) h),
+      leb-true (value_of digits) most (and_right (nat_le 1 (value_of digits)) (nat_le (value_of digits) most) h),
+    )
 
 actor_word_is : (servers sessions : ℕ) (w : List ℕ) (a : Actor) → actor_word servers sessions w ≡ Ok a → IsActorOf servers sessions a
 actor_word_is servers sessions [] a e = absurd cc
 actor_word_is servers sessions (b ∷ digits) a e = by_tests (b == 99 && length digits == 0) (b == 115) (b == 117) e
   where
-    by_tests : (p q r : Bool) → cond p (Ok Coordinator) (cond q (on_ok (number_word servers digits) (λ n. Ok (Server (record { 0 = n })))) (cond r (on_ok (number_word sessions digits) (λ n. Ok (Session (record { 0 = n })))) (Err Order))) ≡ Ok a → IsActorOf servers sessions a
+    by_tests : (p q r : Bool) → cond p (Ok Coordinator)
+        (cond q (on_ok (number_word servers digits) (λ n. Ok (Server (record { 0 = n }))))
+        (cond r (on_ok (number_word sessions digits) (λ n. Ok (Session (record { 0 = n })))) (Err Order))) ≡ Ok a
+        → IsActorOf servers sessions a
     by_tests true q r e = subst (IsActorOf servers sessions) (ok_is Coordinator a e) tt
     by_tests false true r e =
         let o = on_ok_ok (number_word servers digits) (λ (n : ℕ). done (Server (record { 0 = n }))) a e in
@@ -212,13 +241,23 @@ actor_word_is servers sessions (b ∷ digits) a e = by_tests (b == 99 && length 
 
 tells_actor : (servers sessions : ℕ) → Tells (actor servers sessions) (IsActorOf servers sessions)
 unfolding actor
-tells_actor servers sessions = tells_then Any tells_word (λ w u. record { at = λ ts x all e. let j = (tells_judged (actor_word servers sessions w)).at ts x all e in (actor_word_is servers sessions w x.0 j.0, j.1) })
+tells_actor servers sessions = tells_then Any tells_word
+    (λ w u. record {
+      at = λ ts x all e. let j = (tells_judged (actor_word servers sessions w)).at ts x all e in
+          (actor_word_is servers sessions w x.0 j.0, j.1);
+    })
 
 of_32_bits : (n : ℕ) → n ≤ 4294967295 → n < 2 ^ 32
 of_32_bits n le = omega arith
 
 pub tells_step : (servers sessions : ℕ) (w : StepWord) → Tells (step servers sessions w) (StepIsSayable servers sessions)
 unfolding deliver tick halt
-tells_step servers sessions step_words.Deliver = tells_then (λ n. n < 2 ^ 63) tells_natural (λ n f. tells_then Any (tells_sign (codes ".")) (λ v t. tells_then (λ p. p ≤ 4294967295) (tells_number_in 0 4294967295) (λ p h. tells_then Any tells_end (λ x y. tells_give (Deliver (record { entry = n; place = p })) (record { entry = f; place = of_32_bits p h })))))
-tells_step servers sessions step_words.Tick = tells_then (IsActorOf servers sessions) (tells_actor servers sessions) (λ a is. tells_then Any tells_end (λ x y. tells_give (Tick a) is))
-tells_step servers sessions step_words.Halt = tells_then (IsActorOf servers sessions) (tells_actor servers sessions) (λ a is. tells_then Any tells_end (λ x y. tells_give (Halt a) is))
+tells_step servers sessions step_words.Deliver =
+    tells_then (λ n. n < 2 ^ 63) tells_natural (λ n f. tells_then Any (tells_sign (codes "."))
+    (λ v t. tells_then (λ p. p ≤ 4294967295) (tells_number_in 0 4294967295)
+    (λ p h. tells_then Any tells_end (λ x y. tells_give (Deliver (record { entry = n; place = p }))
+    (record { entry = f; place = of_32_bits p h })))))
+tells_step servers sessions step_words.Tick = tells_then (IsActorOf servers sessions) (tells_actor servers sessions)
+    (λ a is. tells_then Any tells_end (λ x y. tells_give (Tick a) is))
+tells_step servers sessions step_words.Halt = tells_then (IsActorOf servers sessions) (tells_actor servers sessions)
+    (λ a is. tells_then Any tells_end (λ x y. tells_give (Halt a) is))

@@ -53,7 +53,9 @@ no_steps servers sessions (x ∷ xs) e = absurd cc
 
 tells_hx : (d : Draft) → BoundsSoFar d → CallsSoFar d → d.steps ≡ [] → Tells (hx_line d) Said
 unfolding hx_line
-tells_hx d b c e = tells_then (λ n. n ≤ 1) (tells_number_in 1 1) (λ n h. tells_then Any tells_end (λ u t. tells_give (record d { section = sections.Naming }) (record { bounds = b; calls = c; steps = no_steps d.space.servers (length d.sessions) d.steps e; stage = e })))
+tells_hx d b c e = tells_then (λ n. n ≤ 1) (tells_number_in 1 1)
+    (λ n h. tells_then Any tells_end (λ u t. tells_give (record d { section = sections.Naming })
+    (record { bounds = b; calls = c; steps = no_steps d.space.servers (length d.sessions) d.steps e; stage = e })))
 
 pub tells_name : Tells name Any
 unfolding name
@@ -61,11 +63,16 @@ tells_name = tells_then Any tells_named (λ w u. tells_then Any (tells_check (na
 
 tells_space : (d : Draft) → BoundsSoFar d → CallsSoFar d → d.steps ≡ [] → Tells (space_line d) Said
 unfolding space_line
-tells_space d b c e = tells_then Any tells_name (λ w i. tells_then Any tells_end (λ u t. tells_give (record d { section = sections.Keying; space = record d.space { name = w } }) (record { bounds = b; calls = c; steps = no_steps d.space.servers (length d.sessions) d.steps e; stage = e })))
+tells_space d b c e = tells_then Any tells_name (λ w i. tells_then Any tells_end
+    (λ u t. tells_give (record d { section = sections.Keying; space = record d.space { name = w } })
+    (record { bounds = b; calls = c; steps = no_steps d.space.servers (length d.sessions) d.steps e; stage = e })))
 
 tells_key : (d : Draft) → BoundsSoFar d → CallsSoFar d → d.steps ≡ [] → Tells (key_line d) Said
 unfolding key_line
-tells_key d b c e = tells_then Any tells_name (λ w i. tells_then (λ n. n ≤ 256) (tells_number_in 1 256) (λ n h. tells_then Any tells_end (λ u t. tells_give (record d { section = sections.Attributes; regions = n; space = record d.space { key_name = w; key_parts = n } }) (record { bounds = b; calls = c; steps = no_steps d.space.servers (length d.sessions) d.steps e; stage = e }))))
+tells_key d b c e = tells_then Any tells_name (λ w i. tells_then (λ n. n ≤ 256) (tells_number_in 1 256)
+    (λ n h. tells_then Any tells_end (λ u t. tells_give
+    (record d { section = sections.Attributes; regions = n; space = record d.space { key_name = w; key_parts = n } })
+    (record { bounds = b; calls = c; steps = no_steps d.space.servers (length d.sessions) d.steps e; stage = e }))))
 
 -- ---- attributes
 
@@ -74,7 +81,9 @@ IsBounded a = BoundsAreSayable a.kind
 
 tells_new_name : (space : Space) → Tells (new_name space) Any
 unfolding new_name
-tells_new_name space = tells_then Any tells_named (λ w m. tells_then Any (tells_check (not (is_declared space w)) Twice) (λ u n. tells_then Any (tells_check (nat_le (length w) 32) Limit) (λ u h. tells_give w tt)))
+tells_new_name space = tells_then Any tells_named
+    (λ w m. tells_then Any (tells_check (not (is_declared space w)) Twice)
+    (λ u n. tells_then Any (tells_check (nat_le (length w) 32) Limit) (λ u h. tells_give w tt)))
 
 pub tells_string : (space : Space) → Tells (string_attribute space) IsBounded
 unfolding string_attribute
@@ -82,26 +91,43 @@ tells_string space = tells_then Any (tells_new_name space) (λ w n. tells_then A
 
 pub tells_int : (space : Space) → Tells (int_attribute space) IsBounded
 unfolding int_attribute
-tells_int space = tells_then Any (tells_new_name space) (λ w n. tells_then (FitsSigned w64) tells_number (λ lo f. tells_then (FitsSigned w64) (tells_number_from lo) (λ hi g. tells_then Any tells_end (λ u t. tells_give (record { name = w; kind = kinds.Int lo hi }) (f, g)))))
+tells_int space = tells_then Any (tells_new_name space)
+    (λ w n. tells_then (FitsSigned w64) tells_number
+    (λ lo f. tells_then (FitsSigned w64) (tells_number_from lo)
+    (λ hi g. tells_then Any tells_end (λ u t. tells_give (record { name = w; kind = kinds.Int lo hi }) (f, g)))))
 
-tells_attribute : (d : Draft) (attribute : Space → Reader Attribute) → d.section ≡ sections.Attributes → BoundsSoFar d → CallsSoFar d → d.steps ≡ [] → Tells (attribute d.space) IsBounded → Tells (attribute_line d attribute) Said
+tells_attribute : (d : Draft) (attribute : Space → Reader Attribute) → d.section ≡ sections.Attributes → BoundsSoFar d
+    → CallsSoFar d → d.steps ≡ [] → Tells (attribute d.space) IsBounded → Tells (attribute_line d attribute) Said
 unfolding attribute_line
-tells_attribute d attribute s b c e y = tells_then Any (tells_check (nat_lt (length d.space.attributes) 16) Limit) (λ u room. tells_then IsBounded y (λ a n. tells_give (record d { space = record d.space { attributes = d.space.attributes ++ a ∷ [] } })
-    (record { bounds = All-push IsBounded d.space.attributes a b n; calls = c; steps = no_steps d.space.servers (length d.sessions) d.steps e; stage = rw s e })))
+tells_attribute d attribute s b c e y = tells_then Any (tells_check (nat_lt (length d.space.attributes) 16) Limit)
+    (λ u room. tells_then IsBounded y (λ a n. tells_give
+    (record d { space = record d.space { attributes = d.space.attributes ++ a ∷ [] } })
+    (record {
+      bounds = All-push IsBounded d.space.attributes a b n;
+      calls = c;
+      steps = no_steps d.space.servers (length d.sessions) d.steps e;
+      stage = rw s e;
+    })))
 
 -- ---- subspaces
 
 tells_free_axis : (space : Space) (axes : List Axis) → Tells (free_axis space axes) Any
 unfolding free_axis
-tells_free_axis space axes = tells_then Any tells_named (λ w m. tells_then (λ a. declared_number space w ≡ Ok a) (tells_judged (declared_number space w)) (λ a d. tells_then Any (tells_check (not (has_axis axes a)) Twice) (λ u n. tells_then Any (tells_check (nat_lt (length axes) 4) Limit) (λ u r. tells_give a tt))))
+tells_free_axis space axes = tells_then Any tells_named
+    (λ w m. tells_then (λ a. declared_number space w ≡ Ok a) (tells_judged (declared_number space w))
+    (λ a d. tells_then Any (tells_check (not (has_axis axes a)) Twice)
+    (λ u n. tells_then Any (tells_check (nat_lt (length axes) 4) Limit) (λ u r. tells_give a tt))))
 
 tells_parts : (regions size : ℕ) → Tells (parts regions size) Any
 unfolding parts
-tells_parts regions size = tells_then (λ n. n ≤ 256) (tells_number_in 1 256) (λ n h. tells_then Any (tells_check (nat_le (regions + size * n) 4096) Limit) (λ u r. tells_give n tt))
+tells_parts regions size = tells_then (λ n. n ≤ 256) (tells_number_in 1 256)
+    (λ n h. tells_then Any (tells_check (nat_le (regions + size * n) 4096) Limit) (λ u r. tells_give n tt))
 
 tells_axis : (space : Space) (regions : ℕ) (c : AxesDraft) → Tells (axis space regions c) Any
 unfolding axis
-tells_axis space regions c = tells_then Any (tells_free_axis space c.axes) (λ a f. tells_then Any (tells_parts regions c.size) (λ n p. tells_give (record { axes = c.axes ++ record { attribute = a; parts = n } ∷ []; size = c.size * n }) tt))
+tells_axis space regions c = tells_then Any (tells_free_axis space c.axes)
+    (λ a f. tells_then Any (tells_parts regions c.size)
+    (λ n p. tells_give (record { axes = c.axes ++ record { attribute = a; parts = n } ∷ []; size = c.size * n }) tt))
 
 tells_next : (space : Space) (regions : ℕ) (c : AxesDraft) → Tells (next_axis space regions c) Any
 unfolding next_axis
@@ -109,52 +135,92 @@ tells_next space regions c = tells_then Any (tells_sign (codes ",")) (λ u t. te
 
 pub tells_subspace : (space : Space) (regions : ℕ) → Tells (subspace space regions) Any
 unfolding subspace
-tells_subspace space regions = tells_then Any (tells_axis space regions no_axes_yet) (λ first f. tells_repeat Any until.End (next_axis space regions) (λ b q. tells_next space regions b) first tt)
+tells_subspace space regions = tells_then Any (tells_axis space regions no_axes_yet)
+    (λ first f. tells_repeat Any until.End (next_axis space regions) (λ b q. tells_next space regions b) first tt)
 
 tells_subspace_line : (d : Draft) → BoundsSoFar d → CallsSoFar d → d.steps ≡ [] → Tells (subspace_line d) Said
 unfolding subspace_line
-tells_subspace_line d b c e = tells_then Any (tells_check (nat_lt (length d.space.subspaces) 8) Limit) (λ u room. tells_then Any (tells_subspace d.space d.regions) (λ x f. tells_give (record d { section = sections.Subspaces; regions = d.regions + x.size; space = record d.space { subspaces = d.space.subspaces ++ x.axes ∷ [] } })
+tells_subspace_line d b c e = tells_then Any (tells_check (nat_lt (length d.space.subspaces) 8) Limit)
+    (λ u room. tells_then Any (tells_subspace d.space d.regions)
+    (λ x f. tells_give (record d {
+      section = sections.Subspaces;
+      regions = d.regions + x.size;
+      space = record d.space { subspaces = d.space.subspaces ++ x.axes ∷ [] };
+    })
     (record { bounds = b; calls = c; steps = no_steps d.space.servers (length d.sessions) d.steps e; stage = e })))
 
 -- ---- servers and what they tolerate
 
 tells_servers : (d : Draft) → BoundsSoFar d → CallsSoFar d → d.steps ≡ [] → Tells (servers_line d) Said
 unfolding servers_line
-tells_servers d b c e = tells_then (λ n. n ≤ 16) (tells_number_in 1 16) (λ n h. tells_then Any tells_end (λ u t. tells_give (record d { section = sections.Tolerance; space = record d.space { servers = n } }) (record { bounds = b; calls = c; steps = no_steps n (length d.sessions) d.steps e; stage = e })))
+tells_servers d b c e = tells_then (λ n. n ≤ 16) (tells_number_in 1 16)
+    (λ n h. tells_then Any tells_end (λ u t. tells_give
+    (record d { section = sections.Tolerance; space = record d.space { servers = n } })
+    (record { bounds = b; calls = c; steps = no_steps n (length d.sessions) d.steps e; stage = e })))
 
 tells_tolerate : (d : Draft) → BoundsSoFar d → CallsSoFar d → d.steps ≡ [] → Tells (tolerate_line d) Said
 unfolding tolerate_line
-tells_tolerate d b c e = tells_then (λ n. n ≤ min (d.space.servers - 1) 4) (tells_number_in 0 (min (d.space.servers - 1) 4)) (λ n h. tells_then Any tells_end (λ u t. tells_give (record d { section = sections.Sessions; space = record d.space { tolerate = n } }) (record { bounds = b; calls = c; steps = no_steps d.space.servers (length d.sessions) d.steps e; stage = e })))
+tells_tolerate d b c e = tells_then (λ n. n ≤ min (d.space.servers - 1) 4)
+    (tells_number_in 0 (min (d.space.servers - 1) 4))
+    (λ n h. tells_then Any tells_end (λ u t. tells_give
+    (record d { section = sections.Sessions; space = record d.space { tolerate = n } })
+    (record { bounds = b; calls = c; steps = no_steps d.space.servers (length d.sessions) d.steps e; stage = e })))
 
 -- ---- sessions, calls and steps
 
 tells_session : (d : Draft) → BoundsSoFar d → CallsSoFar d → d.steps ≡ [] → Tells (session_line d) Said
 unfolding session_line
-tells_session d b c e = tells_then Any (tells_check (nat_lt (length d.sessions) 16) Limit) (λ u room. tells_then (λ n. n ≤ length d.sessions + 1) (tells_number_in (length d.sessions + 1) (length d.sessions + 1)) (λ n h. tells_then Any tells_end (λ u t. tells_give (record d { section = sections.Calls; sessions = d.sessions ++ [] ∷ [] })
-    (record { bounds = b; calls = All-push (All CallIsSayable) d.sessions [] c (All-nil CallIsSayable); steps = no_steps d.space.servers (length (d.sessions ++ [] ∷ [])) d.steps e; stage = e }))))
+tells_session d b c e = tells_then Any (tells_check (nat_lt (length d.sessions) 16) Limit)
+    (λ u room. tells_then (λ n. n ≤ length d.sessions + 1)
+    (tells_number_in (length d.sessions + 1) (length d.sessions + 1))
+    (λ n h. tells_then Any tells_end (λ u t. tells_give (record d { section = sections.Calls; sessions = d.sessions ++ [] ∷ [] })
+    (record {
+      bounds = b;
+      calls = All-push (All CallIsSayable) d.sessions [] c (All-nil CallIsSayable);
+      steps = no_steps d.space.servers (length (d.sessions ++ [] ∷ [])) d.steps e;
+      stage = e;
+    }))))
 
 tells_steps : (d : Draft) → BoundsSoFar d → CallsSoFar d → d.steps ≡ [] → Tells (steps_line d) Said
 unfolding steps_line
-tells_steps d b c e = tells_then Any tells_end (λ u t. tells_give (record d { section = sections.Steps }) (record { bounds = b; calls = c; steps = no_steps d.space.servers (length d.sessions) d.steps e; stage = tt }))
+tells_steps d b c e = tells_then Any tells_end (λ u t. tells_give (record d { section = sections.Steps })
+    (record { bounds = b; calls = c; steps = no_steps d.space.servers (length d.sessions) d.steps e; stage = tt }))
 
 pub all_last : {A : Type 0} (P : A → Type 0) (sessions : List (List A)) (x : A) → All (All P) sessions → P x → All (All P) (push_to_last sessions x)
 all_last P [] x a p = a
 all_last P (xs ∷ []) x a p = All-cons (All P) (xs ++ x ∷ []) [] (All-push P xs x (All-head (All P) xs [] a) p) (All-nil (All P))
-all_last P (xs ∷ ys ∷ rest) x a p = All-cons (All P) xs (push_to_last (ys ∷ rest) x) (All-head (All P) xs (ys ∷ rest) a) (all_last P (ys ∷ rest) x (All-tail (All P) xs (ys ∷ rest) a) p)
+all_last P (xs ∷ ys ∷ rest) x a p = All-cons (All P) xs (push_to_last (ys ∷ rest) x)
+    (All-head (All P) xs (ys ∷ rest) a) (all_last P (ys ∷ rest) x (All-tail (All P) xs (ys ∷ rest) a) p)
 
 tells_call_line : (d : Draft) (w : CallWord) → d.section ≡ sections.Calls → BoundsSoFar d → CallsSoFar d → d.steps ≡ [] → Tells (call_line d w) Said
 unfolding call_line
-tells_call_line d w s b c e = tells_then Any (tells_check (nat_lt d.calls 16384) Limit) (λ u room. tells_then CallIsSayable (tells_call d.space d.regions w) (λ op f. tells_give (record d { sessions = push_to_last d.sessions op; calls = d.calls + 1 })
-    (record { bounds = b; calls = all_last CallIsSayable d.sessions op c f; steps = no_steps d.space.servers (length (push_to_last d.sessions op)) d.steps e; stage = rw s e })))
+tells_call_line d w s b c e = tells_then Any (tells_check (nat_lt d.calls 16384) Limit)
+    (λ u room. tells_then CallIsSayable (tells_call d.space d.regions w)
+    (λ op f. tells_give (record d { sessions = push_to_last d.sessions op; calls = d.calls + 1 })
+    (record {
+      bounds = b;
+      calls = all_last CallIsSayable d.sessions op c f;
+      steps = no_steps d.space.servers (length (push_to_last d.sessions op)) d.steps e;
+      stage = rw s e;
+    })))
 
 tells_step_line : (n : ℕ) (d : Draft) (w : StepWord) → d.section ≡ sections.Steps → BoundsSoFar d → CallsSoFar d → StepsSoFar d → Tells (step_line n d w) Said
 unfolding step_line
-tells_step_line n d w s b c st = tells_then Any (tells_check (nat_lt (length d.steps) 65536) Limit) (λ u room. tells_then (StepIsSayable d.space.servers (length d.sessions)) (tells_step d.space.servers (length d.sessions) w) (λ x f. tells_give (record d { steps = d.steps ++ (n, x) ∷ [] })
-    (record { bounds = b; calls = c; steps = All-push (λ (y : ℕ × Step). StepIsSayable d.space.servers (length d.sessions) y.1) d.steps (n, x) st f; stage = rw s tt })))
+tells_step_line n d w s b c st = tells_then Any (tells_check (nat_lt (length d.steps) 65536) Limit)
+    (λ u room. tells_then (StepIsSayable d.space.servers (length d.sessions))
+    (tells_step d.space.servers (length d.sessions) w) (λ x f. tells_give (record d { steps = d.steps ++ (n, x) ∷ [] })
+    (record {
+      bounds = b;
+      calls = c;
+      steps = All-push
+          (λ (y : ℕ × Step). StepIsSayable d.space.servers (length d.sessions) y.1) d.steps (n, x) st f;
+      stage = rw s tt;
+    })))
 
 -- ---- each line
 
-tells_heading : (d : Draft) (sec : Section) (h : Heading) → d.section ≡ sec → BoundsSoFar d → CallsSoFar d → NoneBefore sec d → Tells (heading_line d sec h) Said
+tells_heading : (d : Draft) (sec : Section) (h : Heading) → d.section ≡ sec → BoundsSoFar d → CallsSoFar d
+    → NoneBefore sec d → Tells (heading_line d sec h) Said
 tells_heading d sections.Start headings.Hx s b c e = tells_hx d b c e
 tells_heading d sections.Naming headings.Space s b c e = tells_space d b c e
 tells_heading d sections.Keying headings.Key s b c e = tells_key d b c e
@@ -171,7 +237,8 @@ tells_heading d sections.Sessions headings.Steps s b c e = tells_steps d b c e
 tells_heading d sections.Calls headings.Steps s b c e = tells_steps d b c e
 tells_heading d sec h s b c e = tells_refuse Order
 
-tells_line : (n : ℕ) (d : Draft) (sec : Section) (k : Option Keyword) → d.section ≡ sec → BoundsSoFar d → CallsSoFar d → StepsSoFar d → NoneBefore sec d → Tells (line_for n d sec k) Said
+tells_line : (n : ℕ) (d : Draft) (sec : Section) (k : Option Keyword) → d.section ≡ sec → BoundsSoFar d → CallsSoFar d
+    → StepsSoFar d → NoneBefore sec d → Tells (line_for n d sec k) Said
 tells_line n d sec (Some (keywords.Heading h)) s b c st e = tells_heading d sec h s b c e
 tells_line n d sections.Calls (Some (keywords.Call w)) s b c st e = tells_call_line d w s b c e
 tells_line n d sections.Steps (Some (keywords.Step w)) s b c st e = tells_step_line n d w s b c st

@@ -48,13 +48,15 @@ script_is s t e = cc
 abbrev as_script : Draft → Script
 as_script d = record { space = d.space; sessions = d.sessions; steps = d.steps }
 
-ends : (n : ℕ) (d : Draft) (sec : Section) (s : Script) → Said d → cond (may_end sec) (Ok (as_script d)) (Err (errors.Refused n Order)) ≡ Ok s → IsSayableScript s
+ends : (n : ℕ) (d : Draft) (sec : Section) (s : Script) → Said d
+    → cond (may_end sec) (Ok (as_script d)) (Err (errors.Refused n Order)) ≡ Ok s → IsSayableScript s
 ends n d sections.Sessions s so e = subst IsSayableScript (script_is (as_script d) s e) (record { bounds = so.bounds; calls = so.calls; steps = so.steps })
 ends n d sections.Calls s so e = subst IsSayableScript (script_is (as_script d) s e) (record { bounds = so.bounds; calls = so.calls; steps = so.steps })
 ends n d sections.Steps s so e = subst IsSayableScript (script_is (as_script d) s e) (record { bounds = so.bounds; calls = so.calls; steps = so.steps })
 ends n d sec s so e = absurd cc
 
-at_line_ok : (n : ℕ) (r : Result Draft Reason) (f : Draft → Result Script ScriptError) (s : Script) → at_line n r f ≡ Ok s → (d : Draft) × (r ≡ Ok d) × (f d ≡ Ok s)
+at_line_ok : (n : ℕ) (r : Result Draft Reason) (f : Draft → Result Script ScriptError) (s : Script)
+    → at_line n r f ≡ Ok s → (d : Draft) × (r ≡ Ok d) × (f d ≡ Ok s)
 at_line_ok n (Ok d) f s e = (d, refl, e)
 at_line_ok n (Err r) f s e = absurd cc
 

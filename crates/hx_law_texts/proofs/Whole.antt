@@ -24,7 +24,9 @@ all_regions s = times_one s.key_parts (sizes_sum s.subspaces)
 
 -- the lines of a space
 space_is_read : (s : Space) (rest : List ℕ) (script : Script) → IsSpace s → All (λ (a : Attribute). BoundsAreSayable a.kind) s.attributes
-    → ReadsTo (3 + length s.attributes + length s.subspaces + 1 + 1) (calling sections.Sessions s (s.key_parts + sizes_sum s.subspaces) [] 0) rest script → ReadsTo 1 (record empty_draft { section = sections.Naming }) (space_text s ++ rest) script
+    → ReadsTo (3 + length s.attributes + length s.subspaces + 1 + 1)
+    (calling sections.Sessions s (s.key_parts + sizes_sum s.subspaces) [] 0) rest script
+    → ReadsTo 1 (record empty_draft { section = sections.Naming }) (space_text s ++ rest) script
 unfolding space_text
 space_is_read s rest script is bounds next =
     let regions : ℕ = s.key_parts + sizes_sum s.subspaces in
@@ -34,8 +36,11 @@ space_is_read s rest script is bounds next =
     let servers : List ℕ = servers_line s.servers ++ last in
     let cuts : List ℕ = flat_map (subspace_line s) s.subspaces ++ servers in
     let attributes : List ℕ = flat_map attribute_line s.attributes ++ cuts in
-    let text : (space_line s.name ++ key_line s.key_name s.key_parts ++ flat_map attribute_line s.attributes ++ flat_map (subspace_line s) s.subspaces ++ servers_line s.servers ++ tolerate_line s.tolerate) ++ rest ≡ space_line s.name ++ (key_line s.key_name s.key_parts ++ attributes) =
-    space_parts (space_line s.name) (key_line s.key_name s.key_parts) (flat_map attribute_line s.attributes) (flat_map (subspace_line s) s.subspaces) (servers_line s.servers) (tolerate_line s.tolerate) rest in
+    let text : (space_line s.name ++ key_line s.key_name s.key_parts ++ flat_map attribute_line s.attributes
+    ++ flat_map (subspace_line s) s.subspaces ++ servers_line s.servers ++ tolerate_line s.tolerate) ++ rest
+    ≡ space_line s.name ++ (key_line s.key_name s.key_parts ++ attributes) =
+    space_parts (space_line s.name) (key_line s.key_name s.key_parts) (flat_map attribute_line s.attributes)
+    (flat_map (subspace_line s) s.subspaces) (servers_line s.servers) (tolerate_line s.tolerate) rest in
     subst (λ (x : List ℕ). ReadsTo 1 (record empty_draft { section = sections.Naming }) x script) (sym text)
     (space_reads 1 s (key_line s.key_name s.key_parts ++ attributes) script is
     (key_reads 2 s attributes script is
@@ -47,21 +52,25 @@ script_parts : (a b c d : List ℕ) → a ++ b ++ c ++ d ≡ a ++ (b ++ (c ++ d)
 script_parts a b c d = simp append_assoc
 
 script_is_read : (s : Script) → IsScript s → IsSayableScript s
-    → ReadsTo 0 empty_draft (script_text s) (with_steps s.space s.sessions (on_lines_from (3 + length s.space.attributes + length s.space.subspaces + 1 + 1 + lines_in s.sessions + 1 + 1) s.steps))
+    → ReadsTo 0 empty_draft (script_text s) (with_steps s.space s.sessions
+    (on_lines_from (3 + length s.space.attributes + length s.space.subspaces + 1 + 1 + lines_in s.sessions + 1 + 1) s.steps))
 unfolding script_text
 script_is_read s is said =
     let tail : List ℕ = sessions_text s.space 1 s.sessions ++ steps_text s.steps in
     let n : ℕ = 3 + length s.space.attributes + length s.space.subspaces + 1 + 1 in
     let script : Script = with_steps s.space s.sessions (on_lines_from (n + lines_in s.sessions + 1 + 1) s.steps) in
-    subst (λ (x : List ℕ). ReadsTo 0 empty_draft x script) (sym (script_parts (codes "hx 1\n") (space_text s.space) (sessions_text s.space 1 s.sessions) (steps_text s.steps)))
+    subst (λ (x : List ℕ). ReadsTo 0 empty_draft x script)
+    (sym (script_parts (codes "hx 1\n") (space_text s.space) (sessions_text s.space 1 s.sessions) (steps_text s.steps)))
     (hx_reads 0 (space_text s.space ++ tail) script
     (space_is_read s.space tail script is.space said.bounds
-    (sections_read n s.space (s.space.key_parts + sizes_sum s.space.subspaces) s.sessions s.steps is.space (all_regions s.space) is.sessions is.few_calls is.calls said.calls said.steps is.few_steps)))
+    (sections_read n s.space (s.space.key_parts + sizes_sum s.space.subspaces) s.sessions s.steps is.space
+    (all_regions s.space) is.sessions is.few_calls is.calls said.calls said.steps is.few_steps)))
 
 -- the print of a script is read as that script
 pub reads_back : (s : Script) → IsScript s → IsSayableScript s → script_of (script_text s) ≡ Ok (on_printed_lines s)
 reads_back s is said =
-    let n : 3 + length s.space.attributes + length s.space.subspaces + 1 + 1 + lines_in s.sessions + 1 + 1 ≡ first_step_line s = same (length s.space.attributes) (length s.space.subspaces) (lines_in s.sessions) in
+    let n : 3 + length s.space.attributes + length s.space.subspaces + 1 + 1 + lines_in s.sessions + 1 + 1
+    ≡ first_step_line s = same (length s.space.attributes) (length s.space.subspaces) (lines_in s.sessions) in
     subst (λ (m : ℕ). script_of (script_text s) ≡ Ok (with_steps s.space s.sessions (on_lines_from m s.steps))) n (script_is_read s is said).reads
   where
     same : (a b l : ℕ) → 3 + a + b + 1 + 1 + l + 1 + 1 ≡ a + b + l + 7
@@ -80,4 +89,5 @@ section_alike n (x ∷ rest) = ap (λ (t : List ℕ). codes "steps\n" ++ t) (ste
 
 pub prints_alike : (s : Script) → script_text (on_printed_lines s) ≡ script_text s
 unfolding script_text
-prints_alike s = ap (λ (t : List ℕ). codes "hx 1\n" ++ space_text s.space ++ sessions_text s.space 1 s.sessions ++ t) (section_alike (first_step_line s) s.steps)
+prints_alike s = ap (λ (t : List ℕ). codes "hx 1\n" ++ space_text s.space ++ sessions_text s.space 1 s.sessions ++ t)
+    (section_alike (first_step_line s) s.steps)

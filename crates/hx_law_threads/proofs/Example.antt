@@ -126,7 +126,8 @@ under_way = (record { session = record { 0 = 1 }; number = 1 }, refl, refl)
 at_in : (n : ℕ) (l : List Entry) (x : Entry) → entry_at n l ≡ Some x → IsIn x l
 at_in n [] x = λ e. absurd (cc)
 at_in n (y ∷ l) x =
-    cond_both (eqb n (length l + 1)) (Some y) (entry_at n l) (λ o. o ≡ Some x → IsIn x (y ∷ l)) (λ t e. let same : x ≡ y = cc in inl same) (λ t e. inr (at_in n l x e))
+    cond_both (eqb n (length l + 1)) (Some y) (entry_at n l) (λ o. o ≡ Some x → IsIn x (y ∷ l))
+    (λ t e. let same : x ≡ y = cc in inl same) (λ t e. inr (at_in n l x e))
 
 -- the one retry is the session's second entry
 retry_is : (x : Entry) → IsIn x trace → is_retry x ≡ true → x.actor ≡ session
@@ -164,9 +165,13 @@ only_one n e = let both = and_parts (nat_lt 0 n) (nat_le n 1) e in omega (arith,
 waiters_retry : WaitersRetry script trace cut
 waiters_retry Coordinator known = refl
 waiters_retry (Server s) known =
-    subst (λ n. retries_at cut trace (Server (record { 0 = n })) ≡ is_waiting script (own_at cut trace (Server (record { 0 = n }))) (Server (record { 0 = n }))) (sym (only_one s.0 known)) refl
+    subst (λ n. retries_at cut trace (Server (record { 0 = n }))
+    ≡ is_waiting script (own_at cut trace (Server (record { 0 = n }))) (Server (record { 0 = n })))
+    (sym (only_one s.0 known)) refl
 waiters_retry (Session u) known =
-    subst (λ n. retries_at cut trace (Session (record { 0 = n })) ≡ is_waiting script (own_at cut trace (Session (record { 0 = n }))) (Session (record { 0 = n }))) (sym (only_one u.0 known)) refl
+    subst (λ n. retries_at cut trace (Session (record { 0 = n }))
+    ≡ is_waiting script (own_at cut trace (Session (record { 0 = n }))) (Session (record { 0 = n })))
+    (sym (only_one u.0 known)) refl
 
 within : (a : Actor) → cut a ≤ entries_of a trace
 within Coordinator = omega arith

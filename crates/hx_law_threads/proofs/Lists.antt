@@ -77,14 +77,17 @@ rises : {A : Type 0} (key : A → ℕ) (xs : List A) → IsStrictlyIncreasing (m
 rises key [] h = tt
 rises key (x ∷ []) h = ((λ y i. absurd i), tt)
 rises key (x ∷ w ∷ ws) h =
-    let rest = rises key (w ∷ ws) (λ k lt. let next : suc k + 1 ≡ suc (k + 1) = omega arith in subst (λ n. slice_index (map key (x ∷ w ∷ ws)) (suc k) < slice_index (map key (x ∷ w ∷ ws)) n) next (h (suc k) (omega (arith, lt)))) in
+    let rest = rises key (w ∷ ws) (λ k lt. let next : suc k + 1 ≡ suc (k + 1) = omega arith in
+    subst (λ n. slice_index (map key (x ∷ w ∷ ws)) (suc k) < slice_index (map key (x ∷ w ∷ ws)) n) next
+    (h (suc k) (omega (arith, lt)))) in
     let first : key x < key w = h 0 (omega arith) in
     ((λ y i. ⊎_elim (λ (e : y ≡ w). omega (arith, first, ap key e)) (λ (j : IsIn y ws). omega (arith, first, rest.0 y j)) i), rest)
 
 falls_snoc : {A : Type 0} (key : A → ℕ) (xs : List A) (x : A) → IsFalling key xs → ((y : A) → IsIn y xs → key x < key y) → IsFalling key (xs ++ x ∷ [])
 falls_snoc key [] x f g = ((λ y i. absurd i), tt)
 falls_snoc key (w ∷ ws) x f g = (
-  (λ y i. ⊎_elim (λ (j : IsIn y ws). f.0 y j) (λ (j : IsIn y (x ∷ [])). ⊎_elim (λ (e : y ≡ x). omega (arith, ap key e, g w (inl refl))) (λ (k : ⊥). absurd k) j) (in_append ws (x ∷ []) y i)),
+  (λ y i. ⊎_elim (λ (j : IsIn y ws). f.0 y j) (λ (j : IsIn y (x ∷ [])). ⊎_elim
+      (λ (e : y ≡ x). omega (arith, ap key e, g w (inl refl))) (λ (k : ⊥). absurd k) j) (in_append ws (x ∷ []) y i)),
   falls_snoc key ws x f.1 (λ y i. g y (inr i)),
 )
 
@@ -105,12 +108,14 @@ filter_falls key test (x ∷ xs) f =
     (λ t. filter_falls key test xs f.1)
 
 -- falling lists with the same items are the same
-pub same_falling : {A : Type 0} (key : A → ℕ) (xs ys : List A) → IsFalling key xs → IsFalling key ys → ((z : A) → IsIn z xs → IsIn z ys) → ((z : A) → IsIn z ys → IsIn z xs) → xs ≡ ys
+pub same_falling : {A : Type 0} (key : A → ℕ) (xs ys : List A) → IsFalling key xs → IsFalling key ys
+    → ((z : A) → IsIn z xs → IsIn z ys) → ((z : A) → IsIn z ys → IsIn z xs) → xs ≡ ys
 same_falling key [] [] a b f g = refl
 same_falling key [] (y ∷ ys) a b f g = absurd (g y (inl refl))
 same_falling key (x ∷ xs) [] a b f g = absurd (f x (inl refl))
 same_falling key (x ∷ xs) (y ∷ ys) a b f g =
-    let same : x ≡ y = ⊎_elim (λ (e : x ≡ y). e) (λ (i : IsIn x ys). ⊎_elim (λ (e : y ≡ x). sym e) (λ (j : IsIn y xs). absurd (omega (arith, b.0 x i, a.0 y j))) (g y (inl refl))) (f x (inl refl)) in
+    let same : x ≡ y = ⊎_elim (λ (e : x ≡ y). e) (λ (i : IsIn x ys). ⊎_elim (λ (e : y ≡ x). sym e)
+    (λ (j : IsIn y xs). absurd (omega (arith, b.0 x i, a.0 y j))) (g y (inl refl))) (f x (inl refl)) in
     let keys : key x ≡ key y = ap key same in
     let rest : xs ≡ ys =
     same_falling key xs ys a.1 b.1
@@ -121,7 +126,9 @@ same_falling key (x ∷ xs) (y ∷ ys) a b f g =
 pub of_below : (n k : ℕ) → IsIn k (below n) → k < n
 of_below zero k i = absurd i
 of_below (suc n) k i =
-    ⊎_elim (λ (j : IsIn k (below n)). let r = of_below n k j in omega (arith, r)) (λ (j : IsIn k (n ∷ [])). ⊎_elim (λ (e : k ≡ n). omega (arith, e)) (λ (z : ⊥). absurd z) j) (in_append (below n) (n ∷ []) k i)
+    ⊎_elim (λ (j : IsIn k (below n)). let r = of_below n k j in
+    omega (arith, r)) (λ (j : IsIn k (n ∷ [])). ⊎_elim (λ (e : k ≡ n). omega (arith, e)) (λ (z : ⊥). absurd z) j)
+    (in_append (below n) (n ∷ []) k i)
 
 pub below_falls : (n : ℕ) → IsFalling (λ (k : ℕ). k) (reverse (below n))
 below_falls zero = tt

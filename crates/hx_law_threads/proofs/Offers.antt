@@ -42,14 +42,16 @@ open_lost script cut trace offers all =
     open_counted script cut trace (put_times 0 offers)
     (λ test none halted.
     let came = all.came (λ (id : PostId). one (test id)) (λ id h. ap one (halted id h)) in
-    let nothing : total (λ (o : Offer). o.times * one (test o.post)) offers ≡ 0 = sym came ∙ none_weighs (λ (id : PostId). one (test id)) (delivered_at cut trace) (λ id i. ap one (none id i)) in
+    let nothing : total (λ (o : Offer). o.times * one (test o.post)) offers ≡ 0 =
+    sym came ∙ none_weighs (λ (id : PostId). one (test id)) (delivered_at cut trace) (λ id i. ap one (none id i)) in
     subst (λ n. n ≤ put_times 0 offers) (sym (all.offered (λ (id : PostId). one (test id)))) (lost_offers test offers nothing))
 
 pub times_total : (id : PostId) (ids : List PostId) → times_named id ids ≡ total (λ (x : PostId). one (same_name x id)) ids
 times_total id [] = refl
 times_total id (x ∷ ids) = by (same_name x id) (times_total id ids)
   where
-    by : (b : Bool) → times_named id ids ≡ total (λ (y : PostId). one (same_name y id)) ids → cond b (times_named id ids + 1) (times_named id ids) ≡ one b + total (λ (y : PostId). one (same_name y id)) ids
+    by : (b : Bool) → times_named id ids ≡ total (λ (y : PostId). one (same_name y id)) ids
+        → cond b (times_named id ids + 1) (times_named id ids) ≡ one b + total (λ (y : PostId). one (same_name y id)) ids
     by true e = omega (arith, e)
     by false e = omega (arith, e)
 
@@ -77,20 +79,23 @@ not_thrice trace offers came id =
       named_once (whole_of trace) trace id,
     )
 
-nothing_put : (id : PostId) (offers : List Offer) → total (λ (o : Offer). one (same_name o.post id)) offers ≤ 0 → total (λ (o : Offer). o.times * one (same_name o.post id)) offers ≡ 0
+nothing_put : (id : PostId) (offers : List Offer) → total (λ (o : Offer). one (same_name o.post id)) offers ≤ 0
+    → total (λ (o : Offer). o.times * one (same_name o.post id)) offers ≡ 0
 nothing_put id [] le = refl
 nothing_put id (o ∷ offers) le =
     let none : one (same_name o.post id) ≡ 0 = omega (arith, le) in
     let here : o.times * one (same_name o.post id) ≡ 0 = ap (λ n. o.times * n) none ∙ omega arith in
     omega (arith, here, nothing_put id offers (omega (arith, le)))
 
-some_offer : (id : PostId) (offers : List Offer) (o : Offer) → IsIn o offers → same_name o.post id ≡ true → 1 ≤ total (λ (p : Offer). one (same_name p.post id)) offers
+some_offer : (id : PostId) (offers : List Offer) (o : Offer) → IsIn o offers → same_name o.post id ≡ true
+    → 1 ≤ total (λ (p : Offer). one (same_name p.post id)) offers
 some_offer id [] o i e = absurd i
 some_offer id (p ∷ offers) o (inl q) e = omega (arith, ap (λ (x : Offer). one (same_name x.post id)) (sym q) ∙ ap one e)
 some_offer id (p ∷ offers) o (inr i) e = omega (arith, some_offer id offers o i e)
 
 -- where one offer alone is of the post, it was put as often as that says
-one_offer : (id : PostId) (offers : List Offer) (o : Offer) → IsIn o offers → same_name o.post id ≡ true → total (λ (p : Offer). one (same_name p.post id)) offers ≤ 1
+one_offer : (id : PostId) (offers : List Offer) (o : Offer) → IsIn o offers → same_name o.post id ≡ true
+    → total (λ (p : Offer). one (same_name p.post id)) offers ≤ 1
     → total (λ (p : Offer). p.times * one (same_name p.post id)) offers ≡ o.times
 one_offer id [] o i e le = absurd i
 one_offer id (p ∷ offers) o (inl q) e le =

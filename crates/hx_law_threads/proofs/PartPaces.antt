@@ -31,7 +31,8 @@ pub count-own : (a : Actor) (trace : List Entry) → entries_of a trace ≡ leng
 count-own a [] = refl
 count-own a (x ∷ trace) = by (same_actor x.actor a) (count-own a trace)
   where
-    by : (b : Bool) → entries_of a trace ≡ length (own_entries a trace) → cond b (entries_of a trace + 1) (entries_of a trace) ≡ length (cond b (x ∷ own_entries a trace) (own_entries a trace))
+    by : (b : Bool) → entries_of a trace ≡ length (own_entries a trace)
+        → cond b (entries_of a trace + 1) (entries_of a trace) ≡ length (cond b (x ∷ own_entries a trace) (own_entries a trace))
     by true e = omega (arith, e)
     by false e = e
 
@@ -56,7 +57,8 @@ part_or_none (p ∷ whole) a = by (same_actor p.actor a) refl (part_or_none whol
     by false e (inl r) = inl (r.0, inr r.1, r.2)
     by false e (inr r) = inr ((λ q. true≢false (sym (ap (λ z. same_actor z a) q ∙ same_as_itself a) ∙ e)), r)
 
-module _ (script : Script) (whole : List ActorPart) (merged : List Stamped) (o : AreOwnParts script whole) (w : AreWholeParts (parts_in whole)) (m : IsMerged (parts_in whole) merged) where
+module _ (script : Script) (whole : List ActorPart) (merged : List Stamped) (o : AreOwnParts script whole)
+    (w : AreWholeParts (parts_in whole)) (m : IsMerged (parts_in whole) merged) where
   own_are : HasOwnParts whole (past_of merged)
   own_are = (merged_run script whole merged o w m).own
 
@@ -75,14 +77,16 @@ module _ (script : Script) (whole : List ActorPart) (merged : List Stamped) (o :
   retries_read cuts follow a n x e retry =
       let p = has_part a (n + 1) x e in
       let here : entry_in p.0.part n ≡ Some x = sym ((reads p.0 p.1).next n) ∙ subst (λ b. entry_at (n + 1) (own_entries b (past_of merged)) ≡ Some x) p.2 e in
-      let r = each_in (λ (q : ActorPart). (k : ℕ) (y : Entry) → entry_in q.part k ≡ Some y → is_retry y ≡ true → (cut : Cut) × IsIn cut cuts × (cut q.actor ≡ k)) whole p.0 follow p.1 n x here retry in
+      let r = each_in (λ (q : ActorPart). (k : ℕ) (y : Entry) → entry_in q.part k ≡ Some y → is_retry y ≡ true
+      → (cut : Cut) × IsIn cut cuts × (cut q.actor ≡ k)) whole p.0 follow p.1 n x here retry in
       (r.0, r.1, ap r.0 p.2 ∙ r.2)
 
   waiters_read : (cut : Cut) → HasAllActors script whole → PartsRetry script whole cut → WaitersRetry script (past_of merged) cut
   waiters_read cut all retry a known =
       let p = all a known in
       let read = reads p.0 p.1 in
-      let here = each_in (λ (q : ActorPart). when_some (entry_in q.part (cut q.actor)) false is_retry ≡ is_waiting script (past_at cut q) q.actor) whole p.0 retry p.1 in
+      let here = each_in (λ (q : ActorPart). when_some (entry_in q.part (cut q.actor)) false is_retry
+      ≡ is_waiting script (past_at cut q) q.actor) whole p.0 retry p.1 in
       subst (λ b. retries_at cut (past_of merged) b ≡ is_waiting script (own_at cut (past_of merged) b) b) (sym p.2)
       (ap (λ r. when_some r false is_retry) (read.next (cut p.0.actor)) ∙ here ∙ ap (λ l. is_waiting script l p.0.actor) (sym (read.own (cut p.0.actor))))
 
@@ -92,16 +96,20 @@ module _ (script : Script) (whole : List ActorPart) (merged : List Stamped) (o :
       let u = h.2.0 in
       let same : own_at cut (past_of merged) (Session u) ≡ past_at cut p =
       ap (own_at cut (past_of merged)) (sym h.2.1) ∙ (reads p h.1).own (cut p.actor) in
-      let way : (session_of script u (own_at cut (past_of merged) (Session u))).under_way ≡ true = subst (λ l. (session_of script u l).under_way ≡ true) (sym same) h.2.2 in
+      let way : (session_of script u (own_at cut (past_of merged) (Session u))).under_way ≡ true =
+      subst (λ l. (session_of script u l).under_way ≡ true) (sym same) h.2.2 in
       let own : IsOwn script (Session u) (own_at cut (past_of merged) (Session u)) =
-      own_before script (Session u) (cut (Session u)) (own_entries (Session u) (past_of merged)) (entries_own script (past_of merged) (merged_run script whole merged o w m).run (Session u)) in
+      own_before script (Session u) (cut (Session u)) (own_entries (Session u) (past_of merged))
+      (entries_own script (past_of merged) (merged_run script whole merged o w m).run (Session u)) in
       let c = under_way_open script u (own_at cut (past_of merged) (Session u)) own way in
       (last_call script u (own_at cut (past_of merged) (Session u)), c.0, c.1)
 
   -- how many entries an actor has made is the length of its part
   count_part : (p : ActorPart) → IsIn p whole → entries_of p.actor (past_of merged) ≡ length p.part
   count_part p i =
-      count-own p.actor (past_of merged) ∙ ap length (each_in (λ (q : ActorPart). own_entries q.actor (past_of merged) ≡ past_of q.part) whole p own_are i) ∙ ap length (past_is p.part)
+      count-own p.actor (past_of merged) ∙ ap length
+      (each_in (λ (q : ActorPart). own_entries q.actor (past_of merged) ≡ past_of q.part) whole p own_are i)
+      ∙ ap length (past_is p.part)
       ∙ length-past (reverse p.part) ∙ length-reverse p.part
 
   pub whole_adds_up : (f : ℕ → Entry → ℕ) → total_at f (whole_of (past_of merged)) (past_of merged) ≡ total (λ (p : ActorPart). total_over f p.part) whole
@@ -122,7 +130,8 @@ module _ (script : Script) (whole : List ActorPart) (merged : List Stamped) (o :
   pub parts_tell : TellPace script whole (past_of merged)
   parts_tell = record { within = within_read; retries = retries_read; waiters = waiters_read; calls = calls_read }
 
-pub paced_parts : (script : Script) (whole : List ActorPart) (merged : List Stamped) → AreOwnParts script whole → AreWholeParts (parts_in whole) → IsMerged (parts_in whole) merged → HasAllActors script whole
+pub paced_parts : (script : Script) (whole : List ActorPart) (merged : List Stamped) → AreOwnParts script whole
+    → AreWholeParts (parts_in whole) → IsMerged (parts_in whole) merged → HasAllActors script whole
     → (lost : ℕ) (cuts : List Cut) → ArePacedParts script whole (past_of merged) lost cuts → IsPacedBy script (past_of merged) lost cuts
 paced_parts script whole merged o w m all lost cuts p =
     let tell = parts_tell script whole merged o w m in

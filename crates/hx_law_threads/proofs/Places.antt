@@ -53,12 +53,14 @@ counted_from (suc n) (x ∷ ms) e =
     ((omega (arith, here, r.1), r.0), omega (arith, r.1))
 
 -- the stamps in reverse are the numbers in reverse
-reversed_stamps : (parts : List (List Stamped)) (merged : List Stamped) (n : ℕ) → HasStampsBelow n parts → IsMerged parts merged → reverse (stamps_of merged) ≡ reverse (below n)
+reversed_stamps : (parts : List (List Stamped)) (merged : List Stamped) (n : ℕ) → HasStampsBelow n parts
+    → IsMerged parts merged → reverse (stamps_of merged) ≡ reverse (below n)
 reversed_stamps parts merged n drawn m =
     let perm : IsPermutation (stamps_of (all_of parts)) (stamps_of merged) = IsPermutation-map _ _ _ m.all in
     same_falling (λ (k : ℕ). k) (reverse (stamps_of merged)) (reverse (below n))
     (falls (λ (k : ℕ). k) (stamps_of merged) (subst IsStrictlyIncreasing (sym (map-id (stamps_of merged))) m.by_stamp)) (below_falls n)
-    (λ k i. in_reverse (below n) k (in_permuted _ _ k (IsPermutation-sym _ _ drawn) (in_permuted _ _ k (IsPermutation-sym _ _ perm) (of_reverse (stamps_of merged) k i))))
+    (λ k i. in_reverse (below n) k (in_permuted _ _ k (IsPermutation-sym _ _ drawn)
+    (in_permuted _ _ k (IsPermutation-sym _ _ perm) (of_reverse (stamps_of merged) k i))))
     (λ k i. in_reverse (stamps_of merged) k (in_permuted _ _ k perm (in_permuted _ _ k drawn (of_reverse (below n) k i))))
 
 pub are_counted : (parts : List (List Stamped)) (merged : List Stamped) → AreWholeParts parts → IsMerged parts merged → AreCounted (reverse merged)

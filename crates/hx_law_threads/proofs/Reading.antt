@@ -59,7 +59,8 @@ entry_of_part zero m (x ∷ part) e =
     ap (entry_at m) (reverse_cons x.entry older) ∙ oldest_at m (reverse older) x.entry (omega (arith, e))
 entry_of_part (suc n) m (x ∷ part) e =
     let older = map (λ (y : Stamped). y.entry) part in
-    ap (entry_at m) (reverse_cons x.entry older) ∙ later_at m (n + 1) (reverse older) x.entry (omega (arith, e)) (omega arith) ∙ entry_of_part n (n + 1) part refl
+    ap (entry_at m) (reverse_cons x.entry older) ∙ later_at m (n + 1) (reverse older) x.entry (omega (arith, e))
+    (omega arith) ∙ entry_of_part n (n + 1) part refl
 
 pub read_in_parts : (whole : List ActorPart) (trace : List Entry) → HasOwnParts whole trace → AllByRecursion (IsReadInPart trace) whole
 read_in_parts whole trace own =

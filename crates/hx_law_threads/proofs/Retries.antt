@@ -29,7 +29,8 @@ idle_begins space s idle =
     (λ t. subst (λ o. list_any is_began (when_some o (staying s) (begin space s)).notes ≡ true) (sym call.1) refl)
 
 -- so an actor whose tick begins none is no idle session
-not_idle : (script : Script) (own : List Entry) (a : Actor) → not (list_any is_began (made_of script own a Tick).notes) ≡ true → is_idle_actor script own a ≡ false
+not_idle : (script : Script) (own : List Entry) (a : Actor)
+    → not (list_any is_began (made_of script own a Tick).notes) ≡ true → is_idle_actor script own a ≡ false
 not_idle script own Coordinator e = refl
 not_idle script own (Server s) e = refl
 not_idle script own (Session u) e = by (is_idle (session_of script u own)) refl
@@ -78,7 +79,8 @@ entry_below n (y ∷ xs) x =
     (λ t e. omega (arith, eqb-true (n + 1) (length xs + 1) t)) (λ t e. let r = entry_below n xs x e in omega (arith, r))
 
 -- the entry after the first n of an actor's own is a step after these
-own_after : (script : Script) (a : Actor) (n : ℕ) (xs : List Entry) (x : Entry) → IsOwn script a xs → entry_at (n + 1) xs ≡ Some x → IsOwnStep script a (first_entries n xs) x
+own_after : (script : Script) (a : Actor) (n : ℕ) (xs : List Entry) (x : Entry) → IsOwn script a xs
+    → entry_at (n + 1) xs ≡ Some x → IsOwnStep script a (first_entries n xs) x
 own_after script a n [] x o = λ e. absurd (cc)
 own_after script a n (y ∷ xs) x o =
     cond_both (eqb (n + 1) (length xs + 1)) (Some y) (entry_at (n + 1) xs) (λ r. r ≡ Some x → IsOwnStep script a (first_entries n (y ∷ xs)) x)
@@ -91,12 +93,14 @@ own_after script a n (y ∷ xs) x o =
     let below = entry_below n xs x e in
     subst (λ l. IsOwnStep script a l x) (sym (first_fewer n y xs (omega arith))) (own_after script a n xs x o.1 e))
 
-pub retries_wait : (script : Script) (trace : List Entry) → IsRun script trace → (a : Actor) (n : ℕ) (x : Entry) → entry_at (n + 1) (own_entries a trace) ≡ Some x
+pub retries_wait : (script : Script) (trace : List Entry) → IsRun script trace → (a : Actor) (n : ℕ) (x : Entry)
+    → entry_at (n + 1) (own_entries a trace) ≡ Some x
     → is_retry x ≡ true → is_waiting script (first_entries n (own_entries a trace)) a ≡ true
 retries_wait script trace run a n x e retry =
     retry_waits script a (first_entries n (own_entries a trace)) x (own_after script a n (own_entries a trace) x (entries_own script trace run a) e) retry
 
-pub retriers_waited : (script : Script) (trace : List Entry) → IsRun script trace → (cut : Cut) (a : Actor) → retries_at cut trace a ≡ true → is_waiting script (own_at cut trace a) a ≡ true
+pub retriers_waited : (script : Script) (trace : List Entry) → IsRun script trace → (cut : Cut) (a : Actor)
+    → retries_at cut trace a ≡ true → is_waiting script (own_at cut trace a) a ≡ true
 retriers_waited script trace run cut a = by (next_at cut trace a) refl
   where
     by : (o : Option Entry) → next_at cut trace a ≡ o → when_some o false is_retry ≡ true → is_waiting script (own_at cut trace a) a ≡ true

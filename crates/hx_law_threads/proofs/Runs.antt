@@ -41,7 +41,8 @@ pub record AreSteps (script : Script) (whole : List ActorPart) (ms : List Stampe
   pub caused : (z : Stamped) → IsIn z ms → DeliveryMeets (IsPostedBefore ms z.stamp.0) z.entry
 
 -- a post of an entry with a smaller stamp is one of an older entry
-posted_older : (x : Stamped) (older : List Stamped) (n : ℕ) (id : PostId) (p : Post) → n ≤ x.stamp.0 → IsPostedBefore (x ∷ older) n id p → IsPostedBefore older n id p
+posted_older : (x : Stamped) (older : List Stamped) (n : ℕ) (id : PostId) (p : Post) → n ≤ x.stamp.0
+    → IsPostedBefore (x ∷ older) n id p → IsPostedBefore older n id p
 posted_older x older n id p le h =
     ∥∥₁_map h
     (λ (y : (z : Stamped) × IsIn z (x ∷ older) × (z.stamp.0 < n) × Posted z id p).
@@ -59,7 +60,8 @@ older_steps script whole x older s = record {
       (λ id p h. posted_older x older z.stamp.0 id p (omega (arith, counted_below older z s.counted.1 i, s.counted.0)) h) (s.caused z (inr i));
 }
 
-may_take : (older : List Entry) (a : Actor) (input : Input) → MayHalt a input → InputMeets (λ id p. post_named id older ≡ Some p) a input → MayTake older a input
+may_take : (older : List Entry) (a : Actor) (input : Input) → MayHalt a input
+    → InputMeets (λ id p. post_named id older ≡ Some p) a input → MayTake older a input
 may_take older a Tick h m = tt
 may_take older a Halt h m = h
 may_take older a (Deliver id from message) h m = m
@@ -71,7 +73,8 @@ module _ (script : Script) (whole : List ActorPart) (actors : (p : ActorPart) �
       let a : Actor = k.0.actor in
       let who : x.entry.actor ≡ a = k.2 in
       let here : same_actor x.entry.actor a ≡ true = ap (λ b. same_actor b a) who ∙ same_as_itself a in
-      let own : IsOwn script a (entries (x ∷ mine a older)) = subst (λ b. IsOwn script a (entries (cond b (x ∷ mine a older) (mine a older)))) here (s.own k.0 k.1) in
+      let own : IsOwn script a (entries (x ∷ mine a older)) =
+      subst (λ b. IsOwn script a (entries (cond b (x ∷ mine a older) (mine a older)))) here (s.own k.0 k.1) in
       let step : IsOwnStep script a (own_entries a (entries older)) x.entry = subst (λ l. IsOwnStep script a l x.entry) (sym (own_mine a older)) own.0 in
       let found = meets_more x.entry _ (λ id p. post_named id (entries older) ≡ Some p)
       (λ id p h.
@@ -110,7 +113,8 @@ by_actor script a (x ∷ ms) z o (inr i) = by_actor script a ms z o.1 i
 
 apart : (r q : ActorPart) (whole : List ActorPart) → AllByRecursion (λ a. same_actor r.actor a ≡ false) (actors_in whole) → IsIn q whole → r.actor ≡ q.actor → ⊥
 apart r q whole d j e =
-    true≢false (sym (ap (same_actor r.actor) (sym e) ∙ same_as_itself r.actor) ∙ each_in (λ a. same_actor r.actor a ≡ false) (actors_in whole) q.actor d (map-in (λ (o : ActorPart). o.actor) whole q j))
+    true≢false (sym (ap (same_actor r.actor) (sym e) ∙ same_as_itself r.actor)
+    ∙ each_in (λ a. same_actor r.actor a ≡ false) (actors_in whole) q.actor d (map-in (λ (o : ActorPart). o.actor) whole q j))
 
 -- each actor has one part
 one_part : (whole : List ActorPart) (p q : ActorPart) → IsDistinct same_actor (actors_in whole) → IsIn p whole → IsIn q whole → p.actor ≡ q.actor → p ≡ q
@@ -121,7 +125,8 @@ one_part (r ∷ whole) p q d (inl s) (inr j) e = absurd (apart r q whole d.0 j (
 one_part (r ∷ whole) p q d (inr i) (inl t) e = absurd (apart r p whole d.0 i (ap (λ (o : ActorPart). o.actor) (sym t) ∙ sym e))
 one_part (r ∷ whole) p q d (inr i) (inr j) e = one_part whole p q d.1 i j e
 
-module _ (script : Script) (whole : List ActorPart) (merged : List Stamped) (o : AreOwnParts script whole) (w : AreWholeParts (parts_in whole)) (m : IsMerged (parts_in whole) merged) where
+module _ (script : Script) (whole : List ActorPart) (merged : List Stamped) (o : AreOwnParts script whole)
+    (w : AreWholeParts (parts_in whole)) (m : IsMerged (parts_in whole) merged) where
   into : (z : Stamped) → IsIn z (all_of (parts_in whole)) → IsIn z (reverse merged)
   into z i = in_reverse merged z (in_permuted _ _ z m.all i)
 
@@ -137,7 +142,8 @@ module _ (script : Script) (whole : List ActorPart) (merged : List Stamped) (o :
   pub mine_is : (p : ActorPart) → IsIn p whole → mine p.actor (reverse merged) ≡ reverse p.part
   mine_is p i =
       same_falling (λ (x : Stamped). x.stamp.0) (mine p.actor (reverse merged)) (reverse p.part)
-      (filter_falls (λ (x : Stamped). x.stamp.0) (λ (x : Stamped). same_actor x.entry.actor p.actor) (reverse merged) (falls (λ (x : Stamped). x.stamp.0) merged m.by_stamp))
+      (filter_falls (λ (x : Stamped). x.stamp.0) (λ (x : Stamped). same_actor x.entry.actor p.actor) (reverse merged)
+      (falls (λ (x : Stamped). x.stamp.0) merged m.by_stamp))
       (falls (λ (x : Stamped). x.stamp.0) p.part
       (each_in (λ part. IsStrictlyIncreasing (stamps_of part)) (parts_in whole) p.part w.causal.ascend (map-in (λ (q : ActorPart). q.part) whole p i)))
       (λ z j.
@@ -162,12 +168,14 @@ module _ (script : Script) (whole : List ActorPart) (merged : List Stamped) (o :
     caused = λ z i.
         meets_more z.entry _ _
         (λ id p h. posted_in z.stamp.0 id p h)
-        (each_in (λ (x : Stamped). DeliveryMeets (IsPostedBefore (all_of (parts_in whole)) x.stamp.0) x.entry) (all_of (parts_in whole)) z w.causal.caused (back z i));
+        (each_in (λ (x : Stamped). DeliveryMeets (IsPostedBefore (all_of (parts_in whole)) x.stamp.0) x.entry)
+        (all_of (parts_in whole)) z w.causal.caused (back z i));
   }
 
   pub merged_run : IsRunOfParts script whole merged
   merged_run = record {
-    run = subst (IsRun script) (sym (past_is merged)) (steps_run script whole (λ p i. (each_in (IsOwnPart script) whole p o.own i).0) (reverse merged) all_steps);
+    run = subst (IsRun script) (sym (past_is merged))
+        (steps_run script whole (λ p i. (each_in (IsOwnPart script) whole p o.own i).0) (reverse merged) all_steps);
     own = each_all (λ (p : ActorPart). own_entries p.actor (past_of merged) ≡ past_of p.part) whole
         (λ p i. ap (own_entries p.actor) (past_is merged) ∙ own_mine p.actor (reverse merged) ∙ ap entries (mine_is p i) ∙ sym (past_is p.part));
   }
@@ -183,4 +191,5 @@ of_parts parts merged m x i =
 pub posts_found : (parts : List (List Stamped)) (merged : List Stamped) → AreWholeParts parts → IsMerged parts merged
     → (z : Stamped) (id : PostId) (p : Post) → IsIn z (all_of parts) → Posted z id p → post_named id (past_of merged) ≡ Some p
 posts_found parts merged w m z id p i posted =
-    ap (post_named id) (past_is merged) ∙ post_found (reverse merged) z id p (are_counted parts merged w m) (in_reverse merged z (in_permuted _ _ z m.all i)) posted
+    ap (post_named id) (past_is merged) ∙ post_found (reverse merged) z id p (are_counted parts merged w m)
+    (in_reverse merged z (in_permuted _ _ z m.all i)) posted

@@ -8,12 +8,14 @@ use Rattle.hx_law_threads.specs.Own.{own_entries, IsOwn, IsOwnStep, MayHalt}
 use Rattle.hx_law_threads.specs.Laws.{IsByOwnEntries}
 use Rattle.hx_law_threads.proofs.Actors.{same_actor_is}
 
-server_other : (space : Space) (s : ServerId) (a : Actor) (input : Input) (state : ServerState) → same_actor a (Server s) ≡ false → server_after space s a input state ≡ state
+server_other : (space : Space) (s : ServerId) (a : Actor) (input : Input) (state : ServerState)
+    → same_actor a (Server s) ≡ false → server_after space s a input state ≡ state
 server_other space s Coordinator input state e = refl
 server_other space s (Session u) input state e = refl
 server_other space s (Server x) input state e = ap (λ b. cond b (server_step space state input).state state) e
 
-session_other : (space : Space) (u : SessionId) (a : Actor) (input : Input) (state : SessionState) → same_actor a (Session u) ≡ false → session_after space u a input state ≡ state
+session_other : (space : Space) (u : SessionId) (a : Actor) (input : Input) (state : SessionState)
+    → same_actor a (Session u) ≡ false → session_after space u a input state ≡ state
 session_other space u Coordinator input state e = refl
 session_other space u (Server s) input state e = refl
 session_other space u (Session x) input state e = ap (λ b. cond b (session_step space state input).state state) e
@@ -56,7 +58,8 @@ made_own script trace Coordinator input =
 made_own script trace (Server s) input =
     ap (λ (state : ServerState). the_made (server_step script.space state input).posts (server_step script.space state input).notes) (server_own script s trace)
 made_own script trace (Session u) input =
-    ap (λ (state : SessionState). the_made (session_step script.space state input).posts (session_step script.space state input).notes) (session_own script u trace)
+    ap (λ (state : SessionState). the_made (session_step script.space state input).posts
+    (session_step script.space state input).notes) (session_own script u trace)
 
 pub halted_own : (script : Script) (trace : List Entry) (a : Actor) → has_halted script (own_entries a trace) a ≡ has_halted script trace a
 halted_own script trace Coordinator = refl

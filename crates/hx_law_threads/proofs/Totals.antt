@@ -35,7 +35,8 @@ count-mine : (a : Actor) (ms : List Stamped) → entries_of a (entries ms) ≡ l
 count-mine a [] = refl
 count-mine a (x ∷ ms) = by (same_actor x.entry.actor a) (count-mine a ms)
   where
-    by : (b : Bool) → entries_of a (entries ms) ≡ length (mine a ms) → cond b (entries_of a (entries ms) + 1) (entries_of a (entries ms)) ≡ length (cond b (x ∷ mine a ms) (mine a ms))
+    by : (b : Bool) → entries_of a (entries ms) ≡ length (mine a ms)
+        → cond b (entries_of a (entries ms) + 1) (entries_of a (entries ms)) ≡ length (cond b (x ∷ mine a ms) (mine a ms))
     by true e = omega (arith, e)
     by false e = e
 
@@ -53,18 +54,22 @@ total_same g h (x ∷ xs) e = omega (arith, e x (inl refl), total_same g h xs (�
 
 -- one of the items counts more
 total_more : (g h : ActorPart → ℕ) (w : ℕ) (whole : List ActorPart) (p : ActorPart) → IsDistinct same_actor (actors_in whole) → IsIn p whole → g p ≡ h p + w
-    → ((q : ActorPart) → IsIn q whole → same_actor p.actor q.actor ≡ false → g q ≡ h q) → ((q : ActorPart) → IsIn q whole → same_actor q.actor p.actor ≡ false → g q ≡ h q)
+    → ((q : ActorPart) → IsIn q whole → same_actor p.actor q.actor ≡ false → g q ≡ h q)
+    → ((q : ActorPart) → IsIn q whole → same_actor q.actor p.actor ≡ false → g q ≡ h q)
     → total g whole ≡ total h whole + w
 unfolding IsDistinct
 total_more g h w [] p d i more left right = absurd i
 total_more g h w (q ∷ whole) p d (inl e) more left right =
     let rest : total g whole ≡ total h whole =
     total_same g h whole
-    (λ r j. left r (inr j) (ap (λ (z : ActorPart). same_actor z.actor r.actor) e ∙ each_in (λ a. same_actor q.actor a ≡ false) (actors_in whole) r.actor d.0 (map-in (λ (z : ActorPart). z.actor) whole r j))) in
+    (λ r j. left r (inr j) (ap (λ (z : ActorPart). same_actor z.actor r.actor) e
+    ∙ each_in (λ a. same_actor q.actor a ≡ false) (actors_in whole) r.actor d.0
+    (map-in (λ (z : ActorPart). z.actor) whole r j))) in
     let here : g q ≡ h q + w = subst (λ z. g z ≡ h z + w) e more in
     omega (arith, rest, here)
 total_more g h w (q ∷ whole) p d (inr i) more left right =
-    let here : g q ≡ h q = right q (inl refl) (each_in (λ a. same_actor q.actor a ≡ false) (actors_in whole) p.actor d.0 (map-in (λ (z : ActorPart). z.actor) whole p i)) in
+    let here : g q ≡ h q = right q (inl refl) (each_in (λ a. same_actor q.actor a ≡ false)
+    (actors_in whole) p.actor d.0 (map-in (λ (z : ActorPart). z.actor) whole p i)) in
     let rest = total_more g h w whole p d.1 i more (λ r j. left r (inr j)) (λ r j. right r (inr j)) in
     omega (arith, rest, here)
 
@@ -81,8 +86,10 @@ parts_total f cut whole d (x ∷ ms) known =
     let w : ℕ = cond (nat_lt (length (mine x.entry.actor ms)) (cut x.entry.actor)) (worth f x) 0 in
     let rest = parts_total f cut whole d ms (λ z i. known z (inr i)) in
     let more =
-    total_more (λ (p : ActorPart). total_own f (cut p.actor) (mine p.actor (x ∷ ms))) (λ (p : ActorPart). total_own f (cut p.actor) (mine p.actor ms)) w whole k.0 d k.1
-    (ap (λ b. total_own f (cut k.0.actor) (cond b (x ∷ mine k.0.actor ms) (mine k.0.actor ms))) (ap (λ a. same_actor a k.0.actor) k.2 ∙ same_as_itself k.0.actor)
+    total_more (λ (p : ActorPart). total_own f (cut p.actor) (mine p.actor (x ∷ ms)))
+    (λ (p : ActorPart). total_own f (cut p.actor) (mine p.actor ms)) w whole k.0 d k.1
+    (ap (λ b. total_own f (cut k.0.actor) (cond b (x ∷ mine k.0.actor ms) (mine k.0.actor ms)))
+    (ap (λ a. same_actor a k.0.actor) k.2 ∙ same_as_itself k.0.actor)
     ∙ ap (λ (a : Actor). total_own f (cut k.0.actor) (mine k.0.actor ms) + cond (nat_lt (length (mine a ms)) (cut a)) (worth f x) 0) (sym k.2))
     (λ q i e. ap (λ b. total_own f (cut q.actor) (cond b (x ∷ mine q.actor ms) (mine q.actor ms))) (ap (λ a. same_actor a q.actor) k.2 ∙ e))
     (λ q i e. ap (λ b. total_own f (cut q.actor) (cond b (x ∷ mine q.actor ms) (mine q.actor ms))) (flipped x.entry.actor k.0.actor q.actor k.2 e)) in
@@ -99,7 +106,8 @@ module _ (f : ℕ → Entry → ℕ) where
   own_none : (ms : List Stamped) → total_own f 0 ms ≡ 0
   own_none [] = refl
   own_none (x ∷ ms) =
-      cond_both (nat_lt (length ms) 0) (worth f x) 0 (λ w. total_own f 0 ms + w ≡ 0) (λ t. absurd (omega (arith, ltb-true (length ms) 0 t))) (λ t. omega (arith, own_none ms))
+      cond_both (nat_lt (length ms) 0) (worth f x) 0 (λ w. total_own f 0 ms + w ≡ 0)
+      (λ t. absurd (omega (arith, ltb-true (length ms) 0 t))) (λ t. omega (arith, own_none ms))
 
   next-lt : (a n : ℕ) → nat_lt (suc a) (suc n) ≡ nat_lt a n
   next-lt a n =
@@ -126,10 +134,13 @@ module _ (f : ℕ → Entry → ℕ) where
   own_total (suc n) [] = refl
   own_total (suc n) (x ∷ part) = ap (total_own f (suc n)) (reverse_cons x part) ∙ own_first n (reverse part) x ∙ ap (λ t. worth f x + t) (own_total n part)
 
-pub cuts_add_up : (script : Script) (whole : List ActorPart) (merged : List Stamped) → AreOwnParts script whole → AreWholeParts (parts_in whole) → IsMerged (parts_in whole) merged
+pub cuts_add_up : (script : Script) (whole : List ActorPart) (merged : List Stamped) → AreOwnParts script whole
+    → AreWholeParts (parts_in whole) → IsMerged (parts_in whole) merged
     → (f : ℕ → Entry → ℕ) (cut : Cut) → total_at f cut (past_of merged) ≡ total_of_parts f cut whole
 cuts_add_up script whole merged o w m f cut =
     let steps : AreSteps script whole (reverse merged) = all_steps script whole merged o w m in
-    ap (total_at f cut) (past_is merged) ∙ trace_total f cut (reverse merged) (are_counted (parts_in whole) merged w m) ∙ parts_total f cut whole o.apart (reverse merged) steps.known
-    ∙ total_same (λ (p : ActorPart). total_own f (cut p.actor) (mine p.actor (reverse merged))) (λ (p : ActorPart). total_over f (take (cut p.actor) p.part)) whole
+    ap (total_at f cut) (past_is merged) ∙ trace_total f cut (reverse merged)
+    (are_counted (parts_in whole) merged w m) ∙ parts_total f cut whole o.apart (reverse merged) steps.known
+    ∙ total_same (λ (p : ActorPart). total_own f (cut p.actor) (mine p.actor (reverse merged)))
+    (λ (p : ActorPart). total_over f (take (cut p.actor) p.part)) whole
     (λ p i. ap (total_own f (cut p.actor)) (mine_is script whole merged o w m p i) ∙ own_total f (cut p.actor) p.part)

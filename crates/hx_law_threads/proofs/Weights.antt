@@ -22,7 +22,12 @@ delivered_weigh : (h : PostId → ℕ) (cut : Cut) (trace : List Entry) → tota
 delivered_weigh h cut [] = refl
 delivered_weigh h cut (x ∷ older) =
     let b = is_in_cut cut x.actor older in
-    omega (arith, total-append h (delivered_at cut older) (provided b (delivered_by x.input)), delivered_weigh h cut older, weigh_provided h b (delivered_by x.input))
+    omega (
+      arith,
+      total-append h (delivered_at cut older) (provided b (delivered_by x.input)),
+      delivered_weigh h cut older,
+      weigh_provided h b (delivered_by x.input),
+    )
 
 pub posts_weigh : (h : PostId → ℕ) (cut : Cut) (trace : List Entry) → PostsWeigh h cut trace
 posts_weigh h cut trace = record { made = made_weigh h cut trace; delivered = delivered_weigh h cut trace }
@@ -31,7 +36,8 @@ pub length-filter : {A : Type 0} (test : A → Bool) (xs : List A) → length (f
 length-filter test [] = refl
 length-filter test (x ∷ xs) = by (test x) (length-filter test xs)
   where
-    by : (b : Bool) → length (filter test xs) ≡ total (λ y. one (test y)) xs → length (cond b (x ∷ filter test xs) (filter test xs)) ≡ one b + total (λ y. one (test y)) xs
+    by : (b : Bool) → length (filter test xs) ≡ total (λ y. one (test y)) xs
+        → length (cond b (x ∷ filter test xs) (filter test xs)) ≡ one b + total (λ y. one (test y)) xs
     by true e = omega (arith, e)
     by false e = omega (arith, e)
 
@@ -58,10 +64,12 @@ to_halted a b e = by (a && not b) refl
     by false q = q
     by true q = absurd (true≢false (sym (and_parts a (not b) q).1 ∙ ap not e))
 
-pub open_counted : (script : Script) (cut : Cut) (trace : List Entry) (lost : ℕ) → AtMostUndelivered script cut trace lost → length (open_at script cut trace) ≤ lost
+pub open_counted : (script : Script) (cut : Cut) (trace : List Entry) (lost : ℕ)
+    → AtMostUndelivered script cut trace lost → length (open_at script cut trace) ≤ lost
 open_counted script cut trace lost few =
     let test : PostId → Bool = λ (id : PostId). eqb (times_named id (delivered_at cut trace)) 0 && not (is_to_halted script cut trace id) in
-    let most = few test (λ id i. not_zero (times_named id (delivered_at cut trace)) (not (is_to_halted script cut trace id)) (named_in (delivered_at cut trace) id i))
+    let most = few test (λ id i. not_zero (times_named id (delivered_at cut trace))
+    (not (is_to_halted script cut trace id)) (named_in (delivered_at cut trace) id i))
     (λ id h. to_halted (eqb (times_named id (delivered_at cut trace)) 0) (is_to_halted script cut trace id) h) in
     omega (arith, length-filter test (posted_at cut trace), most)
 
@@ -77,20 +85,33 @@ times-append id (x ∷ xs) ys = by (same_name x id) (times-append id xs ys)
 other_entry : (id : PostId) (entry place : ℕ) (posts : List Post) → entry ≢ id.entry → times_named id (names_from entry place posts) ≡ 0
 other_entry id entry place [] d = refl
 other_entry id entry place (p ∷ posts) d =
-    cond_both (same_name (record { entry = entry; place = place }) id) (times_named id (names_from entry (place + 1) posts) + 1) (times_named id (names_from entry (place + 1) posts)) (λ n. n ≡ 0)
+    cond_both (same_name (record { entry = entry; place = place }) id)
+    (times_named id (names_from entry (place + 1) posts) + 1)
+    (times_named id (names_from entry (place + 1) posts)) (λ n. n ≡ 0)
     (λ t. absurd (d (eqb-true entry id.entry (and_parts (eqb entry id.entry) (eqb place id.place) t).0))) (λ t. other_entry id entry (place + 1) posts d)
 
 later_place : (id : PostId) (entry place : ℕ) (posts : List Post) → id.place < place → times_named id (names_from entry place posts) ≡ 0
 later_place id entry place [] lt = refl
 later_place id entry place (p ∷ posts) lt =
-    cond_both (same_name (record { entry = entry; place = place }) id) (times_named id (names_from entry (place + 1) posts) + 1) (times_named id (names_from entry (place + 1) posts)) (λ n. n ≡ 0)
-    (λ t. absurd (omega (arith, lt, eqb-true place id.place (and_parts (eqb entry id.entry) (eqb place id.place) t).1))) (λ t. later_place id entry (place + 1) posts (omega (arith, lt)))
+    cond_both (same_name (record { entry = entry; place = place }) id)
+    (times_named id (names_from entry (place + 1) posts) + 1)
+    (times_named id (names_from entry (place + 1) posts)) (λ n. n ≡ 0)
+    (λ t. absurd (omega (
+      arith,
+      lt,
+      eqb-true place id.place
+          (and_parts (eqb entry id.entry) (eqb place id.place) t).1,
+    )))
+    (λ t. later_place id entry (place + 1) posts (omega (arith, lt)))
 
 names_once : (id : PostId) (entry place : ℕ) (posts : List Post) → times_named id (names_from entry place posts) ≤ 1
 names_once id entry place [] = omega arith
 names_once id entry place (p ∷ posts) =
-    cond_both (same_name (record { entry = entry; place = place }) id) (times_named id (names_from entry (place + 1) posts) + 1) (times_named id (names_from entry (place + 1) posts)) (λ n. n ≤ 1)
-    (λ t. let same = eqb-true place id.place (and_parts (eqb entry id.entry) (eqb place id.place) t).1 in omega (arith, later_place id entry (place + 1) posts (omega (arith, same))))
+    cond_both (same_name (record { entry = entry; place = place }) id)
+    (times_named id (names_from entry (place + 1) posts) + 1)
+    (times_named id (names_from entry (place + 1) posts)) (λ n. n ≤ 1)
+    (λ t. let same = eqb-true place id.place (and_parts (eqb entry id.entry) (eqb place id.place) t).1 in
+    omega (arith, later_place id entry (place + 1) posts (omega (arith, same))))
     (λ t. names_once id entry (place + 1) posts)
 
 times_provided : (id : PostId) (b : Bool) (ids : List PostId) → times_named id (provided b ids) ≤ times_named id ids

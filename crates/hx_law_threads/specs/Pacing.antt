@@ -6,7 +6,8 @@ use Rattle.hx_types.specs.Words.{when_some, IsIn}
 use Rattle.hx_model.specs.Runs.{entry_at, is_actor}
 use Rattle.hx_model.specs.Schedule.{entries_of}
 use Rattle.hx_law_threads.specs.Own.{own_entries}
-use Rattle.hx_law_threads.specs.Cuts.{delivered_at, delivered_twice, is_retry, is_waiting, next_at, open_at, own_at, times_named, whole_of, Cut, HasCallUnderWay}
+use Rattle.hx_law_threads.specs.Cuts.{delivered_at, delivered_twice, is_retry, is_waiting, next_at, open_at, own_at}
+use Rattle.hx_law_threads.specs.Cuts.{times_named, whole_of, Cut, HasCallUnderWay}
 
 -- none is smaller at any actor than the one after it in the list, which is the one before it in time
 abbrev pub AreRising : List Cut → Type 0

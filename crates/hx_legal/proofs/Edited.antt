@@ -1,5 +1,6 @@
 -- Edits that can be made are assignments of their results, and the first that can't be answers for all.
-use Rattle.std.proofs.Common.{◌≡◌, ℕ, ℤ, ◌-◌, ◌+◌, ◌++◌, Bool, true, false, cond, List, [], ◌∷◌, length, map, take, drop, reverse, Option, Some, None, refl, sym, ap, ◌∙◌}
+use Rattle.std.proofs.Common.{◌≡◌, ℕ, ℤ, ◌-◌, ◌+◌, ◌++◌, Bool, true, false, cond, List, [], ◌∷◌, length, map, take}
+use Rattle.std.proofs.Common.{drop, reverse, Option, Some, None, refl, sym, ap, ◌∙◌}
 use Rattle.std.specs.Prelude.{◌+ℤ◌, nat_le, slice_get, slice_set, Result, Ok, Err}
 use Rattle.std.specs.List.{find}
 use Rattle.std.specs.Option.{option_map}
@@ -21,7 +22,8 @@ abbrev unless : {A : Type 0} → Option Answer → A → Result A Answer
 unless None x = Ok x
 unless (Some answer) x = Err answer
 
-added_is : (v i : ℤ) (b : Bool) → let sum : Result Value Answer = cond b (Ok (a_value.Int (v +ℤ i))) (Err an_answer.Overflow) in sum ≡ unless (refused sum) (a_value.Int (v +ℤ i))
+added_is : (v i : ℤ) (b : Bool) → let sum : Result Value Answer =
+    cond b (Ok (a_value.Int (v +ℤ i))) (Err an_answer.Overflow) in sum ≡ unless (refused sum) (a_value.Int (v +ℤ i))
 added_is v i true = refl
 added_is v i false = refl
 
@@ -45,30 +47,36 @@ edit_is old e = by (slice_get old (e.attribute - 1))
     by None = refl
     by (Some v) = value_is e.what v e.value
 
-edits_are : (old object : List Value) (edits : List Edit) → edited_from old object edits ≡ unless (first_refused old edits) (written object (results_of old edits))
+edits_are : (old object : List Value) (edits : List Edit)
+    → edited_from old object edits ≡ unless (first_refused old edits) (written object (results_of old edits))
 edits_are old object [] = refl
 edits_are old object (e ∷ rest) =
-    ap (λ (made : Result Value Answer). and_then made next) (edit_is old e) ∙ by (refused (edit_of old e)) (edits_are old (slice_set object (e.attribute - 1) (result_of old e)) rest)
+    ap (λ (made : Result Value Answer). and_then made next) (edit_is old e)
+    ∙ by (refused (edit_of old e)) (edits_are old (slice_set object (e.attribute - 1) (result_of old e)) rest)
   where
     next : Value → Result (List Value) Answer
     next v = edited_from old (slice_set object (e.attribute - 1) v) rest
 
     by : (o : Option Answer) → next (result_of old e) ≡ unless (first_refused old rest) (written object (results_of old (e ∷ rest)))
-        → and_then (unless o (result_of old e)) next ≡ unless (when_some o (first_refused old rest) (λ (a : Answer). Some a)) (written object (results_of old (e ∷ rest)))
+        → and_then (unless o (result_of old e)) next ≡ unless
+        (when_some o (first_refused old rest) (λ (a : Answer). Some a)) (written object (results_of old (e ∷ rest)))
     by None more = more
     by (Some answer) more = refl
 
-pub edited_refused : (old : List Value) (edits : List Edit) (answer : Answer) → first_refused old edits ≡ Some answer → edited (Some old) edits ≡ left_as (Some old) answer
+pub edited_refused : (old : List Value) (edits : List Edit) (answer : Answer) → first_refused old edits ≡ Some answer
+    → edited (Some old) edits ≡ left_as (Some old) answer
 edited_refused old edits answer e =
     ap (edit_answered old) (edits_are old old edits ∙ ap (λ (o : Option Answer). unless o (written old (results_of old edits))) e)
 
-pub edited_made : (old : List Value) (edits : List Edit) → first_refused old edits ≡ None → edited (Some old) edits ≡ changed_to (Some (written old (results_of old edits)))
+pub edited_made : (old : List Value) (edits : List Edit) → first_refused old edits ≡ None
+    → edited (Some old) edits ≡ changed_to (Some (written old (results_of old edits)))
 edited_made old edits e =
     ap (edit_answered old) (edits_are old old edits ∙ ap (λ (o : Option Answer). unless o (written old (results_of old edits))) e)
 
 -- ---- what stands at a place
 
-find_assigned : (old : List Value) (p : ℕ) (edits : List Edit) → find (writes_at p) (map (assigned old) edits) ≡ option_map (assigned old) (find (edits_at p) edits)
+find_assigned : (old : List Value) (p : ℕ) (edits : List Edit)
+    → find (writes_at p) (map (assigned old) edits) ≡ option_map (assigned old) (find (edits_at p) edits)
 find_assigned old p [] = refl
 find_assigned old p (e ∷ rest) = by (edits_at p e) (find_assigned old p rest)
   where
@@ -93,7 +101,8 @@ value_after_edits old edits p =
     ∙ ap (λ (o : Option Assign). when_some o (slice_get old p) (λ (a : Assign). Some a.value)) (find_assigned old p (reverse edits))
     ∙ by (find (edits_at p) (reverse edits))
   where
-    by : (o : Option Edit) → when_some (option_map (assigned old) o) (slice_get old p) (λ (a : Assign). Some a.value) ≡ when_some o (slice_get old p) (λ (e : Edit). Some (result_of old e))
+    by : (o : Option Edit) → when_some (option_map (assigned old) o) (slice_get old p) (λ (a : Assign). Some a.value)
+        ≡ when_some o (slice_get old p) (λ (e : Edit). Some (result_of old e))
     by None = refl
     by (Some e) = refl
 

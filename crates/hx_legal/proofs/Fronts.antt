@@ -24,15 +24,19 @@ legal_front space items n h =
     (subst (IsLegal space) (ap reverse (sym (take-append-drop n items)) ∙ reverse-append (take n items) (drop n items)) h)
 
 -- an item that is no effect
-pub fault_at : (space : Space) (items : List Item) (i : ℕ) (x : Item) → i < length items → x ≡ get_or items i x → (before : Option (List Value)) → before ≡ object_now (reverse (take i items))
+pub fault_at : (space : Space) (items : List Item) (i : ℕ) (x : Item) → i < length items → x ≡ get_or items i x
+    → (before : Option (List Value)) → before ≡ object_now (reverse (take i items))
     → (IsEffect space before x → ⊥) → IsLegal space (reverse (take i items)) → IsFirstFault space items i
 fault_at space items i x l is before e none legal = record {
   before = legal;
-  fault = subst (λ (o : Option Item). IsSomeAnd o (λ (y : Item). IsEffect space (object_now (reverse (take i items))) y → ⊥)) (ap Some is ∙ sym (slice_get-get_or items i x l))
+  fault = subst (λ (o : Option Item). IsSomeAnd o
+      (λ (y : Item). IsEffect space (object_now (reverse (take i items))) y → ⊥))
+      (ap Some is ∙ sym (slice_get-get_or items i x l))
       (λ effect. none (subst (λ (o : Option (List Value)). IsEffect space o x) (sym e) effect));
 }
 
-pub not_legal : (space : Space) (items : List Item) (i : ℕ) (x : Item) → i < length items → x ≡ get_or items i x → (before : Option (List Value)) → before ≡ object_now (reverse (take i items))
+pub not_legal : (space : Space) (items : List Item) (i : ℕ) (x : Item) → i < length items → x ≡ get_or items i x
+    → (before : Option (List Value)) → before ≡ object_now (reverse (take i items))
     → (IsEffect space before x → ⊥) → IsLegal space (reverse items) → ⊥
 not_legal space items i x l is before e none legal =
     let front = subst (IsLegal space) (reverse-take_more items i x l is) (legal_front space items (i + 1) legal) in

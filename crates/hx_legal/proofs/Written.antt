@@ -1,5 +1,6 @@
 -- What stands at each place of an object with values written over.
-use Rattle.std.proofs.Common.{◌≡◌, ◌≢◌, ℕ, ◌+◌, ◌-◌, ◌<◌, Bool, true, false, cond, eqb, List, [], ◌∷◌, ◌++◌, length, get_or, set, reverse, Option, Some, refl, sym, ap, ◌∙◌, arith, below_more}
+use Rattle.std.proofs.Common.{◌≡◌, ◌≢◌, ℕ, ◌+◌, ◌-◌, ◌<◌, Bool, true, false, cond, eqb, List, [], ◌∷◌, ◌++◌, length}
+use Rattle.std.proofs.Common.{get_or, set, reverse, Option, Some, refl, sym, ap, ◌∙◌, arith, below_more}
 use Rattle.std.specs.List.{find, slice_get}
 use Rattle.std.proofs.lemmas.Bool.Decides.{nat_tests}
 use Rattle.std.proofs.lemmas.List.{get_or-set_other, get_or-set_same, length-set, reverse-append, reverse-reverse, same_lists}
@@ -33,7 +34,8 @@ slice_get-set xs q p x l = by (eqb q p) refl
         ∙ sym (slice_get-get_or xs p x l)
 
 -- whether an assignment writes at the place or leaves it
-chosen_at : (o : List Value) (p : ℕ) (a : Assign) (rest : Option Assign) (before : Option Value) → slice_get o p ≡ when_some rest before (λ (x : Assign). Some x.value)
+chosen_at : (o : List Value) (p : ℕ) (a : Assign) (rest : Option Assign) (before : Option Value)
+    → slice_get o p ≡ when_some rest before (λ (x : Assign). Some x.value)
     → (b : Bool) → cond b (Some a.value) (slice_get o p) ≡ when_some (cond b (Some a) rest) before (λ (x : Assign). Some x.value)
 chosen_at o p a rest before e true = refl
 chosen_at o p a rest before e false = e
@@ -62,23 +64,27 @@ written_from_places values object sets e same =
     (slice_get-written object sets p (omega (arith, e, l)) ∙ same p l ∙ slice_get-get_or values p d l)))
 
 -- and so only there
-pub places_of_written : (values object : List Value) (sets : List Assign) → values ≡ written object sets → (p : ℕ) → p < length values → value_after object sets p ≡ slice_get values p
+pub places_of_written : (values object : List Value) (sets : List Assign) → values ≡ written object sets → (p : ℕ)
+    → p < length values → value_after object sets p ≡ slice_get values p
 places_of_written values object sets e p l =
     let n = length-written object sets in
     let same = ap length e in
     sym (slice_get-written object sets p (omega (arith, n, same, l))) ∙ ap (λ (o : List Value). slice_get o p) (sym e)
 
 -- a value read at a place is the one that stands there
-read_at : (values object : List Value) (sets : List Assign) (i : ℕ) (v : Value) → i < length values → v ≡ get_or values i v → value_after object sets i ≡ Some v → value_after object sets i ≡ slice_get values i
+read_at : (values object : List Value) (sets : List Assign) (i : ℕ) (v : Value) → i < length values
+    → v ≡ get_or values i v → value_after object sets i ≡ Some v → value_after object sets i ≡ slice_get values i
 read_at values object sets i v l is e = e ∙ ap Some is ∙ sym (slice_get-get_or values i v l)
 
 -- one place further
-pub places_more : (values object : List Value) (sets : List Assign) (i : ℕ) (v : Value) → i < length values → v ≡ get_or values i v → value_after object sets i ≡ Some v
+pub places_more : (values object : List Value) (sets : List Assign) (i : ℕ) (v : Value) → i < length values
+    → v ≡ get_or values i v → value_after object sets i ≡ Some v
     → ((p : ℕ) → p < i → value_after object sets p ≡ slice_get values p) → (p : ℕ) → p < i + 1 → value_after object sets p ≡ slice_get values p
 places_more values object sets i v l is e before = below_more _ _ before (read_at values object sets i v l is e)
 
 -- another value at one place
-pub not_written : (values object : List Value) (sets : List Assign) (i : ℕ) (v : Value) → i < length values → v ≡ get_or values i v → (value_after object sets i ≡ Some v → ⊥) → values ≡ written object sets → ⊥
+pub not_written : (values object : List Value) (sets : List Assign) (i : ℕ) (v : Value) → i < length values
+    → v ≡ get_or values i v → (value_after object sets i ≡ Some v → ⊥) → values ≡ written object sets → ⊥
 not_written values object sets i v l is other e =
     other (places_of_written values object sets e i l ∙ slice_get-get_or values i v l ∙ ap Some (sym is))
 

@@ -1,5 +1,7 @@
 -- What stands in quotes is a text: UTF-8 with no control character but newline and tab.
-use Rattle.std.proofs.Common.{◌≡◌, ℕ, zero, suc, ◌+◌, ◌<◌, ◌≤◌, Bool, true, false, cond, eqb, ltb, List, [], ◌∷◌, ◌++◌, length, get_or, take, Option, Some, None, Result, Ok, Err, refl, sym, ◌∙◌, subst, arith, inl, inr, add-zero}
+use Rattle.std.proofs.Common.{◌≡◌, ℕ, zero, suc, ◌+◌, ◌<◌, ◌≤◌, Bool, true, false, cond, eqb, ltb, List, [], ◌∷◌, ◌++◌}
+use Rattle.std.proofs.Common.{length, get_or, take, Option, Some, None, Result, Ok, Err, refl, sym, ◌∙◌, subst, arith}
+use Rattle.std.proofs.Common.{inl, inr, add-zero}
 use Rattle.std.specs.Prelude.{◌&&◌}
 use Rattle.std.specs.Str.{IsUtf8, is_utf8}
 use Rattle.std.specs.Str.Lossy.{utf8_valid_len, valid_len_up_to}
@@ -42,7 +44,8 @@ pub ascii : (n : ℕ) → n < 128 → IsUtf8 (n ∷ [])
 ascii n lt = subst IsUtf8 (encode_ascii n lt) (IsUtf8-encode n (grind (arith, nat_tests)))
 
 -- the bytes of a character that isn't ASCII stand for themselves
-high_content : (bs rest : List ℕ) (at : ℕ) → ((k : ℕ) → k < length bs → 128 ≤ get_or bs k 0) → content false at (bs ++ rest) ≡ after bs (content false (at + length bs) rest)
+high_content : (bs rest : List ℕ) (at : ℕ) → ((k : ℕ) → k < length bs → 128 ≤ get_or bs k 0)
+    → content false at (bs ++ rest) ≡ after bs (content false (at + length bs) rest)
 unfolding content
 high_content [] rest at high = rw add-zero (after_nil (content false at rest))
   where
@@ -52,7 +55,13 @@ high_content [] rest at high = rw add-zero (after_nil (content false at rest))
 high_content (b ∷ bs) rest at high =
     let le : 128 ≤ b = high 0 (omega arith) in
     let k : at + 1 + length bs ≡ at + length (b ∷ bs) = omega arith in
-    rw (le-ltb b 32 (omega arith), ne_eqb b 92 (λ e. omega (arith, e)), high_content bs rest (at + 1) (λ i lt. high (suc i) (omega arith)), k) (after_more b bs (content false (at + length (b ∷ bs)) rest))
+    rw (
+      le-ltb b 32 (omega arith),
+      ne_eqb b 92 (λ e. omega (arith, e)),
+      high_content bs rest (at + 1) (λ i lt. high (suc i) (omega arith)),
+      k,
+    )
+    (after_more b bs (content false (at + length (b ∷ bs)) rest))
   where
     after_more : (b : ℕ) (bs : List ℕ) (read : Result (List ℕ) LexError) → followed_by b (after bs read) ≡ after (b ∷ bs) read
     after_more b bs (Ok u) = refl
@@ -83,14 +92,16 @@ escaped_ascii c x e = by_tests (eqb c 34) (eqb c 92) (eqb c 110) (eqb c 116) x e
 escaped_low : (c x : ℕ) → escaped c ≡ Some x → c < 128
 escaped_low c x e = by_tests c (eqb c 34) (eqb c 92) (eqb c 110) (eqb c 116) x refl refl refl refl e
   where
-    by_tests : (c : ℕ) (p q r s : Bool) (x : ℕ) → eqb c 34 ≡ p → eqb c 92 ≡ q → eqb c 110 ≡ r → eqb c 116 ≡ s → cond p (Some 34) (cond q (Some 92) (cond r (Some 10) (cond s (Some 9) None))) ≡ Some x → c < 128
+    by_tests : (c : ℕ) (p q r s : Bool) (x : ℕ) → eqb c 34 ≡ p → eqb c 92 ≡ q → eqb c 110 ≡ r → eqb c 116 ≡ s
+        → cond p (Some 34) (cond q (Some 92) (cond r (Some 10) (cond s (Some 9) None))) ≡ Some x → c < 128
     by_tests c true q r s x f g h i e = omega (arith, eqb-true c 34 f)
     by_tests c false true r s x f g h i e = omega (arith, eqb-true c 92 g)
     by_tests c false false true s x f g h i e = omega (arith, eqb-true c 110 h)
     by_tests c false false false true x f g h i e = omega (arith, eqb-true c 116 i)
     by_tests c false false false false x f g h i e = absurd cc
 
-low_step : (c : ℕ) (rest : List ℕ) → c < 128 → ((behind : Bool) (at : ℕ) (u : List ℕ) → content behind at rest ≡ Ok u → IsUtf8 u) → (behind : Bool) (at : ℕ) (t : List ℕ) → content behind at (c ∷ rest) ≡ Ok t → IsUtf8 t
+low_step : (c : ℕ) (rest : List ℕ) → c < 128 → ((behind : Bool) (at : ℕ) (u : List ℕ) → content behind at rest ≡ Ok u
+    → IsUtf8 u) → (behind : Bool) (at : ℕ) (t : List ℕ) → content behind at (c ∷ rest) ≡ Ok t → IsUtf8 t
 unfolding content
 low_step c rest lt below true at t e = by_escape (escaped c) refl e
   where
@@ -108,10 +119,13 @@ low_step c rest lt below false at t e = by_tests (ltb c 32) (eqb c 92) e
         let u = after_ok (c ∷ []) t (content false (at + 1) rest) e in
         subst IsUtf8 (sym u.2) (IsUtf8-append (c ∷ []) u.0 (ascii c lt) (below false (at + 1) u.0 u.1))
 
-high_step : (c : ℕ) (rest : List ℕ) → IsScalar c → 128 ≤ c → ((behind : Bool) (at : ℕ) (u : List ℕ) → content behind at rest ≡ Ok u → IsUtf8 u) → (behind : Bool) (at : ℕ) (t : List ℕ) → content behind at (encode_utf8 c ++ rest) ≡ Ok t → IsUtf8 t
+high_step : (c : ℕ) (rest : List ℕ) → IsScalar c → 128 ≤ c
+    → ((behind : Bool) (at : ℕ) (u : List ℕ) → content behind at rest ≡ Ok u → IsUtf8 u)
+    → (behind : Bool) (at : ℕ) (t : List ℕ) → content behind at (encode_utf8 c ++ rest) ≡ Ok t → IsUtf8 t
 unfolding content
 high_step c rest is le below false at t e =
-    let u = after_ok (encode_utf8 c) t (content false (at + length (encode_utf8 c)) rest) (sym (high_content (encode_utf8 c) rest at (λ k lt. high_bytes c k le lt)) ∙ e) in
+    let u = after_ok (encode_utf8 c) t (content false (at + length (encode_utf8 c)) rest)
+    (sym (high_content (encode_utf8 c) rest at (λ k lt. high_bytes c k le lt)) ∙ e) in
     subst IsUtf8 (sym u.2) (IsUtf8-append (encode_utf8 c) u.0 (IsUtf8-encode c is) (below false (at + length (encode_utf8 c)) u.0 u.1))
 high_step c rest is le below true at t e = behind_high (encode_utf8 c) (some c) (λ k lt. high_bytes c k le lt) e
   where
@@ -122,11 +136,13 @@ high_step c rest is le below true at t e = behind_high (encode_utf8 c) (some c) 
     behind_high [] lt high e = absurd (omega arith)
     behind_high (b ∷ bs) lt high e = by_escape b (escaped b) refl (high 0 (omega arith)) e
       where
-        by_escape : (b : ℕ) (o : Option ℕ) → escaped b ≡ o → 128 ≤ b → option_map_or (λ x. followed_by x (content false (at + 2) (bs ++ rest))) o (Err (BadChar at)) ≡ Ok t → IsUtf8 t
+        by_escape : (b : ℕ) (o : Option ℕ) → escaped b ≡ o → 128 ≤ b
+            → option_map_or (λ x. followed_by x (content false (at + 2) (bs ++ rest))) o (Err (BadChar at)) ≡ Ok t → IsUtf8 t
         by_escape b None f le e = absurd cc
         by_escape b (Some x) f le e = absurd (omega (arith, escaped_low b x f))
 
-content_chars : (cs : List ℕ) → strings.all_scalars cs ≡ true → (behind : Bool) (at : ℕ) (t : List ℕ) → content behind at (strings.encode_utf8_all cs) ≡ Ok t → IsUtf8 t
+content_chars : (cs : List ℕ) → strings.all_scalars cs ≡ true → (behind : Bool) (at : ℕ) (t : List ℕ)
+    → content behind at (strings.encode_utf8_all cs) ≡ Ok t → IsUtf8 t
 unfolding content
 content_chars [] all false at t e = subst IsUtf8 (ok_is [] t e) IsUtf8-nil
 content_chars [] all true at t e = absurd cc
@@ -134,7 +150,8 @@ content_chars (c ∷ cs) all behind at t e =
     let is : scalar c ≡ true = and_left (scalar c) (strings.all_scalars cs) all in
     let below = content_chars cs (and_right (scalar c) (strings.all_scalars cs) all) in
     elim (cases_lt c 128) [
-      | inl lt ↦ low_step c (strings.encode_utf8_all cs) lt below behind at t (subst (λ (x : List ℕ). content behind at (x ++ strings.encode_utf8_all cs) ≡ Ok t) (encode_ascii c lt) e)
+      | inl lt ↦ low_step c (strings.encode_utf8_all cs) lt below behind at t
+          (subst (λ (x : List ℕ). content behind at (x ++ strings.encode_utf8_all cs) ≡ Ok t) (encode_ascii c lt) e)
       | inr le ↦ high_step c (strings.encode_utf8_all cs) is le below behind at t e
     ]
 
@@ -147,7 +164,8 @@ front_utf8 : (bytes : List ℕ) (n : ℕ) → IsUtf8 (take (valid_len_up_to byte
 front_utf8 bytes zero = IsUtf8-nil
 front_utf8 bytes (suc n) = by_test (is_utf8 (take (suc n) bytes)) refl (front_utf8 bytes n)
   where
-    by_test : (b : Bool) → is_utf8 (take (suc n) bytes) ≡ b → IsUtf8 (take (valid_len_up_to bytes n) bytes) → IsUtf8 (take (cond b (suc n) (valid_len_up_to bytes n)) bytes)
+    by_test : (b : Bool) → is_utf8 (take (suc n) bytes) ≡ b → IsUtf8 (take (valid_len_up_to bytes n) bytes)
+        → IsUtf8 (take (cond b (suc n) (valid_len_up_to bytes n)) bytes)
     by_test true e shorter = IsUtf8-from_is_utf8 (take (suc n) bytes) e
     by_test false e shorter = shorter
 

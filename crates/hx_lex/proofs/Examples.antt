@@ -29,7 +29,8 @@ unfolding tokens_from piece_at number_at text_at inside_at content comment_at ut
 call = refl
 
 -- the longest sign, and then the next
-signs : tokens_of (codes "1..2,...") ≡ Ok (token (Number (pos 1)) 0 1 ∷ token Sign 1 3 ∷ token (Number (pos 2)) 3 4 ∷ token Sign 4 5 ∷ token Sign 5 7 ∷ token Sign 7 8 ∷ [])
+signs : tokens_of (codes "1..2,...") ≡ Ok (token (Number (pos 1)) 0 1 ∷ token Sign 1 3 ∷ token
+    (Number (pos 2)) 3 4 ∷ token Sign 4 5 ∷ token Sign 5 7 ∷ token Sign 7 8 ∷ [])
 unfolding tokens_from piece_at number_at
 signs = refl
 
@@ -39,7 +40,8 @@ unfolding tokens_from piece_at text_at inside_at content utf8_valid_len is_utf8 
 escaped_quote = refl
 
 -- newline, tab and backslash
-escapes : tokens_of (quote ++ backslash ++ codes "n" ++ backslash ++ codes "t" ++ backslash ++ backslash ++ quote) ≡ Ok (token (Text (10 ∷ 9 ∷ 92 ∷ [])) 0 8 ∷ [])
+escapes : tokens_of (quote ++ backslash ++ codes "n" ++ backslash ++ codes "t" ++ backslash ++ backslash ++ quote)
+    ≡ Ok (token (Text (10 ∷ 9 ∷ 92 ∷ [])) 0 8 ∷ [])
 unfolding tokens_from piece_at text_at inside_at content utf8_valid_len is_utf8 chars encode
 escapes = refl
 

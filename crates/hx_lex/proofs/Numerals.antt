@@ -1,5 +1,6 @@
 -- A number is of 64 bits, and moves on.
-use Rattle.std.proofs.Common.{◌≡◌, ℕ, ℤ, pos, zero, suc, ◌+◌, ◌^◌, ◌<◌, ◌≤◌, Bool, true, false, cond, ltb, leb, List, [], ◌∷◌, length, take, Option, Some, None, Err, refl, subst, arith, lit<}
+use Rattle.std.proofs.Common.{◌≡◌, ℕ, ℤ, pos, zero, suc, ◌+◌, ◌^◌, ◌<◌, ◌≤◌, Bool, true, false, cond, ltb, leb, List}
+use Rattle.std.proofs.Common.{[], ◌∷◌, length, take, Option, Some, None, Err, refl, subst, arith, lit<}
 use Rattle.std.specs.Prelude.{FitsSigned}
 use Rattle.std.specs.Int.{w64}
 use Rattle.std.specs.Option.{option_map_or}
@@ -29,7 +30,8 @@ signed_fits false v z e = choice (λ (o : Option ℤ). o ≡ Some z → FitsSign
     (λ fits same. subst (FitsSigned w64) (same_Some (pos v) z same) (positive_fits v (ltb-true v (2 ^ 63) fits)))
     (λ large none. absurd cc) e
 
-a_number : (rest : List ℕ) (at : ℕ) (negative : Bool) (bytes : List ℕ) → 0 < digits_len bytes → cond negative (digits_len bytes + 1) (digits_len bytes) ≤ length rest → Sound rest (number_at at negative bytes)
+a_number : (rest : List ℕ) (at : ℕ) (negative : Bool) (bytes : List ℕ) → 0 < digits_len bytes
+    → cond negative (digits_len bytes + 1) (digits_len bytes) ≤ length rest → Sound rest (number_at at negative bytes)
 unfolding number_at
 a_number rest at negative bytes moves within = by_number (signed negative (value (take (digits_len bytes) bytes))) refl
   where
@@ -37,9 +39,12 @@ a_number rest at negative bytes moves within = by_number (signed negative (value
     len_moves true n lt = omega arith
     len_moves false n lt = lt
 
-    by_number : (o : Option ℤ) → signed negative (value (take (digits_len bytes) bytes)) ≡ o → Sound rest (option_map_or (λ z. token_piece (kinds.Number z) (cond negative (digits_len bytes + 1) (digits_len bytes))) o (Err (BadNumber at)))
+    by_number : (o : Option ℤ) → signed negative (value (take (digits_len bytes) bytes)) ≡ o
+        → Sound rest (option_map_or (λ z. token_piece (kinds.Number z)
+        (cond negative (digits_len bytes + 1) (digits_len bytes))) o (Err (BadNumber at)))
     by_number None e = tt
-    by_number (Some z) e = a_token rest (kinds.Number z) (cond negative (digits_len bytes + 1) (digits_len bytes)) (len_moves negative (digits_len bytes) moves) within (signed_fits negative (value (take (digits_len bytes) bytes)) z e)
+    by_number (Some z) e = a_token rest (kinds.Number z) (cond negative (digits_len bytes + 1) (digits_len bytes))
+        (len_moves negative (digits_len bytes) moves) within (signed_fits negative (value (take (digits_len bytes) bytes)) z e)
 
 digits_move : (bs : List ℕ) → begins_with is_digit bs ≡ true → 0 < digits_len bs
 digits_move [] e = absurd cc

@@ -1,5 +1,6 @@
 -- Each piece is spelled by the bytes at the front, and each token by its slice of the line.
-use Rattle.std.proofs.Common.{◌≡◌, ℕ, zero, suc, ◌+◌, ◌-◌, ◌<◌, ◌≤◌, Bool, true, false, cond, eqb, List, [], ◌∷◌, length, drop, Option, Some, None, Result, Ok, Err, refl, sym, ap, ◌∙◌, subst, arith}
+use Rattle.std.proofs.Common.{◌≡◌, ℕ, zero, suc, ◌+◌, ◌-◌, ◌<◌, ◌≤◌, Bool, true, false, cond, eqb, List, [], ◌∷◌}
+use Rattle.std.proofs.Common.{length, drop, Option, Some, None, Result, Ok, Err, refl, sym, ap, ◌∙◌, subst, arith}
 use Rattle.std.specs.Prelude.{◌||◌, ◌&&◌, ◌==◌}
 use Rattle.std.specs.List.{AllByRecursion}
 use Rattle.std.specs.Str.Lossy.{utf8_valid_len}
@@ -24,7 +25,8 @@ use Rattle.hx_lex.proofs.Standing.{a_text}
 
 a_comment : (at b : ℕ) (bs : List ℕ) → Sound (b ∷ bs) (comment_at at (b ∷ bs))
 unfolding comment_at
-a_comment at b bs = choice (Sound (b ∷ bs)) (eqb (utf8_valid_len (b ∷ bs)) (length (b ∷ bs))) (Ok (record { kind = None; len = length (b ∷ bs) })) (Err (BadChar (at + utf8_valid_len (b ∷ bs))))
+a_comment at b bs = choice (Sound (b ∷ bs)) (eqb (utf8_valid_len (b ∷ bs)) (length (b ∷ bs)))
+    (Ok (record { kind = None; len = length (b ∷ bs) })) (Err (BadChar (at + utf8_valid_len (b ∷ bs))))
     (λ e. no_token (b ∷ bs) (length (b ∷ bs)) (omega arith) (omega arith))
     (λ e. tt)
 
@@ -51,7 +53,8 @@ piece_sound at b bs =
     choice P (b == 45 && begins_with is_digit bs) _ _ (λ e. a_negative at b bs (and_right (b == 45) (begins_with is_digit bs) e)) (λ e.
     choice P (b == 34) _ _ (λ e. a_text at b bs) (λ e.
     choice P (b == 61 || b == 44) _ _ (λ e. a_sign b bs 1 (omega arith) (omega arith)) (λ e.
-    choice P (b == 46) _ _ (λ e. a_sign b bs (cond (begins_with (λ c. c == 46) bs) 2 1) (dots_move (begins_with (λ c. c == 46) bs)) (dots_within b bs)) (λ e. tt)))))))))
+    choice P (b == 46) _ _ (λ e. a_sign b bs (cond (begins_with (λ c. c == 46) bs) 2 1)
+    (dots_move (begins_with (λ c. c == 46) bs)) (dots_within b bs)) (λ e. tt)))))))))
 
 is_piece : (rest : List ℕ) (at : ℕ) (p : Piece) → 0 < length rest → piece_at at rest ≡ Ok p → IsPiece rest p
 is_piece [] at p some e = absurd (omega arith)
@@ -69,7 +72,9 @@ Each line (Ok ts) = AllByRecursion (IsTokenOf line) ts
 Each line (Err e) = Unit {0}
 
 -- the token of a piece is one of the line, and so are those after it
-each_more : (line rest : List ℕ) (at : ℕ) (k : Option TokenKind) (len : ℕ) (read : Result (List Token) LexError) → drop at line ≡ rest → at < length line → IsPiece rest (record { kind = k; len = len }) → Each line read → Each line (before (token_of at (record { kind = k; len = len })) read)
+each_more : (line rest : List ℕ) (at : ℕ) (k : Option TokenKind) (len : ℕ) (read : Result (List Token) LexError)
+    → drop at line ≡ rest → at < length line → IsPiece rest (record { kind = k; len = len }) → Each line read
+    → Each line (before (token_of at (record { kind = k; len = len })) read)
 each_more line rest at None len read e lt is each = each
 each_more line rest at (Some k) len (Err d) e lt is each = tt
 each_more line rest at (Some k) len (Ok ts) e lt is each =
@@ -95,9 +100,12 @@ each_from line [] at skip e = tt
 each_from line (b ∷ bs) at (suc skip) e = each_from line bs (at + 1) skip (dropped line b bs at e)
 each_from line (b ∷ bs) at zero e = by_piece (piece_at at (b ∷ bs)) (piece_sound at b bs) (λ skip. each_from line bs (at + 1) skip (dropped line b bs at e))
   where
-    by_piece : (r : Result Piece LexError) → Sound (b ∷ bs) r → ((skip : ℕ) → Each line (tokens_from (at + 1) skip bs)) → Each line (r >>= λ p. before (token_of at p) (tokens_from (at + 1) (p.len - 1) bs))
+    by_piece : (r : Result Piece LexError) → Sound (b ∷ bs) r
+        → ((skip : ℕ) → Each line (tokens_from (at + 1) skip bs))
+        → Each line (r >>= λ p. before (token_of at p) (tokens_from (at + 1) (p.len - 1) bs))
     by_piece (Err d) is later = tt
-    by_piece (Ok p) is later = each_more line (b ∷ bs) at p.kind p.len (tokens_from (at + 1) (p.len - 1) bs) e (inside_line line b bs at e) is (later (p.len - 1))
+    by_piece (Ok p) is later = each_more line (b ∷ bs) at p.kind p.len (tokens_from (at + 1) (p.len - 1) bs) e
+        (inside_line line b bs at e) is (later (p.len - 1))
 
 pub tokens_spelled : (line : List ℕ) (ts : List Token) → tokens_of line ≡ Ok ts → AllByRecursion (IsTokenOf line) ts
 tokens_spelled line ts e = subst (Each line) e (each_from line line 0 0 refl)

@@ -1,5 +1,7 @@
 -- Bytes that stand for themselves between quotes.
-use Rattle.std.proofs.Common.{◌≡◌, ℕ, zero, suc, ◌+◌, ◌<◌, ◌≤◌, Bool, true, false, not, eqb, List, [], ◌∷◌, ◌++◌, length, get_or, take, drop, Ok, refl, sym, ap, subst, ◌∙◌, arith, take_all, drop-cons, length-append}
+use Rattle.std.proofs.Common.{◌≡◌, ℕ, zero, suc, ◌+◌, ◌<◌, ◌≤◌, Bool, true, false, not, eqb, List, [], ◌∷◌, ◌++◌}
+use Rattle.std.proofs.Common.{length, get_or, take, drop, Ok, refl, sym, ap, subst, ◌∙◌, arith, take_all, drop-cons}
+use Rattle.std.proofs.Common.{length-append}
 use Rattle.std.specs.Prelude.{◌&&◌, nat_le, nat_lt, ◌==◌}
 use Rattle.std.specs.List.{list_all, prefix_len}
 use Rattle.std.specs.Str.{IsAscii, IsUtf8}
@@ -25,7 +27,8 @@ not_true false e = refl
 not_true true e = absurd cc
 
 no_quote : (b : ℕ) → is_plain b ≡ true → eqb b 34 ≡ false
-no_quote b e = not_true (b == 34) (and_right (nat_le 32 b && nat_lt b 128) (not (b == 34)) (and_left (nat_le 32 b && nat_lt b 128 && not (b == 34)) (not (b == 92)) e))
+no_quote b e = not_true (b == 34) (and_right (nat_le 32 b && nat_lt b 128) (not (b == 34))
+    (and_left (nat_le 32 b && nat_lt b 128 && not (b == 34)) (not (b == 92)) e))
 
 no_backslash : (b : ℕ) → is_plain b ≡ true → eqb b 92 ≡ false
 no_backslash b e = not_true (b == 92) (and_right (nat_le 32 b && nat_lt b 128 && not (b == 34)) (not (b == 92)) e)
@@ -63,7 +66,8 @@ inside_at_plain at plain e =
 front : (plain rest : List ℕ) → take (length plain) (plain ++ rest) ≡ plain
 front plain rest = take-append-le (length plain) plain rest (omega arith) ∙ take_all (length plain) plain (omega arith)
 
-text_split : (at : ℕ) (plain rest : List ℕ) → list_all is_plain plain ≡ true → text_at at (plain ++ 34 ∷ rest) ≡ token_piece (kinds.Text plain) (length plain + 2)
+text_split : (at : ℕ) (plain rest : List ℕ) → list_all is_plain plain ≡ true
+    → text_at at (plain ++ 34 ∷ rest) ≡ token_piece (kinds.Text plain) (length plain + 2)
 unfolding text_at
 text_split at plain rest e =
     let longer = ne_eqb (length plain) (length (plain ++ 34 ∷ rest)) (λ same. omega (arith, same, length-append plain (34 ∷ rest))) in

@@ -27,4 +27,8 @@ pub no_token : (rest : List ℕ) (len : ℕ) → 0 < len → len ≤ length rest
 no_token rest len moves within = record { moves = moves; within = within; spelled = λ k e. absurd cc }
 
 pub a_token : (rest : List ℕ) (k : TokenKind) (len : ℕ) → 0 < len → len ≤ length rest → IsSpelled k (take len rest) → Sound rest (token_piece k len)
-a_token rest k len moves within is = record { moves = moves; within = within; spelled = λ j e. subst (λ (x : TokenKind). IsSpelled x (take len rest)) (same_Some k j e) is }
+a_token rest k len moves within is = record {
+  moves = moves;
+  within = within;
+  spelled = λ j e. subst (λ (x : TokenKind). IsSpelled x (take len rest)) (same_Some k j e) is;
+}

@@ -1,5 +1,6 @@
 -- A text stands for plain UTF-8, no longer than its slice.
-use Rattle.std.proofs.Common.{◌≡◌, ℕ, suc, ◌+◌, ◌≤◌, Bool, true, false, cond, eqb, ltb, List, [], ◌∷◌, length, take, Option, Some, None, Result, Ok, Err, refl, sym, ap, ◌∙◌, subst, arith}
+use Rattle.std.proofs.Common.{◌≡◌, ℕ, suc, ◌+◌, ◌≤◌, Bool, true, false, cond, eqb, ltb, List, [], ◌∷◌, length, take}
+use Rattle.std.proofs.Common.{Option, Some, None, Result, Ok, Err, refl, sym, ap, ◌∙◌, subst, arith}
 use Rattle.std.specs.List.{list_all}
 use Rattle.std.specs.Option.{option_map_or}
 use Rattle.std.specs.Str.Lossy.{utf8_valid_len}
@@ -68,7 +69,8 @@ unfolding inside_at
 inside_text at bytes t e = by_content (content false at (take (utf8_valid_len bytes) bytes)) refl e
   where
     by_content : (r : Result (List ℕ) LexError) → content false at (take (utf8_valid_len bytes) bytes) ≡ r
-        → (r >>= λ text. cond (eqb (utf8_valid_len bytes) (length bytes)) (Ok text) (Err (BadChar (at + utf8_valid_len bytes)))) ≡ Ok t → IsText t × (length t ≤ length bytes)
+        → (r >>= λ text. cond (eqb (utf8_valid_len bytes) (length bytes)) (Ok text)
+        (Err (BadChar (at + utf8_valid_len bytes)))) ≡ Ok t → IsText t × (length t ≤ length bytes)
     by_content (Err d) f e = absurd cc
     by_content (Ok u) f e = by_test (eqb (utf8_valid_len bytes) (length bytes)) e
       where
@@ -76,13 +78,16 @@ inside_text at bytes t e = by_content (content false at (take (utf8_valid_len by
         by_test false e = absurd cc
         by_test true e =
             let same : u ≡ t = cc in
-            let front : Stands (take (utf8_valid_len bytes) bytes) t = stands (take (utf8_valid_len bytes) bytes) false at t (f ∙ ap Ok same) in
-            (record { utf8 = content_utf8_front at bytes t (f ∙ ap Ok same); plain = front.plain }, omega (arith, front.short, length-take (utf8_valid_len bytes) bytes))
+            let front : Stands (take (utf8_valid_len bytes) bytes) t = stands (take (utf8_valid_len bytes) bytes) false at t (f ∙ ap Ok same) in (
+              record { utf8 = content_utf8_front at bytes t (f ∙ ap Ok same); plain = front.plain },
+              omega (arith, front.short, length-take (utf8_valid_len bytes) bytes),
+            )
 
 inside_len_le : (behind : Bool) (bs : List ℕ) → inside_len behind bs ≤ length bs
 inside_len_le behind [] = omega arith
 inside_len_le true (b ∷ bs) = omega (arith, inside_len_le false bs)
-inside_len_le false (b ∷ bs) = choice (λ (n : ℕ). n ≤ length (b ∷ bs)) (eqb b 34) 0 (1 + inside_len (eqb b 92) bs) (λ e. omega arith) (λ e. omega (arith, inside_len_le (eqb b 92) bs))
+inside_len_le false (b ∷ bs) = choice (λ (n : ℕ). n ≤ length (b ∷ bs)) (eqb b 34) 0 (1 + inside_len (eqb b 92) bs)
+    (λ e. omega arith) (λ e. omega (arith, inside_len_le (eqb b 92) bs))
 
 pub a_text : (at b : ℕ) (bs : List ℕ) → Sound (b ∷ bs) (text_at at bs)
 unfolding text_at
@@ -93,7 +98,8 @@ a_text at b bs =
     (λ unclosed. tt)
     (λ closed. by_inside n le (eqb-false n (length bs) closed) (inside_at (at + 1) (take n bs)) refl)
   where
-    by_inside : (n : ℕ) → n ≤ length bs → (n ≡ length bs → ⊥) → (r : Result (List ℕ) LexError) → inside_at (at + 1) (take n bs) ≡ r → Sound (b ∷ bs) (r >>= λ text. token_piece (kinds.Text text) (n + 2))
+    by_inside : (n : ℕ) → n ≤ length bs → (n ≡ length bs → ⊥) → (r : Result (List ℕ) LexError)
+        → inside_at (at + 1) (take n bs) ≡ r → Sound (b ∷ bs) (r >>= λ text. token_piece (kinds.Text text) (n + 2))
     by_inside n le ne (Err d) e = tt
     by_inside n le ne (Ok t) e =
         let fits : n + 2 ≤ length (b ∷ bs) = grind (arith, ne) in

@@ -44,4 +44,5 @@ pub a_word : (b : ℕ) (bs : List ℕ) → is_lower b ≡ true → Sound (b ∷ 
 a_word b bs e =
     let n : ℕ = prefix_len is_word_part (b ∷ bs) in
     let moves : 0 < n = prefix_len_moves is_word_part b bs (letter_is_part b e) in
-    a_token (b ∷ bs) kinds.Word n moves (prefix_len-le-length is_word_part (b ∷ bs)) (record { letter = front_begins is_lower b bs n moves ∙ e; parts = front_passes is_word_part (b ∷ bs) })
+    a_token (b ∷ bs) kinds.Word n moves (prefix_len-le-length is_word_part (b ∷ bs))
+    (record { letter = front_begins is_lower b bs n moves ∙ e; parts = front_passes is_word_part (b ∷ bs) })

@@ -12,7 +12,8 @@ use Rattle.hx_lex.specs.Quotes.{text_at}
 
 -- the comment that takes up all the bytes, from that place on: only UTF-8 may stand in it
 unfoldable pub comment_at : ℕ → List ℕ → Result Piece LexError
-comment_at at bytes = if utf8_valid_len bytes == length bytes then Ok (record { kind = None; len = length bytes }) else Err (BadChar (at + utf8_valid_len bytes))
+comment_at at bytes = if utf8_valid_len bytes == length bytes then Ok
+    (record { kind = None; len = length bytes }) else Err (BadChar (at + utf8_valid_len bytes))
 
 -- one byte between tokens
 abbrev pub blank_piece : Result Piece LexError

@@ -32,11 +32,13 @@ small_folded : (space : Space) (s : ServerState) → AreInOrder space s → serv
 small_folded space s order small r i k j =
     let from = in-map folded_replica s.replicas r i in
     let state = in-map (folded from.0.region) from.0.states k (subst (λ (x : Replica). IsIn k x.states) from.2 j) in
-    let slot = all_in (IsSlotIn (is_key_region space from.0.region) from.0.region) from.0.states state.0 (all_in (IsReplicaOf space) s.replicas from.0 order from.1) state.1 in
+    let slot = all_in (IsSlotIn (is_key_region space from.0.region) from.0.region) from.0.states state.0
+    (all_in (IsReplicaOf space) s.replicas from.0 order from.1) state.1 in
     subst (λ n. n ≤ 4611686018427387904) (sym (ap top_of state.2 ∙ top-folded from.0.region state.0 slot.slot.floor)) (small from.0 from.1 state.0 state.1)
 
 -- what an actor that is fed sound posts is after its entries
-sound_after : (script : Script) (a : Actor) (past : List Stamped) (input : Input) → CanTake script a past input → IsSoundAfter script (latest past) (entries_in past) a
+sound_after : (script : Script) (a : Actor) (past : List Stamped) (input : Input) → CanTake script a past input
+    → IsSoundAfter script (latest past) (entries_in past) a
 sound_after script a past input c = (actors_stay_sound script c.valid a c.exists past c.own c.fed).state
 
 -- what it is fed comes after lower versions
@@ -45,14 +47,16 @@ fits script n a Tick h = tt
 fits script n a Halt h = tt
 fits script n a (Deliver id from m) h = sound-fits _ m h.1.message
 
-input_to_server : (script : Script) (n : ℕ) (s : ServerId) (input : Input) → n < 2305843009213693952 → IsFedBy script n (Server s) input → server.IsInputTo script.space s input
+input_to_server : (script : Script) (n : ℕ) (s : ServerId) (input : Input) → n < 2305843009213693952
+    → IsFedBy script n (Server s) input → server.IsInputTo script.space s input
 input_to_server script n s Tick few h = tt
 input_to_server script n s Halt few h = tt
 input_to_server script n s (Deliver id from m) few h =
     let within = h.0 in record { sessions = length script.sessions; entry = id.entry; few = omega (arith, within, few); sound = h.1 }
 
 -- a server
-serves : (script : Script) (s : ServerId) (past : List Stamped) (input : Input) → AreInOrder script.space (server_of script s (entries_in past)) → CanTake script (Server s) past input
+serves : (script : Script) (s : ServerId) (past : List Stamped) (input : Input)
+    → AreInOrder script.space (server_of script s (entries_in past)) → CanTake script (Server s) past input
     → server.CanTake script.space (folded_server (server_of script s (entries_in past))) input
 serves script s past input order c =
     let sound = sound_after script (Server s) past input c in
@@ -65,7 +69,8 @@ serves script s past input order c =
     }
 
 -- a session
-attends : (script : Script) (n : ℕ) (u : SessionId) (st : SessionState) (input : Input) → st.id ≡ u → n < 2305843009213693952 → IsFedBy script n (Session u) input → session.CanTake script.space st input
+attends : (script : Script) (n : ℕ) (u : SessionId) (st : SessionState) (input : Input) → st.id ≡ u
+    → n < 2305843009213693952 → IsFedBy script n (Session u) input → session.CanTake script.space st input
 attends script n u st Tick same few h = tt
 attends script n u st Halt same few h = h
 attends script n u st (Deliver id from m) same few h =
@@ -74,24 +79,29 @@ attends script n u st (Deliver id from m) same few h =
     (record { sessions = length script.sessions; entry = id.entry; few = omega (arith, within, few); sound = h.1 })
 
 -- the coordinator
-coordinates : (script : Script) (n top : ℕ) (c : CoordinatorState) (input : Input) → c.config.epoch.0 ≤ top + 1 → top ≤ n → n < 2305843009213693952 → IsFedBy script n Coordinator input → coordinator.CanTake c input
+coordinates : (script : Script) (n top : ℕ) (c : CoordinatorState) (input : Input) → c.config.epoch.0 ≤ top + 1
+    → top ≤ n → n < 2305843009213693952 → IsFedBy script n Coordinator input → coordinator.CanTake c input
 coordinates script n top c Tick epoch later few h = tt
 coordinates script n top c Halt epoch later few h = h
 coordinates script n top c (Deliver id from m) epoch later few h = omega (arith, epoch, later, few)
 
 -- an actor with the state of its entries can take the input
-pub coordinator_can : (script : Script) (past : List Stamped) (input : Input) (c : CoordinatorState) → c ≡ coordinator_of script (entries_in past) → CanTake script Coordinator past input → coordinator.CanTake c input
+pub coordinator_can : (script : Script) (past : List Stamped) (input : Input) (c : CoordinatorState)
+    → c ≡ coordinator_of script (entries_in past) → CanTake script Coordinator past input → coordinator.CanTake c input
 coordinator_can script past input c at can =
     subst (λ (x : CoordinatorState). coordinator.CanTake x input) (sym at)
-    (coordinates script can.stamp (latest past) (coordinator_of script (entries_in past)) input (sound_after script Coordinator past input can) can.later can.few can.input_to)
+    (coordinates script can.stamp (latest past) (coordinator_of script (entries_in past)) input
+    (sound_after script Coordinator past input can) can.later can.few can.input_to)
 
-pub server_can : (script : Script) (s : ServerId) (past : List Stamped) (input : Input) (v : server.ServerValue) → IsMachine script (Server s) (entries_in past) (a_machine.Server v) → CanTake script (Server s) past input
+pub server_can : (script : Script) (s : ServerId) (past : List Stamped) (input : Input) (v : server.ServerValue)
+    → IsMachine script (Server s) (entries_in past) (a_machine.Server v) → CanTake script (Server s) past input
     → server.CanTake v.space v.state input
 server_can script s past input v at can =
     subst (λ (x : Space). server.CanTake x v.state input) (sym at.0)
     (subst (λ (x : ServerState). server.CanTake script.space x input) (sym at.1) (serves script s past input at.2 can))
 
-pub session_can : (script : Script) (u : SessionId) (past : List Stamped) (input : Input) (v : session.SessionValue) → IsMachine script (Session u) (entries_in past) (a_machine.Session v) → CanTake script (Session u) past input
+pub session_can : (script : Script) (u : SessionId) (past : List Stamped) (input : Input) (v : session.SessionValue)
+    → IsMachine script (Session u) (entries_in past) (a_machine.Session v) → CanTake script (Session u) past input
     → session.CanTake v.space v.state input
 session_can script u past input v at can =
     subst (λ (x : Space). session.CanTake x v.state input) (sym at.0)
@@ -101,19 +111,23 @@ session_can script u past input v at can =
     )
 
 -- the input that an actor is given is one for its role
-pub coordinator_ready : (script : Script) (a : Actor) (past : List Stamped) (input : Input) (m : Machine) (c : CoordinatorState) → m ≡ a_machine.Coordinator c → IsMachine script a (entries_in past) m → CanTake script a past input
+pub coordinator_ready : (script : Script) (a : Actor) (past : List Stamped) (input : Input) (m : Machine)
+    (c : CoordinatorState) → m ≡ a_machine.Coordinator c → IsMachine script a (entries_in past) m → CanTake script a past input
     → coordinator.CanTake c input
-coordinator_ready script Coordinator past input m c e at can = coordinator_can script past input c (subst (IsMachine script Coordinator (entries_in past)) e at) can
+coordinator_ready script Coordinator past input m c e at can =
+    coordinator_can script past input c (subst (IsMachine script Coordinator (entries_in past)) e at) can
 coordinator_ready script (Server s) past input m c e at can = absurd (subst (IsMachine script (Server s) (entries_in past)) e at)
 coordinator_ready script (Session u) past input m c e at can = absurd (subst (IsMachine script (Session u) (entries_in past)) e at)
 
-pub server_ready : (script : Script) (a : Actor) (past : List Stamped) (input : Input) (m : Machine) (v : server.ServerValue) → m ≡ a_machine.Server v → IsMachine script a (entries_in past) m → CanTake script a past input
+pub server_ready : (script : Script) (a : Actor) (past : List Stamped) (input : Input) (m : Machine)
+    (v : server.ServerValue) → m ≡ a_machine.Server v → IsMachine script a (entries_in past) m → CanTake script a past input
     → server.CanTake v.space v.state input
 server_ready script Coordinator past input m v e at can = absurd (subst (IsMachine script Coordinator (entries_in past)) e at)
 server_ready script (Server s) past input m v e at can = server_can script s past input v (subst (IsMachine script (Server s) (entries_in past)) e at) can
 server_ready script (Session u) past input m v e at can = absurd (subst (IsMachine script (Session u) (entries_in past)) e at)
 
-pub session_ready : (script : Script) (a : Actor) (past : List Stamped) (input : Input) (m : Machine) (v : session.SessionValue) → m ≡ a_machine.Session v → IsMachine script a (entries_in past) m → CanTake script a past input
+pub session_ready : (script : Script) (a : Actor) (past : List Stamped) (input : Input) (m : Machine)
+    (v : session.SessionValue) → m ≡ a_machine.Session v → IsMachine script a (entries_in past) m → CanTake script a past input
     → session.CanTake v.space v.state input
 session_ready script Coordinator past input m v e at can = absurd (subst (IsMachine script Coordinator (entries_in past)) e at)
 session_ready script (Server s) past input m v e at can = absurd (subst (IsMachine script (Server s) (entries_in past)) e at)

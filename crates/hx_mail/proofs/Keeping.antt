@@ -16,7 +16,8 @@ use Rattle.hx_mail.specs.Rule.{IsKept}
 use Rattle.hx_mail.proofs.Lists.{times-map, put_in-name, take_in-name}
 use Rattle.hx_mail.proofs.Steps.{binds}
 
-pub binds_first : (id : ℕ) (v : PortView) (given : Option BoxNames) (m : BoxNames) → v ≡ first_port None → given ≡ Some m → Forks IsKept id v (port v.own given v.lists v.splits) spent_port
+pub binds_first : (id : ℕ) (v : PortView) (given : Option BoxNames) (m : BoxNames) → v ≡ first_port None
+    → given ≡ Some m → Forks IsKept id v (port v.own given v.lists v.splits) spent_port
 binds_first id v given m is e =
     let P : PortView → Type 0 = λ v. Forks IsKept id v (port v.own given v.lists v.splits) spent_port in
     subst P (sym is) (binds id 0 0 _ given m e)
@@ -38,7 +39,8 @@ IsNamed name splits v = (v.own ≡ name) × CarriesName name v × ((n : ℕ) →
 pub own_carried : (name splits : ℕ) (v : PortView) → IsNamed name splits v → CarriesName v.own v
 own_carried name splits v h = subst (λ k. CarriesName k v) (sym h.0) h.1
 
-named_on : (name splits : ℕ) (v w : PortView) → w.own ≡ v.own → ((n : ℕ) → w.splits ≡ Some n → v.splits ≡ Some n) → ((k : ℕ) → times k v.lists ≤ times k w.lists) → IsNamed name splits v → IsNamed name splits w
+named_on : (name splits : ℕ) (v w : PortView) → w.own ≡ v.own → ((n : ℕ) → w.splits ≡ Some n → v.splits ≡ Some n)
+    → ((k : ℕ) → times k v.lists ≤ times k w.lists) → IsNamed name splits v → IsNamed name splits w
 named_on name splits v w own count more h = (
   own ∙ h.0,
   (let a = more name in let b = h.1 in omega arith),
@@ -60,7 +62,8 @@ first_count : (c d : Option ℕ) (n : ℕ) → ((m : ℕ) → d ≡ Some m → �
 first_count None d n none e = absurd (none n e)
 first_count (Some m) d n none e = e
 
-pub join_named : (name splits : ℕ) (v w both : PortView) → IsNamed name splits v → ((n : ℕ) → w.splits ≡ Some n → ⊥) → both ≡ joined_port v w → IsNamed name splits both
+pub join_named : (name splits : ℕ) (v w both : PortView) → IsNamed name splits v → ((n : ℕ) → w.splits ≡ Some n → ⊥)
+    → both ≡ joined_port v w → IsNamed name splits both
 join_named name splits v w both h none is =
     subst (IsNamed name splits) (sym is)
     (named_on name splits v (joined_port v w) refl (λ n e. first_count v.splits w.splits n none e) (λ k. join_more k v.lists w.lists) h)

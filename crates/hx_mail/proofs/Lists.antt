@@ -1,5 +1,6 @@
 -- The lists of what was put and taken under names.
-use Rattle.std.proofs.Common.{◌≡◌, ◌≢◌, ℕ, ◌<◌, ◌≤◌, inl, inr, ⊎_elim, Bool, true, false, cond, eqb, List, [], ◌∷◌, ◌++◌, map, refl, ap, sym, subst, ◌∙◌, arith, append-nil}
+use Rattle.std.proofs.Common.{◌≡◌, ◌≢◌, ℕ, ◌<◌, ◌≤◌, inl, inr, ⊎_elim, Bool, true, false, cond, eqb, List, [], ◌∷◌}
+use Rattle.std.proofs.Common.{◌++◌, map, refl, ap, sym, subst, ◌∙◌, arith, append-nil}
 use Rattle.std.proofs.lemmas.Bool.Decides.{eqb_tells, nat_tests}
 use Rattle.hx_mail.specs.declared.views.Mailed.{Mailed}
 use Rattle.std.specs.List.{AllByRecursion}
@@ -15,7 +16,8 @@ pub map-snoc : {A B : Type 0} (f : A → B) (xs : List A) (x : A) → map f (xs 
 map-snoc f [] x = refl
 map-snoc f (y ∷ xs) x = ap (λ w. f y ∷ w) (map-snoc f xs x)
 
-pub each_under : {A B : Type 0} (P : B → Type 0) (Q : A → Type 0) (f : A → B) (xs : List A) → ((x : A) → IsIn x xs → Q x → P (f x)) → AllByRecursion Q xs → AllByRecursion P (map f xs)
+pub each_under : {A B : Type 0} (P : B → Type 0) (Q : A → Type 0) (f : A → B) (xs : List A)
+    → ((x : A) → IsIn x xs → Q x → P (f x)) → AllByRecursion Q xs → AllByRecursion P (map f xs)
 each_under P Q f [] g h = tt
 each_under P Q f (x ∷ xs) g h = (g x (inl refl) h.0, each_under P Q f xs (λ y i. g y (inr i)) h.1)
 
@@ -36,23 +38,28 @@ taken_by-append k (x ∷ xs) ys = taken-case (eqb k x.port) x.sent _ _ _ (taken_
 pub put-own : (k : ℕ) (log : List Sent) (s : Sent) → k ≡ s.port → put_by k (log ++ s ∷ []) ≡ put_by k log ++ s.mailed ∷ []
 put-own k log s e =
     put_by-append k log (s ∷ [])
-    ∙ ap (λ w. put_by k log ++ w) (⊎_elim (λ (h : (eqb k s.port ≡ true) × (k ≡ s.port)). ap (λ b. cond b (s.mailed ∷ []) []) h.0) (λ (h : (eqb k s.port ≡ false) × (k ≢ s.port)). absurd (h.1 e)) (eqb_tells k s.port))
+    ∙ ap (λ w. put_by k log ++ w) (⊎_elim (λ (h : (eqb k s.port ≡ true) × (k ≡ s.port)). ap
+    (λ b. cond b (s.mailed ∷ []) []) h.0) (λ (h : (eqb k s.port ≡ false) × (k ≢ s.port)). absurd (h.1 e))
+    (eqb_tells k s.port))
 
 pub put-other : (k : ℕ) (log : List Sent) (s : Sent) → k ≢ s.port → put_by k (log ++ s ∷ []) ≡ put_by k log
 put-other k log s d =
     put_by-append k log (s ∷ [])
-    ∙ ap (λ w. put_by k log ++ w) (⊎_elim (λ (h : (eqb k s.port ≡ true) × (k ≡ s.port)). absurd (d h.1)) (λ (h : (eqb k s.port ≡ false) × (k ≢ s.port)). ap (λ b. cond b (s.mailed ∷ []) []) h.0) (eqb_tells k s.port))
+    ∙ ap (λ w. put_by k log ++ w) (⊎_elim (λ (h : (eqb k s.port ≡ true) × (k ≡ s.port)). absurd (d h.1))
+    (λ (h : (eqb k s.port ≡ false) × (k ≢ s.port)). ap (λ b. cond b (s.mailed ∷ []) []) h.0) (eqb_tells k s.port))
     ∙ append-nil (put_by k log)
 
 pub taken-own : (k : ℕ) (out : List TakenBy) (g : TakenBy) → k ≡ g.port → taken_by k (out ++ g ∷ []) ≡ taken_by k out ++ g.sent ∷ []
 taken-own k out g e =
     taken_by-append k out (g ∷ [])
-    ∙ ap (λ w. taken_by k out ++ w) (⊎_elim (λ (h : (eqb k g.port ≡ true) × (k ≡ g.port)). ap (λ b. cond b (g.sent ∷ []) []) h.0) (λ (h : (eqb k g.port ≡ false) × (k ≢ g.port)). absurd (h.1 e)) (eqb_tells k g.port))
+    ∙ ap (λ w. taken_by k out ++ w) (⊎_elim (λ (h : (eqb k g.port ≡ true) × (k ≡ g.port)). ap
+    (λ b. cond b (g.sent ∷ []) []) h.0) (λ (h : (eqb k g.port ≡ false) × (k ≢ g.port)). absurd (h.1 e)) (eqb_tells k g.port))
 
 pub taken-other : (k : ℕ) (out : List TakenBy) (g : TakenBy) → k ≢ g.port → taken_by k (out ++ g ∷ []) ≡ taken_by k out
 taken-other k out g d =
     taken_by-append k out (g ∷ [])
-    ∙ ap (λ w. taken_by k out ++ w) (⊎_elim (λ (h : (eqb k g.port ≡ true) × (k ≡ g.port)). absurd (d h.1)) (λ (h : (eqb k g.port ≡ false) × (k ≢ g.port)). ap (λ b. cond b (g.sent ∷ []) []) h.0) (eqb_tells k g.port))
+    ∙ ap (λ w. taken_by k out ++ w) (⊎_elim (λ (h : (eqb k g.port ≡ true) × (k ≡ g.port)). absurd (d h.1))
+    (λ (h : (eqb k g.port ≡ false) × (k ≢ g.port)). ap (λ b. cond b (g.sent ∷ []) []) h.0) (eqb_tells k g.port))
     ∙ append-nil (taken_by k out)
 
 -- a name that no port has put and taken nothing
@@ -73,7 +80,8 @@ taken-none k n (g ∷ gs) h le = let a = h.0 in none-case (eqb k g.port) g.sent 
 
 pub times-in : (k : ℕ) (bs : List PortLists) (b : PortLists) → IsIn b bs → k ≡ b.name → 1 ≤ times k bs
 times-in k [] b h e = absurd h
-times-in k (c ∷ bs) b h e = ⊎_elim (λ (y : b ≡ c). omega (arith, one-same k c.name (e ∙ ap (λ (r : PortLists). r.name) y))) (λ r. omega (arith, times-in k bs b r e)) h
+times-in k (c ∷ bs) b h e = ⊎_elim (λ (y : b ≡ c). omega
+    (arith, one-same k c.name (e ∙ ap (λ (r : PortLists). r.name) y))) (λ r. omega (arith, times-in k bs b r e)) h
 
 pub lists-of : (k : ℕ) (bs : List PortLists) → 1 ≤ times k bs → (b : PortLists) × IsIn b bs × (k ≡ b.name)
 lists-of k [] h = absurd (omega arith)
@@ -102,7 +110,8 @@ put_in-put log s b e =
     (λ (h : (eqb s.port b.name ≡ false) × (s.port ≢ b.name)). subst P (sym h.0) (e ∙ sym (put-other b.name log s (λ q. h.1 (sym q)))))
     (eqb_tells s.port b.name)
 
-pub take_in-taken : (out : List TakenBy) (g : TakenBy) (b : PortLists) → b.taken ≡ taken_by b.name out → (take_in g.port g.sent b).taken ≡ taken_by b.name (out ++ g ∷ [])
+pub take_in-taken : (out : List TakenBy) (g : TakenBy) (b : PortLists) → b.taken ≡ taken_by b.name out
+    → (take_in g.port g.sent b).taken ≡ taken_by b.name (out ++ g ∷ [])
 take_in-taken out g b e =
     let P : Bool → Type 0 = λ c. (cond c (lists_of b.name b.put (b.taken ++ g.sent ∷ [])) b).taken ≡ taken_by b.name (out ++ g ∷ []) in
     ⊎_elim

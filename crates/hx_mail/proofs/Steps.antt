@@ -1,5 +1,6 @@
 -- AllByRecursion step keeps the rule of a box.
-use Rattle.std.proofs.Common.{◌≡◌, ◌≢◌, ℕ, ◌+◌, ◌<◌, ◌≤◌, inl, inr, ⊎_elim, true, false, eqb, List, [], ◌∷◌, ◌++◌, map, set, slice_set, Option, Some, None, refl, ap, sym, subst, ◌∙◌, arith, append_assoc}
+use Rattle.std.proofs.Common.{◌≡◌, ◌≢◌, ℕ, ◌+◌, ◌<◌, ◌≤◌, inl, inr, ⊎_elim, true, false, eqb, List, [], ◌∷◌, ◌++◌, map}
+use Rattle.std.proofs.Common.{set, slice_set, Option, Some, None, refl, ap, sym, subst, ◌∙◌, arith, append_assoc}
 use mathlib.Core.Option.{some, some-ne-none}
 use lib.ListN.{get_elem?}
 use Rattle.std.specs.Prelude.{nat_lt}
@@ -17,20 +18,27 @@ use Rattle.hx_mail.specs.declared.views.PortLists.{PortLists}
 use Rattle.hx_mail.specs.declared.views.BoxNames.{BoxNames}
 use Rattle.hx_mail.specs.declared.views.PortView.{PortView}
 use Rattle.hx_mail.specs.declared.views.Sent.{Sent}
-use Rattle.hx_mail.specs.Ports.{mailed_of, sent_of, port, spent_port, first_port, put_by, times, put_in, take_in, after_put, after_take, splitting, split_off, joined_port, CarriesAll, TookAlone, IsInOrder}
+use Rattle.hx_mail.specs.Ports.{mailed_of, sent_of, port, spent_port, first_port, put_by, times, put_in, take_in}
+use Rattle.hx_mail.specs.Ports.{after_put, after_take, splitting, split_off, joined_port, CarriesAll, TookAlone}
+use Rattle.hx_mail.specs.Ports.{IsInOrder}
 use Rattle.hx_mail.specs.Boxes.{IsFor}
 use Rattle.hx_mail.specs.Rule.{TakenBy, taken_under, taken_by, Fits, IsKept}
-use Rattle.hx_mail.proofs.Lists.{map-snoc, each_under, put_by-append, put-other, taken-other, put-none, taken-none, times-in, lists-of, put_in-name, put_in-taken, take_in-name, take_in-put, put_in-put, take_in-taken, times-map, taken_in, all_by}
+use Rattle.hx_mail.proofs.Lists.{map-snoc, each_under, put_by-append, put-other, taken-other, put-none, taken-none}
+use Rattle.hx_mail.proofs.Lists.{times-in, lists-of, put_in-name, put_in-taken, take_in-name, take_in-put, put_in-put}
+use Rattle.hx_mail.proofs.Lists.{take_in-taken, times-map, taken_in, all_by}
 
 -- another port doesn't carry the name
-apart : (views : List PortView) (c : ℕ) (id j : ℕ) (v u : PortView) (k : ℕ) → total (λ v. times k v.lists) views ≡ one (nat_lt k c) → get_elem? views id ≡ some v → get_elem? views j ≡ some u → j ≢ id → 1 ≤ times k v.lists
+apart : (views : List PortView) (c : ℕ) (id j : ℕ) (v u : PortView) (k : ℕ)
+    → total (λ v. times k v.lists) views ≡ one (nat_lt k c) → get_elem? views id ≡ some v → get_elem? views j ≡ some u
+    → j ≢ id → 1 ≤ times k v.lists
     → (b : PortLists) → IsIn b u.lists → b.name ≢ k
 apart views c id j v u k once at there other mine b i e =
     let a = total-two (λ v. times k v.lists) views id j v u at there other in
     let d = times-in k u.lists b i (sym e) in
     let f = one-le (nat_lt k c) in absurd (omega arith)
 
-uncounted : (views : List PortView) (id j : ℕ) (v u : PortView) (m : ℕ) → total (λ v. counts v.splits) views ≡ 1 → get_elem? views id ≡ some v → get_elem? views j ≡ some u → j ≢ id → counts v.splits ≡ 1 → ¬ (u.splits ≡ Some m)
+uncounted : (views : List PortView) (id j : ℕ) (v u : PortView) (m : ℕ) → total (λ v. counts v.splits) views ≡ 1
+    → get_elem? views id ≡ some v → get_elem? views j ≡ some u → j ≢ id → counts v.splits ≡ 1 → ¬ (u.splits ≡ Some m)
 uncounted views id j v u m once at there other mine e =
     let a = total-two (λ v. counts v.splits) views id j v u at there other in
     let b = counts-some u.splits m e in
@@ -42,7 +50,8 @@ some-same a b e = cc
 not_none : {A : Type 0} (a : A) → None ≡ Some a → ⊥
 not_none a e = cc
 
-drawn : (views : List PortView) (c id k : ℕ) (v : PortView) → total (λ v. times k v.lists) views ≡ one (nat_lt k c) → get_elem? views id ≡ some v → 1 ≤ times k v.lists → k < c
+drawn : (views : List PortView) (c id k : ℕ) (v : PortView) → total (λ v. times k v.lists) views ≡ one (nat_lt k c)
+    → get_elem? views id ≡ some v → 1 ≤ times k v.lists → k < c
 drawn views c id k v once at mine = let a = total-at (λ v. times k v.lists) views id v at in one-lt k c (omega arith)
 
 pub puts : (cap id : ℕ) (v : PortView) (x : Letter) (n : BoxNames) → v.of_box ≡ Some n → IsFor n x → x.port ≡ v.own → 1 ≤ times v.own v.lists
@@ -53,14 +62,16 @@ puts cap id v x n named sound own mine items views room kept at =
     let f : Fits kept.of_box kept.log kept.out kept.ports v = kept.fits id v at in
     let lt : v.own < kept.ports = drawn views kept.ports id v.own v (kept.carried_once v.own) at mine in
     let name : kept.of_box ≡ Some n = f.named n named in
-    let same : (k : ℕ) → times k w.lists ≡ times k v.lists = λ k. times-map k (put_in v.own (mailed_of x.envelope)) v.lists (put_in-name v.own (mailed_of x.envelope)) in (
+    let same : (k : ℕ) → times k w.lists ≡ times k v.lists =
+    λ k. times-map k (put_in v.own (mailed_of x.envelope)) v.lists (put_in-name v.own (mailed_of x.envelope)) in (
       w,
       record {
         of_box = kept.of_box;
         out = kept.out;
         log = kept.log ++ s ∷ [];
         ports = kept.ports;
-        log_is = ap (λ l. l ++ s ∷ []) kept.log_is ∙ append_assoc (map (λ (g : TakenBy). g.sent) kept.out) (map sent_of items) (s ∷ []) ∙ ap (λ l. map (λ (g : TakenBy). g.sent) kept.out ++ l) (sym (map-snoc sent_of items x));
+        log_is = ap (λ l. l ++ s ∷ []) kept.log_is ∙ append_assoc (map (λ (g : TakenBy). g.sent) kept.out)
+            (map sent_of items) (s ∷ []) ∙ ap (λ l. map (λ (g : TakenBy). g.sent) kept.out ++ l) (sym (map-snoc sent_of items x));
         log_within = each_append _ kept.log (s ∷ []) kept.log_within (omega arith, tt);
         out_within = kept.out_within;
         carried_once = λ k. let a = total-set (λ v. times k v.lists) views id v w at in let b = kept.carried_once k in omega (arith, same k);
@@ -74,14 +85,17 @@ puts cap id v x n named sound own mine items views room kept at =
                   let P : ℕ → Type 0 = λ o. (put_in o (mailed_of x.envelope) b).put ≡ put_by (put_in o (mailed_of x.envelope) b).name (kept.log ++ s ∷ []) in
                   subst P own (put_in-put kept.log s b e ∙ ap (λ k. put_by k (kept.log ++ s ∷ [])) (sym (put_in-name s.port s.mailed b)))) f.put;
               taken = each_under _ _ (put_in v.own (mailed_of x.envelope)) v.lists
-                  (λ b i e. put_in-taken v.own (mailed_of x.envelope) b ∙ e ∙ ap (λ k. taken_by k kept.out) (sym (put_in-name v.own (mailed_of x.envelope) b))) f.taken;
+                  (λ b i e. put_in-taken v.own (mailed_of x.envelope) b ∙ e
+                  ∙ ap (λ k. taken_by k kept.out) (sym (put_in-name v.own (mailed_of x.envelope) b))) f.taken;
               number = f.number;
               named = f.named;
             })
             (λ j u other there.
             let g : Fits kept.of_box kept.log kept.out kept.ports u = kept.fits j u there in
             record {
-              put = each_map _ _ u.lists (λ b i e. e ∙ sym (put-other b.name kept.log s (λ q. apart views kept.ports id j v u v.own (kept.carried_once v.own) at there other mine b i (q ∙ own)))) g.put;
+              put = each_map _ _ u.lists (λ b i e. e ∙ sym
+                  (put-other b.name kept.log s (λ q. apart views kept.ports id j v u v.own
+                  (kept.carried_once v.own) at there other mine b i (q ∙ own)))) g.put;
               taken = g.taken;
               number = g.number;
               named = g.named;
@@ -105,7 +119,8 @@ takes id v mine x items views kept at =
         out = kept.out ++ g ∷ [];
         log = kept.log;
         ports = kept.ports;
-        log_is = kept.log_is ∙ sym (append_assoc (map (λ (g : TakenBy). g.sent) kept.out) (s ∷ []) (map sent_of items)) ∙ ap (λ l. l ++ map sent_of items) (sym (map-snoc (λ (g : TakenBy). g.sent) kept.out g));
+        log_is = kept.log_is ∙ sym (append_assoc (map (λ (g : TakenBy). g.sent) kept.out) (s ∷ [])
+            (map sent_of items)) ∙ ap (λ l. l ++ map sent_of items) (sym (map-snoc (λ (g : TakenBy). g.sent) kept.out g));
         log_within = kept.log_within;
         out_within = each_append _ kept.out (g ∷ []) kept.out_within (lt, tt);
         carried_once = λ k. let a = total-set (λ v. times k v.lists) views id v w at in let b = kept.carried_once k in omega (arith, same k);
@@ -125,7 +140,9 @@ takes id v mine x items views kept at =
             let h : Fits kept.of_box kept.log kept.out kept.ports u = kept.fits j u there in
             record {
               put = h.put;
-              taken = each_map _ _ u.lists (λ b i e. e ∙ sym (taken-other b.name kept.out g (λ q. apart views kept.ports id j v u v.own (kept.carried_once v.own) at there other mine b i q))) h.taken;
+              taken = each_map _ _ u.lists (λ b i e. e ∙ sym
+                  (taken-other b.name kept.out g (λ q. apart views kept.ports id j v u v.own
+                  (kept.carried_once v.own) at there other mine b i q))) h.taken;
               number = h.number;
               named = h.named;
             });
@@ -136,7 +153,9 @@ takes id v mine x items views kept at =
 no-number : (n m : ℕ) (a b : Option BoxNames) → None ≡ Some n → (n + 1 ≡ m) × (a ≡ b)
 no-number n m a b e = absurd cc
 
-splits_seen : (id own n : ℕ) (of_box : Option BoxNames) (lists : List PortLists) → Forks IsKept id (port own of_box lists (Some n)) (splitting (port own of_box lists (Some n))) (split_off (port own of_box lists (Some n)))
+splits_seen : (id own n : ℕ) (of_box : Option BoxNames) (lists : List PortLists)
+    → Forks IsKept id (port own of_box lists (Some n)) (splitting (port own of_box lists (Some n)))
+    (split_off (port own of_box lists (Some n)))
 splits_seen id own n of_box lists items views kept at =
     let v : PortView = port own of_box lists (Some n) in
     let a : PortView = splitting v in
@@ -199,7 +218,8 @@ each_nil : {A : Type 0} (P : A → Type 0) (xs : List A) → xs ≡ [] → AllBy
 each_nil P xs e = subst (AllByRecursion P) (sym e) tt
 
 -- the names of a box are given once
-pub binds : (id own n : ℕ) (lists : List PortLists) (given : Option BoxNames) (m : BoxNames) → given ≡ Some m → Forks IsKept id (port own None lists (Some n)) (port own given lists (Some n)) spent_port
+pub binds : (id own n : ℕ) (lists : List PortLists) (given : Option BoxNames) (m : BoxNames) → given ≡ Some m
+    → Forks IsKept id (port own None lists (Some n)) (port own given lists (Some n)) spent_port
 binds id own n lists given m is items views kept at =
     let v : PortView = port own None lists (Some n) in
     let a : PortView = port own given lists (Some n) in
@@ -241,7 +261,8 @@ binds id own n lists given m is items views kept at =
 times-append : (k : ℕ) (xs ys : List PortLists) → times k (xs ++ ys) ≡ times k xs + times k ys
 times-append k xs ys = total-append (λ b. one (eqb k b.name)) xs ys
 
-either-number : (c d : Option ℕ) (n m : ℕ) (a b e : Option BoxNames) → ((n : ℕ) → c ≡ Some n → (n + 1 ≡ m) × (a ≡ e)) → ((n : ℕ) → d ≡ Some n → (n + 1 ≡ m) × (b ≡ e)) → a ≡ b → either_count c d ≡ Some n → (n + 1 ≡ m) × (a ≡ e)
+either-number : (c d : Option ℕ) (n m : ℕ) (a b e : Option BoxNames) → ((n : ℕ) → c ≡ Some n → (n + 1 ≡ m) × (a ≡ e))
+    → ((n : ℕ) → d ≡ Some n → (n + 1 ≡ m) × (b ≡ e)) → a ≡ b → either_count c d ≡ Some n → (n + 1 ≡ m) × (a ≡ e)
 either-number None d n m a b e f g same h = ((g n h).0, same ∙ (g n h).1)
 either-number (Some k) d n m a b e f g same h = f n h
 
@@ -250,7 +271,8 @@ pub merges : (id : ℕ) (v : PortView) (other : ℕ) (w : PortView) → v.of_box
 merges id v other w alike items views kept at two at' =
     let both : PortView = joined_port v w in
     let mid : List PortView = set views id both in
-    let was : get_elem? views other ≡ some w = ⊎_elim (λ (x : (other ≡ id) × (both ≡ w)). absurd (two x.0)) (λ (x : (other ≢ id) × (get_elem? views other ≡ some w)). x.1) (at_set views id other both w at') in
+    let was : get_elem? views other ≡ some w = ⊎_elim (λ (x : (other ≡ id) × (both ≡ w)). absurd (two x.0))
+    (λ (x : (other ≢ id) × (get_elem? views other ≡ some w)). x.1) (at_set views id other both w at') in
     let f : Fits kept.of_box kept.log kept.out kept.ports v = kept.fits id v at in
     let g : Fits kept.of_box kept.log kept.out kept.ports w = kept.fits other w was in
     let few = total-two (λ v. counts v.splits) views id other v w at was two in
@@ -287,7 +309,9 @@ merges id v other w alike items views kept at two at' =
     }
 
 -- what is taken under other names is nothing
-none_other : (v : PortView) (out : List TakenBy) (ports t : ℕ) → CarriesAll v → ((n : ℕ) → v.splits ≡ Some n → n + 1 ≡ ports) → AllByRecursion (λ b. b.taken ≡ taken_by b.name out) v.lists → TookAlone t v → AllByRecursion (λ g. g.port < ports) out
+none_other : (v : PortView) (out : List TakenBy) (ports t : ℕ) → CarriesAll v
+    → ((n : ℕ) → v.splits ≡ Some n → n + 1 ≡ ports) → AllByRecursion (λ b. b.taken ≡ taken_by b.name out) v.lists
+    → TookAlone t v → AllByRecursion (λ g. g.port < ports) out
     → (g : TakenBy) → IsIn g out → g.port ≢ t → ⊥
 none_other v out ports t all num taken alone within g i ne =
     let is = num all.0 all.1 in
@@ -299,8 +323,11 @@ none_other v out ports t all num taken alone within g i ne =
 
 each_by : (t : ℕ) (out : List TakenBy) → ((g : TakenBy) → IsIn g out → g.port ≢ t → ⊥) → AllByRecursion (λ g. g.port ≡ t) out
 each_by t [] f = tt
-each_by t (g ∷ out) f =
-    (⊎_elim (λ (e : (eqb g.port t ≡ true) × (g.port ≡ t)). e.1) (λ (e : (eqb g.port t ≡ false) × (g.port ≢ t)). absurd (f g (inl refl) e.1)) (eqb_tells g.port t), each_by t out (λ h i. f h (inr i)))
+each_by t (g ∷ out) f = (
+  ⊎_elim (λ (e : (eqb g.port t ≡ true) × (g.port ≡ t)). e.1)
+      (λ (e : (eqb g.port t ≡ false) × (g.port ≢ t)). absurd (f g (inl refl) e.1)) (eqb_tells g.port t),
+  each_by t out (λ h i. f h (inr i)),
+)
 
 pub learns : (id : ℕ) (v : PortView) → Learns IsKept id v (λ items. IsInOrder v)
 learns id v items views kept at all t ti alone b bi =

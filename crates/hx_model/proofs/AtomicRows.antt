@@ -76,7 +76,8 @@ both : effect_of books (Some (book (codes "b") (pos 1999))) (Atomic text_a (of_y
 both = refl
 
 -- where one edit has no result none is made
-all_or_none : effect_of books (Some (book (codes "b") greatest)) (Atomic text_a (of_genre (codes "c") ∷ of_year an_edit.Add (pos 1) ∷ [])) ≡ stays (codes "b") greatest an_answer.Overflow
+all_or_none : effect_of books (Some (book (codes "b") greatest))
+    (Atomic text_a (of_genre (codes "c") ∷ of_year an_edit.Add (pos 1) ∷ [])) ≡ stays (codes "b") greatest an_answer.Overflow
 all_or_none = refl
 
 -- what isn't of the edit's kind stays

@@ -6,7 +6,9 @@ use Rattle.hx_types.specs.declared.messages.Message.TheVariants as a_message
 use Rattle.hx_types.specs.declared.traces.Note.TheVariants as a_note
 use Rattle.hx_model.specs.CoordinatorSteps.{CoordinatorState, CoordinatorStep, Newest, Task, coordinator_step}
 use Rattle.std.proofs.Common.{refl}
-use Rattle.hx_model.proofs.SmallSpace.{by_coordinator, by_coordinator_to_session, caller, configured, epoch, first_update, from_server, from_session, joining, ready, region, server, session, the_key, version, whole}
+use Rattle.hx_model.proofs.SmallSpace.{by_coordinator, by_coordinator_to_session, caller, configured, epoch}
+use Rattle.hx_model.proofs.SmallSpace.{first_update, from_server, from_session, joining, ready, region, server}
+use Rattle.hx_model.proofs.SmallSpace.{session, the_key, version, whole}
 
 abbrev idle : CoordinatorState
 idle = record { config = whole; todo = []; newest = []; sessions = 2 }

@@ -37,7 +37,16 @@ lost_write = ended 1 1 1 an_answer.Done ∷ began 1 1 ∷ []
 
 not_complete : ¬ IsLinear script lost_write the_key
 not_complete = λ l.
-    let x = l.answered_once (caller 1 1) an_answer.Done (record { op = put_color red; called = refl; on_key = refl; entry = 2; version = version 1; ended = refl; not_refused = refl }) in
+    let x = l.answered_once (caller 1 1) an_answer.Done
+    (record {
+      op = put_color red;
+      called = refl;
+      on_key = refl;
+      entry = 2;
+      version = version 1;
+      ended = refl;
+      not_refused = refl;
+    }) in
     absurd (x.1)
 
 -- a put stands in the history that never began

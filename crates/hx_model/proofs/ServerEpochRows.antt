@@ -6,7 +6,11 @@ use Rattle.hx_types.specs.declared.messages.Message.TheVariants as a_message
 use Rattle.hx_model.specs.Slots.{KeyState}
 use Rattle.hx_model.specs.ServerSteps.{Replica, ServerState, ServerStep, server_step}
 use Rattle.std.proofs.Common.{refl}
-use Rattle.hx_model.proofs.SmallSpace.{between, blue, caller, configured, epoch, first_update, from_coordinator, from_server, from_session, ignoring, joining, key_slot, mark, not_installed, other_slot, place, ready, red, region, replica, row, running, second_update, server, shop, slot_of, stepping, the_key, third_update, to_coordinator, to_session, touch, version, whole}
+use Rattle.hx_model.proofs.SmallSpace.{between, blue, caller, configured, epoch, first_update, from_coordinator}
+use Rattle.hx_model.proofs.SmallSpace.{from_server, from_session, ignoring, joining, key_slot, mark, not_installed}
+use Rattle.hx_model.proofs.SmallSpace.{other_slot, place, ready, red, region, replica, row, running, second_update}
+use Rattle.hx_model.proofs.SmallSpace.{server, shop, slot_of, stepping, the_key, third_update, to_coordinator}
+use Rattle.hx_model.proofs.SmallSpace.{to_session, touch, version, whole}
 
 abbrev step : ServerState → Input → ServerStep
 step s input = server_step shop s input

@@ -8,7 +8,11 @@ use Rattle.hx_types.specs.declared.traces.Note.TheVariants as a_note
 use Rattle.hx_model.specs.Slots.{KeyState}
 use Rattle.hx_model.specs.ServerSteps.{ServerState, ServerStep, server_step}
 use Rattle.std.proofs.Common.{refl}
-use Rattle.hx_model.proofs.SmallSpace.{between, blue, caller, colored, configured, epoch, first_update, from_coordinator, from_server, from_session, ignoring, joining, key_slot, mark, not_installed, other_slot, place, put_color, ready, red, region, replica, row, running, second_update, shop, slot_of, stepping, the_key, third_update, to_coordinator, to_session, touch, version, whole}
+use Rattle.hx_model.proofs.SmallSpace.{between, blue, caller, colored, configured, epoch, first_update}
+use Rattle.hx_model.proofs.SmallSpace.{from_coordinator, from_server, from_session, ignoring, joining, key_slot, mark}
+use Rattle.hx_model.proofs.SmallSpace.{not_installed, other_slot, place, put_color, ready, red, region, replica, row}
+use Rattle.hx_model.proofs.SmallSpace.{running, second_update, shop, slot_of, stepping, the_key, third_update}
+use Rattle.hx_model.proofs.SmallSpace.{to_coordinator, to_session, touch, version, whole}
 
 abbrev step : ServerState → Input → ServerStep
 step s input = server_step shop s input

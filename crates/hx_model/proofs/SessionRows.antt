@@ -7,7 +7,9 @@ use Rattle.hx_types.specs.declared.messages.Message.TheVariants as a_message
 use Rattle.hx_types.specs.declared.traces.Note.TheVariants as a_note
 use Rattle.hx_model.specs.SessionSteps.{Part, SessionState, SessionStep, session_step}
 use Rattle.std.proofs.Common.{refl}
-use Rattle.hx_model.proofs.SmallSpace.{blue, by_session, by_session_to_coordinator, configured, epoch, first_update, from_coordinator, from_server, from_session, put_color, ready, red, region, row, server, session, shop, the_key, version, whole}
+use Rattle.hx_model.proofs.SmallSpace.{blue, by_session, by_session_to_coordinator, configured, epoch, first_update}
+use Rattle.hx_model.proofs.SmallSpace.{from_coordinator, from_server, from_session, put_color, ready, red, region, row}
+use Rattle.hx_model.proofs.SmallSpace.{server, session, shop, the_key, version, whole}
 
 -- session 1 has one call of each kind
 abbrev compare : Op
@@ -64,7 +66,8 @@ begins_each_key_call :
 begins_each_key_call = refl
 
 -- one region has everything, so the key's is asked
-begins_a_search : step (idle 4) Tick ≡ begins 5 (record (idle 5) { under_way = true; parts = asked 0 ∷ [] }) (by_session 1 1 (a_message.Ask (epoch 2) 5 (region 0) []) ∷ [])
+begins_a_search : step (idle 4) Tick ≡ begins 5 (record (idle 5) { under_way = true; parts = asked 0 ∷ [] })
+    (by_session 1 1 (a_message.Ask (epoch 2) 5 (region 0) []) ∷ [])
 begins_a_search = refl
 
 begins_an_administrative_call :
@@ -85,10 +88,14 @@ key_region_lost = configured 2 (2 ∷ 3 ∷ []) ([] ∷ (ready 2 ∷ ready 3 ∷
 -- never sent: refused, a write and a get; whether the call before was sent doesn't matter
 refused_at_once :
     map (λ begun. step (record (idle begun) { config = key_region_lost; sent = true }) Tick) (0 ∷ 1 ∷ 2 ∷ 3 ∷ [])
-    ≡ record (ends (record (idle 1) { config = key_region_lost }) 1 0 (an_answer.Refused (region 0) (epoch 2))) { notes = a_note.Began 1 ∷ a_note.Ended 1 (version 0) (an_answer.Refused (region 0) (epoch 2)) ∷ [] }
-    ∷ record (ends (record (idle 2) { config = key_region_lost }) 2 0 (an_answer.Refused (region 0) (epoch 2))) { notes = a_note.Began 2 ∷ a_note.Ended 2 (version 0) (an_answer.Refused (region 0) (epoch 2)) ∷ [] }
-    ∷ record (ends (record (idle 3) { config = key_region_lost }) 3 0 (an_answer.Refused (region 0) (epoch 2))) { notes = a_note.Began 3 ∷ a_note.Ended 3 (version 0) (an_answer.Refused (region 0) (epoch 2)) ∷ [] }
-    ∷ record (ends (record (idle 4) { config = key_region_lost }) 4 0 (an_answer.Refused (region 0) (epoch 2))) { notes = a_note.Began 4 ∷ a_note.Ended 4 (version 0) (an_answer.Refused (region 0) (epoch 2)) ∷ [] }
+    ≡ record (ends (record (idle 1) { config = key_region_lost }) 1 0 (an_answer.Refused (region 0) (epoch 2)))
+    { notes = a_note.Began 1 ∷ a_note.Ended 1 (version 0) (an_answer.Refused (region 0) (epoch 2)) ∷ [] }
+    ∷ record (ends (record (idle 2) { config = key_region_lost }) 2 0 (an_answer.Refused (region 0) (epoch 2)))
+    { notes = a_note.Began 2 ∷ a_note.Ended 2 (version 0) (an_answer.Refused (region 0) (epoch 2)) ∷ [] }
+    ∷ record (ends (record (idle 3) { config = key_region_lost }) 3 0 (an_answer.Refused (region 0) (epoch 2)))
+    { notes = a_note.Began 3 ∷ a_note.Ended 3 (version 0) (an_answer.Refused (region 0) (epoch 2)) ∷ [] }
+    ∷ record (ends (record (idle 4) { config = key_region_lost }) 4 0 (an_answer.Refused (region 0) (epoch 2)))
+    { notes = a_note.Began 4 ∷ a_note.Ended 4 (version 0) (an_answer.Refused (region 0) (epoch 2)) ∷ [] }
     ∷ []
 refused_at_once = refl
 
@@ -180,7 +187,8 @@ keeps_a_part = refl
 
 -- of each key the row with the highest version, from whichever region, in byte order of keys
 ends_with_all_parts :
-    step (searching (answered 1 (row (codes "b") 3 red ∷ row (codes "c") 9 red ∷ []) ∷ asked 2 ∷ [])) (found 2 5 2 (row (codes "a") 1 blue ∷ row (codes "b") 4 blue ∷ row (codes "c") 2 blue ∷ []))
+    step (searching (answered 1 (row (codes "b") 3 red ∷ row (codes "c") 9 red ∷ []) ∷ asked 2 ∷ []))
+    (found 2 5 2 (row (codes "a") 1 blue ∷ row (codes "b") 4 blue ∷ row (codes "c") 2 blue ∷ []))
     ≡ ends (searching []) 5 0 (an_answer.Rows (row (codes "a") 1 blue ∷ row (codes "b") 4 blue ∷ row (codes "c") 9 red ∷ []))
 ends_with_all_parts = refl
 
@@ -216,7 +224,8 @@ ends_with_its_outcome :
 ends_with_its_outcome = refl
 
 outcome_of_another_call :
-    map (step (waiting 6)) (from_coordinator (a_message.Outcome 5 (an_answer.Issued (epoch 3))) ∷ from_coordinator (a_message.Outcome 7 (an_answer.Issued (epoch 3))) ∷ [])
+    map (step (waiting 6)) (from_coordinator (a_message.Outcome 5 (an_answer.Issued (epoch 3))) ∷ from_coordinator
+    (a_message.Outcome 7 (an_answer.Issued (epoch 3))) ∷ [])
     ≡ ignoring (waiting 6) ∷ ignoring (waiting 6) ∷ []
 outcome_of_another_call = refl
 
@@ -250,7 +259,8 @@ sends_a_key_call_anew = refl
 abbrev key_region_lost_next : Config
 key_region_lost_next = record key_region_lost { epoch = epoch 3 }
 
-doubts_a_sent_write : step (waiting 1) (installs key_region_lost_next) ≡ ends (record (waiting 1) { config = key_region_lost_next }) 1 0 (an_answer.Doubt (region 0) (epoch 3))
+doubts_a_sent_write : step (waiting 1) (installs key_region_lost_next)
+    ≡ ends (record (waiting 1) { config = key_region_lost_next }) 1 0 (an_answer.Doubt (region 0) (epoch 3))
 doubts_a_sent_write = refl
 
 searches_anew :
@@ -292,5 +302,8 @@ others_do_nothing :
     ∷ from_session 1 (a_message.Poll (epoch 1))
     ∷ []
     )
-    ≡ ignoring (waiting 1) ∷ ignoring (waiting 1) ∷ ignoring (waiting 1) ∷ ignoring (waiting 1) ∷ ignoring (waiting 1) ∷ ignoring (waiting 1) ∷ ignoring (waiting 1) ∷ ignoring (waiting 1) ∷ ignoring (waiting 1) ∷ ignoring (waiting 1) ∷ ignoring (waiting 1) ∷ ignoring (waiting 1) ∷ ignoring (waiting 1) ∷ ignoring (waiting 1) ∷ []
+    ≡ ignoring (waiting 1) ∷ ignoring (waiting 1) ∷ ignoring (waiting 1) ∷ ignoring (waiting 1) ∷ ignoring
+    (waiting 1) ∷ ignoring (waiting 1) ∷ ignoring (waiting 1) ∷ ignoring (waiting 1) ∷ ignoring
+    (waiting 1) ∷ ignoring (waiting 1) ∷ ignoring (waiting 1) ∷ ignoring (waiting 1) ∷ ignoring
+    (waiting 1) ∷ ignoring (waiting 1) ∷ []
 others_do_nothing = refl

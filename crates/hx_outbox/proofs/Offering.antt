@@ -1,5 +1,6 @@
 -- Offers put together.
-use Rattle.std.proofs.Common.{◌≡◌, ℕ, zero, suc, ◌+◌, ◌*◌, ◌<◌, ◌≤◌, Bool, true, false, eqb, List, [], ◌∷◌, ◌++◌, map, length, slice_get, Some, refl, ap, sym, subst, ◌∙◌, arith, length-append}
+use Rattle.std.proofs.Common.{◌≡◌, ℕ, zero, suc, ◌+◌, ◌*◌, ◌<◌, ◌≤◌, Bool, true, false, eqb, List, [], ◌∷◌, ◌++◌, map}
+use Rattle.std.proofs.Common.{length, slice_get, Some, refl, ap, sym, subst, ◌∙◌, arith, length-append}
 use Rattle.std.specs.Prelude.{not}
 use Rattle.std.specs.List.{AllByRecursion}
 use Rattle.hx_types.specs.declared.messages.Post.{Post}
@@ -40,7 +41,8 @@ offered-none w w' t f e = record {
   tuning = refl;
 }
 
-pub offered-both : (u v w : (Mailed → ℕ) → ℕ) (r s t : Totals) (e f g : FateState) (ms ns : List Mailed) → IsOffered u v r s e f ms → IsOffered v w s t f g ns → IsOffered u w r t e g (ms ++ ns)
+pub offered-both : (u v w : (Mailed → ℕ) → ℕ) (r s t : Totals) (e f g : FateState) (ms ns : List Mailed)
+    → IsOffered u v r s e f ms → IsOffered v w s t f g ns → IsOffered u w r t e g (ms ++ ns)
 offered-both u v w r s t e f g ms ns a b = record {
   offers = a.offers ++ b.offers;
   are = map-append (λ (o : Offer). o.mailed) a.offers b.offers ∙ ap (λ l. l ++ map (λ (o : Offer). o.mailed) b.offers) a.are ∙ ap (λ l. ms ++ l) b.are;
@@ -56,16 +58,19 @@ offered-both u v w r s t e f g ms ns a b = record {
   tuning = b.tuning ∙ a.tuning;
 }
   where
-    join : (k : Offer → ℕ) (x y z : ℕ) → y ≡ raised_by (total k a.offers) x → z ≡ raised_by (total k b.offers) y → z ≡ raised_by (total k (a.offers ++ b.offers)) x
+    join : (k : Offer → ℕ) (x y z : ℕ) → y ≡ raised_by (total k a.offers) x → z ≡ raised_by (total k b.offers) y
+        → z ≡ raised_by (total k (a.offers ++ b.offers)) x
     join k x y z p q =
-        q ∙ ap (raised_by (total k b.offers)) p ∙ sym (raised-both (total k a.offers) (total k b.offers) x) ∙ ap (λ n. raised_by n x) (sym (total-append k a.offers b.offers))
+        q ∙ ap (raised_by (total k b.offers)) p ∙ sym (raised-both (total k a.offers) (total k b.offers) x)
+        ∙ ap (λ n. raised_by n x) (sym (total-append k a.offers b.offers))
 
 put-few : (os : List Offer) → AllByRecursion IsFair os → put_weight (λ m. 1) os ≤ 2 * length os
 put-few [] h = omega arith
 put-few (o ∷ os) h = let f = h.0.few in omega (arith, put-few os h.1, f)
 
 -- each post was put or kept at most twice
-pub offered-few : (w w' : (Mailed → ℕ) → ℕ) (t t' : Totals) (f f' : FateState) (ms : List Mailed) → IsOffered w w' t t' f f' ms → w' (λ m. 1) ≤ w (λ m. 1) + 2 * length ms
+pub offered-few : (w w' : (Mailed → ℕ) → ℕ) (t t' : Totals) (f f' : FateState) (ms : List Mailed)
+    → IsOffered w w' t t' f f' ms → w' (λ m. 1) ≤ w (λ m. 1) + 2 * length ms
 offered-few w w' t t' f f' ms o = omega (arith, o.put (λ m. 1), put-few o.offers o.fair, map-length (λ (p : Offer). p.mailed) o.offers, ap length o.are)
 
 -- one post, by its choice
@@ -113,7 +118,8 @@ asked-case false choice f f' g h =
       tuning = ap (λ (x : FateState). x.tuning) a;
     }
 
-pub offered-one : (w w' : (Mailed → ℕ) → ℕ) (t t' : Totals) (f f' : FateState) (m : Mailed) (choice : Choice) → IsChoiceOn m.post choice f f' → IsCounted choice t t'
+pub offered-one : (w w' : (Mailed → ℕ) → ℕ) (t t' : Totals) (f f' : FateState) (m : Mailed) (choice : Choice)
+    → IsChoiceOn m.post choice f f' → IsCounted choice t t'
     → ((h : Mailed → ℕ) → w' h ≡ w h + times_of choice * h m) → IsOffered w w' t t' f f' (m ∷ [])
 offered-one w w' t t' f f' m choice h k put =
     let a = asked-case (is_gone m.post.message) choice f f' h.0 h.1 in
@@ -138,10 +144,15 @@ offered-one w w' t t' f f' m choice h k put =
 
 named-append : (e k : ℕ) (xs ys : List Post) → named e k (xs ++ ys) ≡ named e k xs ++ named e (k + length xs) ys
 named-append e k [] ys = ap (λ n. named e n ys) (let z : k ≡ k + 0 = omega arith in z)
-named-append e k (x ∷ xs) ys = ap (λ w. mailed (record { entry = e; place = k }) x ∷ w) (named-append e (suc k) xs ys ∙ ap (λ n. named e (suc k) xs ++ named e n ys) (let z : suc k + length xs ≡ k + suc (length xs) = omega arith in z))
+named-append e k (x ∷ xs) ys = ap (λ w. mailed (record { entry = e; place = k }) x ∷ w)
+    (named-append e (suc k) xs ys ∙ ap (λ n. named e (suc k) xs ++ named e n ys)
+    (let z : suc k + length xs ≡ k + suc (length xs) = omega arith in z))
 
-pub named-next : (e : ℕ) (ps : List Post) (p : Post) (n : ℕ) → n ≡ length ps → named e 0 (ps ++ p ∷ []) ≡ named e 0 ps ++ mailed (record { entry = e; place = n }) p ∷ []
-named-next e ps p n is = named-append e 0 ps (p ∷ []) ∙ ap (λ k. named e 0 ps ++ mailed (record { entry = e; place = k }) p ∷ []) (let z : 0 + length ps ≡ n = omega (arith, is) in z)
+pub named-next : (e : ℕ) (ps : List Post) (p : Post) (n : ℕ) → n ≡ length ps
+    → named e 0 (ps ++ p ∷ []) ≡ named e 0 ps ++ mailed (record { entry = e; place = n }) p ∷ []
+named-next e ps p n is = named-append e 0 ps (p ∷ [])
+    ∙ ap (λ k. named e 0 ps ++ mailed (record { entry = e; place = k }) p ∷ [])
+    (let z : 0 + length ps ≡ n = omega (arith, is) in z)
 
 -- an item of a list, by what stands before it and after it
 module _ {A : Type 0} where
@@ -167,5 +178,6 @@ seconds-left w w' t t' f f' ms seconds seconds' firsts p rest o same is gone may
     gone p rest (same (subst (λ (x : Tuning). 0 < x.repeat_every) o.tuning may) ∙ is)
 
 -- as many posts were offered as there were
-pub offered-long : (w w' : (Mailed → ℕ) → ℕ) (t t' : Totals) (f f' : FateState) (ms : List Mailed) (o : IsOffered w w' t t' f f' ms) → length o.offers ≡ length ms
+pub offered-long : (w w' : (Mailed → ℕ) → ℕ) (t t' : Totals) (f f' : FateState) (ms : List Mailed)
+    (o : IsOffered w w' t t' f f' ms) → length o.offers ≡ length ms
 offered-long w w' t t' f f' ms o = sym (map-length (λ (p : Offer). p.mailed) o.offers) ∙ ap length o.are

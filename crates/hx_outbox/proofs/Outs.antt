@@ -1,5 +1,7 @@
 -- Ports that put.
-use Rattle.std.proofs.Common.{◌≡◌, ◌≢◌, ℕ, zero, suc, ◌+◌, ◌^◌, ◌<◌, ⊎_elim, true, false, cond, eqb, List, [], ◌∷◌, ◌++◌, length, slice_index_or, slice_set, Option, Some, None, refl, ap, sym, subst, ◌∙◌, arith, length-append}
+use Rattle.std.proofs.Common.{◌≡◌, ◌≢◌, ℕ, zero, suc, ◌+◌, ◌^◌, ◌<◌, ⊎_elim, true, false, cond, eqb, List, [], ◌∷◌}
+use Rattle.std.proofs.Common.{◌++◌, length, slice_index_or, slice_set, Option, Some, None, refl, ap, sym, subst, ◌∙◌}
+use Rattle.std.proofs.Common.{arith, length-append}
 use Rattle.std.specs.List.{AllByRecursion}
 use Rattle.std.proofs.lemmas.Bool.Decides.{eqb_tells}
 use mathlib.Core.List.{IsPrefix}
@@ -22,13 +24,15 @@ module _ {A B : Type 0} (R : A → B → Type 0) where
   both-long (x ∷ xs) [] h = absurd h
   both-long (x ∷ xs) (y ∷ ys) h = ap suc (both-long xs ys h.1)
 
-  pub both-at : (xs : List A) (ys : List B) (i : ℕ) (x : A) (y : B) → Both R xs ys → i < length xs → x ≡ slice_index_or xs i x → y ≡ slice_index_or ys i y → R x y
+  pub both-at : (xs : List A) (ys : List B) (i : ℕ) (x : A) (y : B) → Both R xs ys → i < length xs
+      → x ≡ slice_index_or xs i x → y ≡ slice_index_or ys i y → R x y
   both-at [] ys i x y h lt e f = absurd (omega (arith, lt))
   both-at (a ∷ xs) [] i x y h lt e f = absurd h
   both-at (a ∷ xs) (b ∷ ys) zero x y h lt e f = subst (λ u. R u y) (sym e) (subst (R a) (sym f) h.0)
   both-at (a ∷ xs) (b ∷ ys) (suc i) x y h lt e f = both-at xs ys i x y h.1 (omega (arith, lt)) e f
 
-  pub both-set : (xs : List A) (ys : List B) (i : ℕ) (x : A) (y : B) → Both R xs ys → i < length xs → x ≡ slice_index_or xs i x → R x y → Both R xs (slice_set ys i y)
+  pub both-set : (xs : List A) (ys : List B) (i : ℕ) (x : A) (y : B) → Both R xs ys → i < length xs
+      → x ≡ slice_index_or xs i x → R x y → Both R xs (slice_set ys i y)
   both-set [] ys i x y h lt e r = absurd (omega (arith, lt))
   both-set (a ∷ xs) [] i x y h lt e r = absurd h
   both-set (a ∷ xs) (b ∷ ys) zero x y h lt e r = (subst (λ u. R u y) e r, h.1)
@@ -46,14 +50,17 @@ more-set (x ∷ ps) (suc i) p q e b = (begins-refl (outs_of x), more-set ps i p 
 eqb-same : (k : ℕ) → eqb k k ≡ true
 eqb-same k = ⊎_elim (λ (h : (eqb k k ≡ true) × (k ≡ k)). h.0) (λ (h : (eqb k k ≡ false) × (k ≢ k)). absurd (h.1 refl)) (eqb_tells k k)
 
-put-view : (own : ℕ) (names : Option BoxNames) (us : List Mailed) (m : Mailed) → after_put m (port own names (lists_of own us [] ∷ []) None) ≡ port own names (lists_of own (us ++ m ∷ []) [] ∷ []) None
+put-view : (own : ℕ) (names : Option BoxNames) (us : List Mailed) (m : Mailed)
+    → after_put m (port own names (lists_of own us [] ∷ []) None) ≡ port own names (lists_of own (us ++ m ∷ []) [] ∷ []) None
 put-view own names us m = ap (λ c. port own names (cond c (lists_of own (us ++ m ∷ []) []) (lists_of own us []) ∷ []) None) (eqb-same own)
 
 -- the port after a put
-pub put-out : (j : ℕ) (box : Boxed) (p q : Ported) (m : Mailed) → IsOutPort j box p → IsPortOf box q → q.view ≡ after_put m (p.view) → m.post.to ≡ box.names.owner
+pub put-out : (j : ℕ) (box : Boxed) (p q : Ported) (m : Mailed) → IsOutPort j box p → IsPortOf box q
+    → q.view ≡ after_put m (p.view) → m.post.to ≡ box.names.owner
     → IsOutPort j box q × (outs_of q ≡ outs_of p ++ m ∷ [])
 put-out j box p q m h of e to =
-    let v : q.view ≡ port (j + 1) (Some (box.names)) (lists_of (j + 1) (outs_of p ++ m ∷ []) [] ∷ []) None = e ∙ ap (after_put m) h.view ∙ put-view (j + 1) (Some (box.names)) (outs_of p) m in
+    let v : q.view ≡ port (j + 1) (Some (box.names)) (lists_of (j + 1) (outs_of p ++ m ∷ []) [] ∷ []) None =
+    e ∙ ap (after_put m) h.view ∙ put-view (j + 1) (Some (box.names)) (outs_of p) m in
     let o : outs_of q ≡ outs_of p ++ m ∷ [] = ap (λ (w : PortView). put_first w.lists) v in (
       record {
         of = of;
@@ -84,10 +91,12 @@ pub weight-kept : (ps : List Ported) (i : ℕ) (p q : Ported) → i < length ps 
     → (h : Mailed → ℕ) → out_weight h (slice_set ps i q) ≡ out_weight h ps
 weight-kept ps i p q lt e o h = omega (arith, set-total (λ x. total h (outs_of x)) ps i p q lt e, ap (total h) o)
 
-pub sent-at : (ps : List Ported) (sent : List ℕ) (i : ℕ) (p : Ported) (s : ℕ) → sent ≡ counts_of ps → i < length ps → p ≡ slice_index_or ps i p → s ≡ slice_index_or sent i s → s ≡ length (outs_of p)
+pub sent-at : (ps : List Ported) (sent : List ℕ) (i : ℕ) (p : Ported) (s : ℕ) → sent ≡ counts_of ps → i < length ps
+    → p ≡ slice_index_or ps i p → s ≡ slice_index_or sent i s → s ≡ length (outs_of p)
 sent-at ps sent i p s same lt e f = f ∙ ap (λ l. slice_index_or l i s) same ∙ at-map (λ p. length (outs_of p)) ps i p s lt e
 
-pub sent-put : (ps : List Ported) (sent : List ℕ) (i : ℕ) (p q : Ported) (m : Mailed) (s : ℕ) → sent ≡ counts_of ps → i < length ps → p ≡ slice_index_or ps i p → s ≡ slice_index_or sent i s
+pub sent-put : (ps : List Ported) (sent : List ℕ) (i : ℕ) (p q : Ported) (m : Mailed) (s : ℕ) → sent ≡ counts_of ps
+    → i < length ps → p ≡ slice_index_or ps i p → s ≡ slice_index_or sent i s
     → outs_of q ≡ outs_of p ++ m ∷ [] → slice_set sent i (s + 1) ≡ counts_of (slice_set ps i q)
 sent-put ps sent i p q m s same lt e f o =
     let n : s + 1 ≡ length (outs_of q) = omega (arith, sent-at ps sent i p s same lt e f, ap length o, length-append (outs_of p) (m ∷ [])) in
@@ -98,13 +107,16 @@ same-at [] i x lt e = refl
 same-at (a ∷ xs) zero x lt e = ap (λ y. y ∷ xs) e
 same-at (a ∷ xs) (suc i) x lt e = ap (λ w. a ∷ w) (same-at xs i x (omega (arith, lt)) e)
 
-pub sent-kept : (ps : List Ported) (sent : List ℕ) (i : ℕ) (p q : Ported) → sent ≡ counts_of ps → i < length ps → p ≡ slice_index_or ps i p → outs_of q ≡ outs_of p → sent ≡ counts_of (slice_set ps i q)
+pub sent-kept : (ps : List Ported) (sent : List ℕ) (i : ℕ) (p q : Ported) → sent ≡ counts_of ps → i < length ps
+    → p ≡ slice_index_or ps i p → outs_of q ≡ outs_of p → sent ≡ counts_of (slice_set ps i q)
 sent-kept ps sent i p q same lt e o =
-    same ∙ sym (same-at (counts_of ps) i (length (outs_of p)) (omega (arith, map-length (λ p. length (outs_of p)) ps, lt)) (sym (at-map (λ p. length (outs_of p)) ps i p _ lt e)))
+    same ∙ sym (same-at (counts_of ps) i (length (outs_of p))
+    (omega (arith, map-length (λ p. length (outs_of p)) ps, lt)) (sym (at-map (λ p. length (outs_of p)) ps i p _ lt e)))
     ∙ ap (λ us. slice_set (counts_of ps) i (length us)) (sym o) ∙ sym (set-map (λ p. length (outs_of p)) ps i q)
 
 -- the number of posts put under one port is small
-pub sent-small : (ps : List Ported) (sent : List ℕ) (i : ℕ) (p : Ported) (s : ℕ) → sent ≡ counts_of ps → i < length ps → p ≡ slice_index_or ps i p → s ≡ slice_index_or sent i s → AreFew ps → s < 2 ^ 63
+pub sent-small : (ps : List Ported) (sent : List ℕ) (i : ℕ) (p : Ported) (s : ℕ) → sent ≡ counts_of ps → i < length ps
+    → p ≡ slice_index_or ps i p → s ≡ slice_index_or sent i s → AreFew ps → s < 2 ^ 63
 sent-small ps sent i p s same lt e f few =
     omega (arith, sent-at ps sent i p s same lt e f, at-total (λ x. total (λ m. 1) (outs_of x)) ps i p lt e, total-one (outs_of p), few)
 

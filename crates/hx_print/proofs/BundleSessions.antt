@@ -23,13 +23,16 @@ few_sessions b is = by b.spaces refl
     by : (spaces : List Script) → b.spaces ≡ spaces → length b.turns ≤ 16
     by [] e = absurd (let some : 0 < length b.spaces = is.some in omega (arith, some, ap (λ (l : List Script). length l) e))
     by (s ∷ more) e =
-        let dealt : AllZip (AreDealt 0) s.sessions b.turns = subst (λ (l : List Script). IfSome (slice_get l 0) (λ (x : Script). AllZip (AreDealt 0) x.sessions b.turns)) e (is.dealt 0) in
+        let dealt : AllZip (AreDealt 0) s.sessions b.turns =
+        subst (λ (l : List Script). IfSome (slice_get l 0)
+        (λ (x : Script). AllZip (AreDealt 0) x.sessions b.turns)) e (is.dealt 0) in
         let valid : IsScript s = All-head IsScript s more (subst (All IsScript) e is.scripts) in
         let few : length s.sessions ≤ 16 = valid.sessions in
         omega (arith, few, as_long s.sessions b.turns dealt)
 
 -- a session, and then those behind it
-pub sessions_on : (spaces : List Script) (number : ℕ) (turns : List ℕ) (rest after : List (List ℕ)) (out more : List ℕ) → rest ≡ turns ∷ after → more ≡ out ++ bundle_session_text spaces number turns
+pub sessions_on : (spaces : List Script) (number : ℕ) (turns : List ℕ) (rest after : List (List ℕ))
+    (out more : List ℕ) → rest ≡ turns ∷ after → more ≡ out ++ bundle_session_text spaces number turns
     → more ++ bundle_sessions_text spaces (number + 1) after ≡ out ++ bundle_sessions_text spaces number rest
 unfolding bundle_sessions_text
 sessions_on spaces number turns rest after out more split text =

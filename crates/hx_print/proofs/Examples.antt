@@ -12,7 +12,11 @@ use Rattle.hx_types.specs.declared.calls.Op.TheVariants.{Put, Get, Del, Cput, Se
 use Rattle.hx_types.specs.declared.values.Term.TheVariants.{Equal, Range}
 use Rattle.hx_types.specs.declared.ids.Actor.TheVariants.{Coordinator, Server, Session}
 use Rattle.std.specs.Fmt.{digits}
-use Rattle.hx_print.specs.Printing.{actor_text, add_text, axes_text, axis_text, bounds_text, call_line, cput_text, edit_text, int_line, key_line, named_text, next_axis_text, op_text, post_name, quoted, range_text, script_text, servers_line, session_text, sessions_text, space_line, space_text, step_line, step_text, steps_text, string_line, subspace_line, tolerate_line, value_text}
+use Rattle.hx_print.specs.Printing.{actor_text, add_text, axes_text, axis_text, bounds_text, call_line, cput_text}
+use Rattle.hx_print.specs.Printing.{edit_text, int_line, key_line, named_text, next_axis_text, op_text, post_name}
+use Rattle.hx_print.specs.Printing.{quoted, range_text, script_text, servers_line, session_text, sessions_text}
+use Rattle.hx_print.specs.Printing.{space_line, space_text, step_line, step_text, steps_text, string_line}
+use Rattle.hx_print.specs.Printing.{subspace_line, tolerate_line, value_text}
 use Rattle.std.proofs.Common.{refl}
 
 abbrev axis : ℕ → ℕ → Axis
@@ -36,7 +40,8 @@ books =
 nine_lines :
     script_text (record { space = books; sessions = []; steps = [] })
     ≡ codes "hx 1\nspace books\nkey name 2\nstring genre\nint year 1900 2099\nsubspace genre 4\nsubspace year 2\nservers 4\ntolerate 1\n"
-unfolding script_text sessions_text digits space_text space_line key_line string_line int_line bounds_text subspace_line axes_text axis_text next_axis_text servers_line tolerate_line steps_text
+unfolding script_text sessions_text digits space_text space_line key_line string_line int_line bounds_text
+    subspace_line axes_text axis_text next_axis_text servers_line tolerate_line steps_text
 nine_lines = refl
 
 abbrev pub put_book : Op
@@ -47,7 +52,8 @@ unfolding digits op_text quoted named_text value_text
 put_line = refl
 
 cput_line :
-    op_text books (Cput (codes "a") (record { attribute = 1; value = a_value.Text (codes "b") } ∷ []) (record { attribute = 2; value = a_value.Int (pos 2000) } ∷ []))
+    op_text books (Cput (codes "a") (record { attribute = 1; value = a_value.Text (codes "b") } ∷ [])
+    (record { attribute = 2; value = a_value.Int (pos 2000) } ∷ []))
     ≡ codes "cput \"a\" if genre=\"b\" set year=2000"
 unfolding digits op_text cput_text quoted named_text value_text
 cput_line = refl
@@ -124,5 +130,7 @@ stepped =
 sessions_and_steps :
     script_text stepped
     ≡ codes "hx 1\nspace library\nkey title 4\nstring author\nstring shelf\nint year -1 2049\nsubspace shelf 2, year 4\nservers 5\ntolerate 1\nsession 1\nget \"Odyssee\"\nsearch\nsession 2\nsteps\ntick u1\ndeliver 1.0\nhalt s3\ntick c\n"
-unfolding script_text sessions_text session_text call_line steps_text step_line step_text post_name actor_text digits space_text space_line key_line string_line int_line bounds_text subspace_line axes_text axis_text next_axis_text servers_line tolerate_line op_text quoted
+unfolding script_text sessions_text session_text call_line steps_text step_line step_text post_name actor_text digits
+    space_text space_line key_line string_line int_line bounds_text subspace_line axes_text axis_text next_axis_text
+    servers_line tolerate_line op_text quoted
 sessions_and_steps = refl

@@ -24,7 +24,8 @@ kept (h ∷ hands) zero none = ap (λ (x : List Op). x ∷ hands) (ap (λ (x : L
 kept (h ∷ hands) (suc k) none = ap (λ (l : List (List Op)). h ∷ l) (kept hands k none)
 
 -- no call to the space is left
-pub turn_empty : (spaces : List Script) (k : ℕ) (hands : List (Bor (List Op))) (hand : Bor (List Op)) (out : List ℕ) → k < length hands → hand ≡ get_or hands k hand → hand.now ≡ [] → TakesTurn spaces k (shown hands) (shown hands) out out
+pub turn_empty : (spaces : List Script) (k : ℕ) (hands : List (Bor (List Op))) (hand : Bor (List Op)) (out : List ℕ)
+    → k < length hands → hand ≡ get_or hands k hand → hand.now ≡ [] → TakesTurn spaces k (shown hands) (shown hands) out out
 turn_empty spaces k hands hand out lt is none =
     let left : hand_at (shown hands) k ≡ [] = hand_is hands k hand lt is ∙ none in
     record {
@@ -33,7 +34,9 @@ turn_empty spaces k hands hand out lt is none =
     }
 
 -- the first of those that are left is taken
-pub turn_taken : (spaces : List Script) (k : ℕ) (hands : List (Bor (List Op))) (hand rest : Bor (List Op)) (op : Op) (out more : List ℕ) → k < length hands → hand ≡ get_or hands k hand → hand.now ≡ op ∷ rest.now → more ≡ out ++ call_line_in spaces (k, op)
+pub turn_taken : (spaces : List Script) (k : ℕ) (hands : List (Bor (List Op))) (hand rest : Bor (List Op)) (op : Op)
+    (out more : List ℕ) → k < length hands → hand ≡ get_or hands k hand → hand.now ≡ op ∷ rest.now
+    → more ≡ out ++ call_line_in spaces (k, op)
     → TakesTurn spaces k (shown hands) (shown (set hands k rest)) out more
 turn_taken spaces k hands hand rest op out more lt is split text =
     let left : hand_at (shown hands) k ≡ op ∷ rest.now = hand_is hands k hand lt is ∙ split in
@@ -46,11 +49,18 @@ turn_taken spaces k hands hand rest op out more lt is split text =
     }
 
 -- and then the calls of the other turns
-pub turns_on : (spaces : List Script) (hands left : List (List Op)) (k : ℕ) (turns : List ℕ) (out more : List ℕ) → TakesTurn spaces k hands left out more → more ++ turns_text spaces left turns ≡ out ++ turns_text spaces hands (k ∷ turns)
+pub turns_on : (spaces : List Script) (hands left : List (List Op)) (k : ℕ) (turns : List ℕ) (out more : List ℕ)
+    → TakesTurn spaces k hands left out more → more ++ turns_text spaces left turns ≡ out ++ turns_text spaces hands (k ∷ turns)
 unfolding turns_text
 turns_on spaces hands left k turns out more t =
-    rw (t.appended, t.hands_left, flat_map-append (call_line_in spaces) (first_call k (hand_at hands k)) (calls_in_turn (slice_set hands k (drop 1 (hand_at hands k))) turns))
-    (append_assoc out (flat_map (call_line_in spaces) (first_call k (hand_at hands k))) (flat_map (call_line_in spaces) (calls_in_turn (slice_set hands k (drop 1 (hand_at hands k))) turns)))
+    rw (
+      t.appended,
+      t.hands_left,
+      flat_map-append (call_line_in spaces) (first_call k (hand_at hands k))
+          (calls_in_turn (slice_set hands k (drop 1 (hand_at hands k))) turns),
+    )
+    (append_assoc out (flat_map (call_line_in spaces) (first_call k (hand_at hands k)))
+    (flat_map (call_line_in spaces) (calls_in_turn (slice_set hands k (drop 1 (hand_at hands k))) turns)))
 
 -- no turn is left
 pub turns_end : (spaces : List Script) (hands : List (List Op)) (turns : List ℕ) → length turns ≡ 0 → turns_text spaces hands turns ≡ []
@@ -59,7 +69,8 @@ turns_end spaces hands [] e = refl
 turns_end spaces hands (k ∷ turns) e = absurd (omega (arith, e))
 
 -- there is a hand for each space still
-pub hands_stay : (spaces : List Script) (k : ℕ) (hands left : List (Bor (List Op))) (out more : List ℕ) → TakesTurn spaces k (shown hands) (shown left) out more → length left ≡ length hands
+pub hands_stay : (spaces : List Script) (k : ℕ) (hands left : List (Bor (List Op))) (out more : List ℕ)
+    → TakesTurn spaces k (shown hands) (shown left) out more → length left ≡ length hands
 hands_stay spaces k hands left out more t =
     sym (length-map left (λ (h : Bor (List Op)). h.now))
     ∙ ap (λ (l : List (List Op)). length l) t.hands_left

@@ -1,4 +1,5 @@
--- The plain text of a script of several spaces. It is laid out as that of one space, and in each call and step the name of a space stands behind the first word.
+-- The plain text of a script of several spaces. It is laid out as that of one space, and in each
+-- call and step the name of a space stands behind the first word.
 use Rattle.std.specs.Prelude.{◌≡◌, ℕ, ◌+◌, List, [], ◌∷◌, ◌++◌, codes, drop, map, slice_get, slice_set}
 use Rattle.std.specs.List.{flat_map}
 use Rattle.std.specs.Fmt.{decimal}
@@ -12,7 +13,8 @@ use Rattle.hx_types.specs.declared.traces.Step.{Step}
 use Rattle.hx_types.specs.declared.traces.Step.TheVariants as a_step
 use Rattle.hx_types.specs.Fitting.{calls_of}
 use Rattle.hx_types.specs.Words.{when_some}
-use Rattle.hx_print.specs.Printing.{actor_text, assigns_text, attribute_line, edits_text, key_line, post_name, quoted, servers_line, space_line, subspace_line, terms_text, tolerate_line}
+use Rattle.hx_print.specs.Printing.{actor_text, assigns_text, attribute_line, edits_text, key_line, post_name, quoted}
+use Rattle.hx_print.specs.Printing.{servers_line, space_line, subspace_line, terms_text, tolerate_line}
 
 -- ---- calls
 
@@ -125,4 +127,5 @@ own_lines s = own_text s.space
 
 -- the whole bundle, as a script of several spaces
 unfoldable pub bundle_text : Bundle → List ℕ
-bundle_text b = codes "hx 2\n" ++ shared_text b.spaces ++ flat_map own_lines b.spaces ++ bundle_sessions_text b.spaces 1 b.turns ++ bundle_steps_text b.spaces b.steps
+bundle_text b = codes "hx 2\n" ++ shared_text b.spaces ++ flat_map own_lines b.spaces
+    ++ bundle_sessions_text b.spaces 1 b.turns ++ bundle_steps_text b.spaces b.steps

@@ -36,9 +36,11 @@ one_part : text_cells 1 ≡ 0 ∷ 0 ∷ 0 ∷ 0 ∷ 0 ∷ []
 one_part = refl
 
 -- years from 1900 to 2099 in two parts, those outside with the nearer end
-years : map (λ (v : ℤ). int_cell_of v (pos 1900) (pos 2099) 2) (pos 1899 ∷ pos 1900 ∷ pos 1999 ∷ pos 2000 ∷ pos 2099 ∷ pos 2200 ∷ []) ≡ 0 ∷ 0 ∷ 0 ∷ 1 ∷ 1 ∷ 1 ∷ []
+years : map (λ (v : ℤ). int_cell_of v (pos 1900) (pos 2099) 2)
+    (pos 1899 ∷ pos 1900 ∷ pos 1999 ∷ pos 2000 ∷ pos 2099 ∷ pos 2200 ∷ []) ≡ 0 ∷ 0 ∷ 0 ∷ 1 ∷ 1 ∷ 1 ∷ []
 years = refl
 
 -- the widest range
-widest : map (λ (v : ℤ). int_cell_of v (negsuc 9223372036854775807) (pos 9223372036854775807) 256) (negsuc 9223372036854775807 ∷ negsuc 0 ∷ pos 0 ∷ pos 9223372036854775807 ∷ []) ≡ 0 ∷ 127 ∷ 128 ∷ 255 ∷ []
+widest : map (λ (v : ℤ). int_cell_of v (negsuc 9223372036854775807) (pos 9223372036854775807) 256)
+    (negsuc 9223372036854775807 ∷ negsuc 0 ∷ pos 0 ∷ pos 9223372036854775807 ∷ []) ≡ 0 ∷ 127 ∷ 128 ∷ 255 ∷ []
 widest = refl

@@ -1,5 +1,6 @@
 -- What the definition of a plan comes to.
-use Rattle.std.proofs.Common.{◌≡◌, ℕ, zero, suc, ◌+◌, ◌-◌, ◌<◌, ◌≤◌, Bool, true, false, cond, ◌||◌, ltb, ◌⊎◌, inl, inr, List, [], map, length, Option, None, Some, refl, sym, ap, ◌∙◌, subst, arith, add-one}
+use Rattle.std.proofs.Common.{◌≡◌, ℕ, zero, suc, ◌+◌, ◌-◌, ◌<◌, ◌≤◌, Bool, true, false, cond, ◌||◌, ltb, ◌⊎◌, inl, inr}
+use Rattle.std.proofs.Common.{List, [], map, length, Option, None, Some, refl, sym, ap, ◌∙◌, subst, arith, add-one}
 use Rattle.std.specs.List.{All, AllPairs, Contains}
 use Rattle.std.proofs.lemmas.Bool.{cases_lt, cases_order}
 use Rattle.std.proofs.lemmas.Bool.Decides.{nat_tests}
@@ -62,13 +63,15 @@ listed space terms s g asked =
     row_within first size n l m = (n - first, omega (arith, l, m), omega (arith, l))
 
 -- a list has a lost region exactly where there is one
-some_lost : (space : Space) (config : Config) (terms : List Term) (s : ℕ) → any_lost config (query_regions space terms s).regions ≡ true → HasLost space config terms s
+some_lost : (space : Space) (config : Config) (terms : List Term) (s : ℕ)
+    → any_lost config (query_regions space terms s).regions ≡ true → HasLost space config terms s
 some_lost space config terms s e =
     let regions = (query_regions space terms s).regions in
     let first = find_first (λ (a b : RegionId). a.0 < b.0) (is_lost config) regions (ascend space terms s) e in
     (first.0, All-contains (IsForQuery space terms s) regions first.0 (each_for_query space terms s) first.2, first.3)
 
-lost_some : (space : Space) (config : Config) (terms : List Term) (s : ℕ) → HasLost space config terms s → any_lost config (query_regions space terms s).regions ≡ true
+lost_some : (space : Space) (config : Config) (terms : List Term) (s : ℕ) → HasLost space config terms s
+    → any_lost config (query_regions space terms s).regions ≡ true
 lost_some space config terms s h = by (any_lost config (query_regions space terms s).regions) refl
   where
     by : (b : Bool) → any_lost config (query_regions space terms s).regions ≡ b → b ≡ true
@@ -78,7 +81,8 @@ lost_some space config terms s h = by (any_lost config (query_regions space term
         let not = All-contains (λ (g : RegionId). is_lost config g ≡ false) (query_regions space terms s).regions h.0 none (listed space terms s h.0 h.1) in
         absurd (clash (is_lost config h.0) h.2 not)
 
-none_lost : (space : Space) (config : Config) (terms : List Term) (s : ℕ) → (HasLost space config terms s → ⊥) → any_lost config (query_regions space terms s).regions ≡ false
+none_lost : (space : Space) (config : Config) (terms : List Term) (s : ℕ) → (HasLost space config terms s → ⊥)
+    → any_lost config (query_regions space terms s).regions ≡ false
 none_lost space config terms s h = by (any_lost config (query_regions space terms s).regions) refl
   where
     by : (b : Bool) → any_lost config (query_regions space terms s).regions ≡ b → b ≡ false
@@ -102,7 +106,8 @@ upto t n l = elim (cases_order t n) [
   | inr (inr h) ↦ absurd (omega (arith, h, l))
 ]
 
-best_next : (config : Config) (f : ℕ → QueryRegions) (n : ℕ) (best : Option QueryRegions) → IsBest config f n best → IsBest config f (suc n) (fewer_of config (f n) best)
+best_next : (config : Config) (f : ℕ → QueryRegions) (n : ℕ) (best : Option QueryRegions) → IsBest config f n best
+    → IsBest config f (suc n) (fewer_of config (f n) best)
 best_next config f n None h = by (any_lost config (f n).regions) refl
   where
     by : (b : Bool) → any_lost config (f n).regions ≡ b → IsBest config f (suc n) (cond b None (Some (f n)))
@@ -123,7 +128,8 @@ best_next config f n (Some q) h = by (any_lost config (f n).regions) refl (ltb (
     size = ap (λ (p : QueryRegions). length p.regions) h.2
 
     -- the further one is worse
-    kept : ((t : ℕ) → t ≡ n → any_lost config (f t).regions ≡ false → IsNoWorse (length (f h.0).regions) h.0 (length (f t).regions) t) → IsBest config f (suc n) (Some q)
+    kept : ((t : ℕ) → t ≡ n → any_lost config (f t).regions ≡ false
+        → IsNoWorse (length (f h.0).regions) h.0 (length (f t).regions) t) → IsBest config f (suc n) (Some q)
     kept worse = (h.0, omega (arith, h.1), h.2, h.3, λ t l k. elim (upto t n l) [ inl m ↦ h.4 t m k | inr p ↦ worse t p k ])
 
     -- better than one, no worse than another
@@ -131,9 +137,11 @@ best_next config f n (Some q) h = by (any_lost config (f n).regions) refl (ltb (
     chain a b c s t n l m o (inl p) = inl (omega (arith, l, p))
     chain a b c s t n l m o (inr p) = elim (cases_lt a c) [ inl r ↦ inl r | inr r ↦ inr (omega (arith, l, p.0, r), omega (arith, o)) ]
 
-    by : (b : Bool) → any_lost config (f n).regions ≡ b → (c : Bool) → ltb (length q.regions) (length (f n).regions) ≡ c → IsBest config f (suc n) (cond (b || c) (Some q) (Some (f n)))
+    by : (b : Bool) → any_lost config (f n).regions ≡ b → (c : Bool)
+        → ltb (length q.regions) (length (f n).regions) ≡ c → IsBest config f (suc n) (cond (b || c) (Some q) (Some (f n)))
     by true e c g = kept (λ t p k. absurd (clash (any_lost config (f t).regions) (subst (λ m. any_lost config (f m).regions ≡ true) (sym p) e) k))
-    by false e true g = kept (λ t p k. inl (subst (λ m. length (f h.0).regions < length (f m).regions) (sym p) (more (length q.regions) (length (f n).regions) (length (f h.0).regions) g size)))
+    by false e true g = kept (λ t p k. inl (subst (λ m. length (f h.0).regions < length (f m).regions) (sym p)
+        (more (length q.regions) (length (f n).regions) (length (f h.0).regions) g size)))
       where
         more : (a b c : ℕ) → ltb a b ≡ true → a ≡ c → c < b
         more a b c e s = (let l : a < b = grind (arith, nat_tests, e) in omega (arith, l, s))
@@ -155,7 +163,8 @@ best_next config f n (Some q) h = by (any_lost config (f n).regions) refl (ltb (
 pub best_of : (config : Config) (f : ℕ → QueryRegions) (n : ℕ) → IsBest config f n (chosen config None (map f (below n)))
 best_of config f zero = λ t l. absurd (omega (arith, l))
 best_of config f (suc n) =
-    let e = subst (λ m. chosen config None (map f (below m)) ≡ fewer_of config (f n) (chosen config None (map f (below n)))) (add-one n) (chosen_next config f n) in
+    let e = subst (λ m. chosen config None (map f (below m))
+    ≡ fewer_of config (f n) (chosen config None (map f (below n)))) (add-one n) (chosen_next config f n) in
     subst (λ (o : Option QueryRegions). IsBest config f (suc n) o) (sym e) (best_next config f n (chosen config None (map f (below n))) (best_of config f n))
 
 -- ---- the plan
@@ -184,10 +193,12 @@ record IsChosen (space : Space) (config : Config) (terms : List Term) (s : ℕ) 
   fewest : (t : ℕ) → t < subspace_count space → any_lost config (query_regions space terms t).regions ≡ false
       → IsNoWorse (length (query_regions space terms s).regions) s (length (query_regions space terms t).regions) t
 
-chosen_of : (space : Space) (config : Config) (terms : List Term) (s : ℕ) (regions : List RegionId) → plan_of space config terms ≡ a_plan.Regions s regions → IsChosen space config terms s regions
+chosen_of : (space : Space) (config : Config) (terms : List Term) (s : ℕ) (regions : List RegionId)
+    → plan_of space config terms ≡ a_plan.Regions s regions → IsChosen space config terms s regions
 chosen_of space config terms s regions e = by (best space config terms) e (best_of config (query_regions space terms) (subspace_count space))
   where
-    by : (o : Option QueryRegions) → planned space config terms o ≡ a_plan.Regions s regions → IsBest config (query_regions space terms) (subspace_count space) o → IsChosen space config terms s regions
+    by : (o : Option QueryRegions) → planned space config terms o ≡ a_plan.Regions s regions
+        → IsBest config (query_regions space terms) (subspace_count space) o → IsChosen space config terms s regions
     by None e h = cc
     by (Some q) e h =
         let same : query_regions space terms h.0 ≡ record { subspace = s; regions = regions } = sym h.2 ∙ ap named e in
@@ -206,28 +217,40 @@ asked space config terms s regions e =
 pub all_asked : (space : Space) (config : Config) (terms : List Term) → IsSpace space → MatchesAreAsked space config terms
 all_asked space config terms valid s regions e key object m =
     let h = chosen_of space config terms s regions e in
-    let place : IsForQuery space terms s (place_of space s key object) = record { belongs = places_belong space valid s key object h.subspace; met = matches_are_met space valid s key object terms h.subspace m } in
+    let place : IsForQuery space terms s (place_of space s key object) =
+    record {
+      belongs = places_belong space valid s key object h.subspace;
+      met = matches_are_met space valid s key object terms h.subspace m;
+    } in
     subst (λ (l : List RegionId). Contains l (place_of space s key object)) (sym h.all) (listed space terms s (place_of space s key object) place)
 
 pub fewest : (space : Space) (config : Config) (terms : List Term) → FewestAreAsked space config terms
 fewest space config terms s regions e t l ready =
     let h = chosen_of space config terms s regions e in
-    subst (λ (r : List RegionId). IsNoWorse (length r) s (length (query_regions space terms t).regions) t) (sym h.all) (h.fewest t l (none_lost space config terms t ready))
+    subst (λ (r : List RegionId). IsNoWorse (length r) s (length (query_regions space terms t).regions) t) (sym h.all)
+    (h.fewest t l (none_lost space config terms t ready))
 
 each_lost : (space : Space) (config : Config) (terms : List Term) (g : RegionId) → plan_of space config terms ≡ a_plan.Lost g
-    → (g ≡ lowest_lost config (query_regions space terms 0).regions) × ((s : ℕ) → s < subspace_count space → any_lost config (query_regions space terms s).regions ≡ true)
+    → (g ≡ lowest_lost config (query_regions space terms 0).regions)
+    × ((s : ℕ) → s < subspace_count space → any_lost config (query_regions space terms s).regions ≡ true)
 each_lost space config terms g e = by (best space config terms) e (best_of config (query_regions space terms) (subspace_count space))
   where
     by : (o : Option QueryRegions) → planned space config terms o ≡ a_plan.Lost g → IsBest config (query_regions space terms) (subspace_count space) o
-        → (g ≡ lowest_lost config (query_regions space terms 0).regions) × ((s : ℕ) → s < subspace_count space → any_lost config (query_regions space terms s).regions ≡ true)
+        → (g ≡ lowest_lost config (query_regions space terms 0).regions)
+        × ((s : ℕ) → s < subspace_count space → any_lost config (query_regions space terms s).regions ≡ true)
     by None e h = (sym (ap lost_named e), h)
     by (Some q) e h = cc
 
 pub lost : (space : Space) (config : Config) (terms : List Term) → LostWhereEachLost space config terms
-lost space config terms = (λ h s l. some_lost space config terms s ((each_lost space config terms h.0 h.1).1 s l), λ h. by (λ s l. lost_some space config terms s (h s l)) (best space config terms) (best_of config (query_regions space terms) (subspace_count space)))
+lost space config terms = (
+  λ h s l. some_lost space config terms s ((each_lost space config terms h.0 h.1).1 s l),
+  λ h. by (λ s l. lost_some space config terms s (h s l)) (best space config terms)
+      (best_of config (query_regions space terms) (subspace_count space)),
+)
   where
     by : ((s : ℕ) → s < subspace_count space → any_lost config (query_regions space terms s).regions ≡ true)
-        → (o : Option QueryRegions) → IsBest config (query_regions space terms) (subspace_count space) o → (g : RegionId) × (planned space config terms o ≡ a_plan.Lost g)
+        → (o : Option QueryRegions) → IsBest config (query_regions space terms) (subspace_count space) o
+        → (g : RegionId) × (planned space config terms o ≡ a_plan.Lost g)
     by all None h = (lowest_lost config (query_regions space terms 0).regions, refl)
     by all (Some q) h = absurd (clash (any_lost config (query_regions space terms h.0).regions) (all h.0 h.1) h.3)
 

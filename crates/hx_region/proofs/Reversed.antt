@@ -12,7 +12,8 @@ use Rattle.hx_region.specs.declared.hashing.TheConstants.{REVERSED_BYTES}
 -- the lower bits come first, and those above them last
 reversed-joined : (m n k x : ℕ) → k ≡ m + n → reversed_bits k x ≡ reversed_bits m x * 2 ^ n + reversed_bits n (x / 2 ^ m)
 reversed-joined zero n k x e =
-    (let whole : x / 1 ≡ x = omega arith in ap (λ j. reversed_bits j x) e ∙ ap (λ j. reversed_bits j x) none ∙ ap (reversed_bits n) (sym whole) ∙ nothing_before (2 ^ n) (reversed_bits n (x / 1)))
+    (let whole : x / 1 ≡ x = omega arith in ap (λ j. reversed_bits j x) e ∙ ap (λ j. reversed_bits j x) none
+    ∙ ap (reversed_bits n) (sym whole) ∙ nothing_before (2 ^ n) (reversed_bits n (x / 1)))
   where
     none : 0 + n ≡ n
     none = omega arith
@@ -24,7 +25,9 @@ reversed-joined (suc m) n (suc k) x e =
     let l : k ≡ m + n = omega (arith, e) in
     let r = reversed-joined m n k (x / 2) l in
     let d : x / 2 / 2 ^ m ≡ x / 2 ^ suc m = div-div-eq-div-mul x 2 (2 ^ m) ∙ ap (λ j. x / j) (sym (pow-succ' 2 m)) in
-    joined (x % 2) (reversed_bits m (x / 2)) (2 ^ m) (2 ^ n) (2 ^ k) (reversed_bits k (x / 2)) (reversed_bits n (x / 2 ^ suc m)) (ap (λ j. 2 ^ j) l ∙ pow-add 2 m n) (r ∙ ap (λ j. reversed_bits m (x / 2) * 2 ^ n + reversed_bits n j) d)
+    joined (x % 2) (reversed_bits m (x / 2)) (2 ^ m) (2 ^ n) (2 ^ k) (reversed_bits k (x / 2))
+    (reversed_bits n (x / 2 ^ suc m)) (ap (λ j. 2 ^ j) l ∙ pow-add 2 m n)
+    (r ∙ ap (λ j. reversed_bits m (x / 2) * 2 ^ n + reversed_bits n j) d)
   where
     joined : (b s p q w r t : ℕ) → w ≡ p * q → r ≡ s * q + t → b * w + r ≡ (b * p + s) * q + t
     joined b s p q w r t e f = (let g = ap (λ k. b * k) e in omega (arith, f, g))
@@ -56,7 +59,8 @@ pub table_at : (b : ℕ) → b < 256 → get_or REVERSED_BYTES b 0 ≡ reversed_
 table_at b l = ap (λ t. get_or t b 0) table_is ∙ get_or-map-range_with_len (reversed_bits 8) 0 256 b b 0 l (omega arith)
 
 -- eight bytes, the first of them the highest
-from_bytes : (w a b c d e f g h : ℕ) (w7 w6 w5 w4 w3 w2 w1 : ℕ) → w ≡ a * 2 ^ 56 + w7 → w7 ≡ b * 2 ^ 48 + w6 → w6 ≡ c * 2 ^ 40 + w5 → w5 ≡ d * 2 ^ 32 + w4 → w4 ≡ e * 2 ^ 24 + w3
+from_bytes : (w a b c d e f g h : ℕ) (w7 w6 w5 w4 w3 w2 w1 : ℕ) → w ≡ a * 2 ^ 56 + w7 → w7 ≡ b * 2 ^ 48 + w6
+    → w6 ≡ c * 2 ^ 40 + w5 → w5 ≡ d * 2 ^ 32 + w4 → w4 ≡ e * 2 ^ 24 + w3
     → w3 ≡ f * 2 ^ 16 + w2 → w2 ≡ g * 2 ^ 8 + w1 → w1 ≡ h * 2 ^ 0 + 0
     → a * 256 ^ 7 + b * 256 ^ 6 + c * 256 ^ 5 + d * 256 ^ 4 + e * 256 ^ 3 + f * 256 ^ 2 + g * 256 ^ 1 + h ≡ w
 from_bytes w a b c d e f g h w7 w6 w5 w4 w3 w2 w1 p8 p7 p6 p5 p4 p3 p2 p1 = omega (arith, p8, p7, p6, p5, p4, p3, p2, p1)

@@ -1,5 +1,6 @@
 -- Subspaces tried one after another, those with the fewest regions first.
-use Rattle.std.proofs.Common.{◌≡◌, ℕ, zero, suc, ◌+◌, ◌^◌, ◌<◌, false, cond, inl, inr, List, [], ◌∷◌, ◌++◌, length, get_or, Option, None, Some, is_some, refl, sym, ap, ◌∙◌, subst, arith}
+use Rattle.std.proofs.Common.{◌≡◌, ℕ, zero, suc, ◌+◌, ◌^◌, ◌<◌, false, cond, inl, inr, List, [], ◌∷◌, ◌++◌, length}
+use Rattle.std.proofs.Common.{get_or, Option, None, Some, is_some, refl, sym, ap, ◌∙◌, subst, arith}
 use Rattle.std.specs.List.{sum_by}
 use Rattle.std.proofs.lemmas.Bool.{cases_order}
 use Rattle.std.proofs.lemmas.List.{get_or-map, get_or_append_left, get_or_push, length-map, length_push}
@@ -17,7 +18,8 @@ use Rattle.hx_region.proofs.Planned.{IsBest, best, best_of, planned}
 -- ---- what the counts tell of the candidates
 
 -- the best of those that are left is the best of all
-pub best_left : (config : Config) (f : ℕ → QueryRegions) (n : ℕ) (counts : List (Option ℕ)) (c : Candidate) → AreCounts config f n counts → IsFewest counts n (Some c) → any_lost config (f c.subspace).regions ≡ false
+pub best_left : (config : Config) (f : ℕ → QueryRegions) (n : ℕ) (counts : List (Option ℕ)) (c : Candidate)
+    → AreCounts config f n counts → IsFewest counts n (Some c) → any_lost config (f c.subspace).regions ≡ false
     → IsBest config f n (Some (f c.subspace))
 best_left config f n counts c h fewest ready = (
   c.subspace,
@@ -30,11 +32,14 @@ best_left config f n counts c h fewest ready = (
     its : c.count ≡ length (f c.subspace).regions
     its = (let q = h.each c.subspace fewest.0 in subst (IsCountOf config (f c.subspace)) fewest.1 q)
 
-    by : (t : ℕ) → t < n → any_lost config (f t).regions ≡ false → (o : Option ℕ) → get_or counts t None ≡ o → IsCountOf config (f t) o → IsNoWorse (length (f c.subspace).regions) c.subspace (length (f t).regions) t
+    by : (t : ℕ) → t < n → any_lost config (f t).regions ≡ false → (o : Option ℕ) → get_or counts t None ≡ o
+        → IsCountOf config (f t) o → IsNoWorse (length (f c.subspace).regions) c.subspace (length (f t).regions) t
     by t l k None e q = absurd (clash (any_lost config (f t).regions) q k)
-    by t l k (Some m) e q = subst (λ a. IsNoWorse a c.subspace (length (f t).regions) t) its (subst (λ b. IsNoWorse c.count c.subspace b t) q (fewest.2 t m l e))
+    by t l k (Some m) e q = subst (λ a. IsNoWorse a c.subspace (length (f t).regions) t) its
+        (subst (λ b. IsNoWorse c.count c.subspace b t) q (fewest.2 t m l e))
 
-pub none_left : (config : Config) (f : ℕ → QueryRegions) (n : ℕ) (counts : List (Option ℕ)) → AreCounts config f n counts → IsFewest counts n None → IsBest config f n None
+pub none_left : (config : Config) (f : ℕ → QueryRegions) (n : ℕ) (counts : List (Option ℕ))
+    → AreCounts config f n counts → IsFewest counts n None → IsBest config f n None
 none_left config f n counts h none = λ t l. subst (IsCountOf config (f t)) (none t l) (h.each t l)
 
 -- there is one best
@@ -53,7 +58,8 @@ best_once config f n (Some q) (Some r) h k =
     one a s b t (inr p) (inr q) = omega (arith, p.1, q.1)
 
 -- the counts of all subspaces, read as a list
-fewest_of_all : (config : Config) (f : ℕ → QueryRegions) (n : ℕ) (counts read : List (Option ℕ)) (o : Option Candidate) → AreCounts config f n counts → read ≡ counts → IsFewest read (length read) o → IsFewest counts n o
+fewest_of_all : (config : Config) (f : ℕ → QueryRegions) (n : ℕ) (counts read : List (Option ℕ))
+    (o : Option Candidate) → AreCounts config f n counts → read ≡ counts → IsFewest read (length read) o → IsFewest counts n o
 fewest_of_all config f n counts read o h same fewest =
     let whole : IsFewest counts (length counts) o = subst (λ (r : List (Option ℕ)). IsFewest r (length r) o) same fewest in
     subst (λ m. IsFewest counts m o) h.count whole
@@ -61,15 +67,20 @@ fewest_of_all config f n counts read o h same fewest =
 -- so the first that has no lost region is the plan's
 pub plan_found : (space : Space) (config : Config) (terms : List Term) (counts read : List (Option ℕ)) (c : Candidate) (regions : List RegionId)
     → AreCounts config (query_regions space terms) (subspace_count space) counts → read ≡ counts → IsFewest read (length read) (Some c)
-    → regions ≡ (query_regions space terms c.subspace).regions → false ≡ any_lost config regions → a_plan.Regions c.subspace regions ≡ plan_of space config terms
+    → regions ≡ (query_regions space terms c.subspace).regions → false ≡ any_lost config regions
+    → a_plan.Regions c.subspace regions ≡ plan_of space config terms
 plan_found space config terms counts read c regions h same fewest all ready =
     let f = query_regions space terms in
-    let left = best_left config f (subspace_count space) counts c h (fewest_of_all config f (subspace_count space) counts read (Some c) h same fewest) (sym (ready ∙ ap (any_lost config) all)) in
+    let left = best_left config f (subspace_count space) counts c h
+    (fewest_of_all config f (subspace_count space) counts read (Some c) h same fewest)
+    (sym (ready ∙ ap (any_lost config) all)) in
     ap (a_plan.Regions c.subspace) all
-    ∙ ap (planned space config terms) (best_once config f (subspace_count space) (Some (f c.subspace)) (best space config terms) left (best_of config f (subspace_count space)))
+    ∙ ap (planned space config terms) (best_once config f (subspace_count space) (Some (f c.subspace))
+    (best space config terms) left (best_of config f (subspace_count space)))
 
 -- and where none is left there is no plan
-pub plan_lost : (space : Space) (config : Config) (terms : List Term) (counts read : List (Option ℕ)) → AreCounts config (query_regions space terms) (subspace_count space) counts → read ≡ counts
+pub plan_lost : (space : Space) (config : Config) (terms : List Term) (counts read : List (Option ℕ))
+    → AreCounts config (query_regions space terms) (subspace_count space) counts → read ≡ counts
     → IsFewest read (length read) None → a_plan.Lost (lowest_lost config (query_regions space terms 0).regions) ≡ plan_of space config terms
 plan_lost space config terms counts read h same none =
     let f = query_regions space terms in
@@ -96,18 +107,22 @@ get_or-below (suc n) s l = elim (cases_order s n) [
 ]
 
 -- every subspace is counted
-pub counts_made : (config : Config) (space : Space) (terms : List Term) (counts : List (Option ℕ)) → counts ≡ query_counts space terms → AreCounts config (query_regions space terms) (subspace_count space) counts
+pub counts_made : (config : Config) (space : Space) (terms : List Term) (counts : List (Option ℕ))
+    → counts ≡ query_counts space terms → AreCounts config (query_regions space terms) (subspace_count space) counts
 counts_made config space terms counts e =
     let size = λ (s : ℕ). Some (query_size space terms s) in
     subst (AreCounts config (query_regions space terms) (subspace_count space)) (sym e)
     (record {
       count = length-map (below (subspace_count space)) size ∙ length-below (subspace_count space);
       each = λ s l. subst (IsCountOf config (query_regions space terms s))
-          (sym (get_or-map size (below (subspace_count space)) s 0 None (let n = length-below (subspace_count space) in omega (arith, n, l)) ∙ ap size (get_or-below (subspace_count space) s l)))
+          (sym (get_or-map size (below (subspace_count space)) s 0 None
+          (let n = length-below (subspace_count space) in omega (arith, n, l))
+          ∙ ap size (get_or-below (subspace_count space) s l)))
           refl;
     })
 
-pub few_counts : (space : Space) (terms : List Term) (counts : List (Option ℕ)) → counts ≡ query_counts space terms → subspace_count space < 2 ^ 32 → length counts < 2 ^ 32
+pub few_counts : (space : Space) (terms : List Term) (counts : List (Option ℕ)) → counts ≡ query_counts space terms
+    → subspace_count space < 2 ^ 32 → length counts < 2 ^ 32
 few_counts space terms counts e few =
     let n = ap length e ∙ length-map (below (subspace_count space)) (λ s. Some (query_size space terms s)) ∙ length-below (subspace_count space) in
     omega (arith, n, few)

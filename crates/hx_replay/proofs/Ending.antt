@@ -22,7 +22,8 @@ handed_on given (Ok ended) holds same h = subst (λ (r : Result Ended Memory). I
 handed_on given (Err e) holds same h = tt
 
 -- why the steps stopped
-pub alone_stops : (with_trace : Bool) (script : Script) (trace : List Entry) (stopped : Stopped) → IsRun script (reverse trace) → HasFewEntries (reverse trace) → Stops script trace stopped
+pub alone_stops : (with_trace : Bool) (script : Script) (trace : List Entry) (stopped : Stopped)
+    → IsRun script (reverse trace) → HasFewEntries (reverse trace) → Stops script trace stopped
     → IfOk (ended_by stopped (trace ∷ [])) (ReplayEnds with_trace script)
 alone_stops with_trace script trace a_stop.Memory run few stops = tt
 alone_stops with_trace script trace (a_stop.Refused line) run few stops = of_one _ trace (record { run = run; refused = stops })
@@ -39,5 +40,10 @@ alone_drained with_trace script n before trace (a_drain_error.Worn a) taken from
     of_one _ trace (record {
       run = run;
       few = few;
-      ends = inr (record { taken = taken; entries = part.0; trace_is = part.2 ∙ ap (λ (t : List Entry). scheduled script t part.0) from; worn_out = fails.cause });
+      ends = inr (record {
+        taken = taken;
+        entries = part.0;
+        trace_is = part.2 ∙ ap (λ (t : List Entry). scheduled script t part.0) from;
+        worn_out = fails.cause;
+      });
     })

@@ -17,7 +17,8 @@ use Rattle.hx_replay.proofs.Reading.{refused_scripted}
 pub one_script : (text : List ℕ) (a b : Scripted) → scripted_of text ≡ Ok a → scripted_of text ≡ Ok b → a ≡ b
 one_script text a b e f = cc
 
-none-refused : (command : Command) (scripted : Scripted) → Replays command → IsSteppable command scripted → (line : ℕ) (traces : List (List Entry)) → IsRefusedStep scripted line traces → ⊥
+none-refused : (command : Command) (scripted : Scripted) → Replays command → IsSteppable command scripted
+    → (line : ℕ) (traces : List (List Entry)) → IsRefusedStep scripted line traces → ⊥
 none-refused (Replay with_trace) scripted replays steppable = steppable
 none-refused Plan scripted replays steppable = absurd replays
 
@@ -32,9 +33,11 @@ module _ (command : Command) (text : List ℕ) (line : ℕ) (reason : Reason) wh
       none-refused command by.scripted by.replays (subst (λ (s : Scripted). IsSteppable command s) same taken.steppable) line by.traces by.refused
 
 -- a script with an answer has no step that is refused
-pub refused_is_not_taken : (command : Command) (text : List ℕ) (before : Option (List ℕ)) (made : Ended) (line : ℕ) (traces : List (List Entry)) → before ≡ Some text
+pub refused_is_not_taken : (command : Command) (text : List ℕ) (before : Option (List ℕ)) (made : Ended) (line : ℕ)
+    (traces : List (List Entry)) → before ≡ Some text
     → IfSome before (λ t. IsJudgedResult command t (Ok made)) → made ≡ Refused line traces → IsTaken command text → ⊥
 refused_is_not_taken command text before made line traces left judged is taken =
-    let at : IfSome (Some text) (λ t. IsJudgedResult command t (Ok made)) = subst (λ (o : Option (List ℕ)). IfSome o (λ t. IsJudgedResult command t (Ok made))) left judged in
+    let at : IfSome (Some text) (λ t. IsJudgedResult command t (Ok made)) =
+    subst (λ (o : Option (List ℕ)). IfSome o (λ t. IsJudgedResult command t (Ok made))) left judged in
     let told : IsJudgedResult command text (Ok (Refused line traces)) = subst (λ (m : Ended). IsJudgedResult command text (Ok m)) is at in
     taken_refused command text line a_reason.Step taken told.1

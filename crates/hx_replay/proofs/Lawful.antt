@@ -32,7 +32,8 @@ module _ (laws : AreLaws) where
         lost = laws.losses script valid (reverse trace) run;
       }
 
-  pub are_lawful : (scripts : List Script) (traces : List (List Entry)) → AllByRecursion IsScript scripts → AllZip IsRunOf scripts traces → AllZip IsLawful scripts traces
+  pub are_lawful : (scripts : List Script) (traces : List (List Entry)) → AllByRecursion IsScript scripts
+      → AllZip IsRunOf scripts traces → AllZip IsLawful scripts traces
   are_lawful [] [] valid runs = tt
   are_lawful [] (t ∷ traces) valid runs = absurd runs
   are_lawful (s ∷ scripts) [] valid runs = absurd runs

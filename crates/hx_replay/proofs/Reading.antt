@@ -12,7 +12,8 @@ use Rattle.hx_replay.proofs.Versions.{script_is_of_version_1}
 -- ---- one space
 pub one_ok : (text : List ℕ) (s : Script) → script_of text ≡ Ok s → scripted_of text ≡ Ok (One s)
 one_ok text s h =
-    let told : scripted_of text ≡ scripted_by 1 text = ap (λ (r : Result ℕ ScriptError). then_read r (λ w. scripted_by w text)) (script_is_of_version_1 text s h) in
+    let told : scripted_of text ≡ scripted_by 1 text =
+    ap (λ (r : Result ℕ ScriptError). then_read r (λ w. scripted_by w text)) (script_is_of_version_1 text s h) in
     told ∙ ap (λ (q : Result Script ScriptError). then_read q (λ x. Ok (One x))) h
 
 -- ---- refusals

@@ -31,7 +31,8 @@ whole_run script before after trace n taken script_is from drains is same run fe
     let made : reverse trace ≡ scheduled script (after_steps script) n =
     here ∙ drains.trace ∙ ap (λ (s : Script). scheduled s (reverse before.trace) n) script_is ∙ ap (λ (t : List Entry). scheduled script t n) from in
     let quiet : next_entry script (reverse trace) ≡ None =
-    subst (λ (t : List Entry). next_entry script t ≡ None) (sym here) (subst (λ (s : Script). next_entry s (reverse after.trace) ≡ None) script_is drains.ends) in
+    subst (λ (t : List Entry). next_entry script t ≡ None) (sym here)
+    (subst (λ (s : Script). next_entry s (reverse after.trace) ≡ None) script_is drains.ends) in
     record {
       run = subst (λ (s : Script). IsRun s (reverse trace)) (same ∙ script_is) run;
       taken = taken;

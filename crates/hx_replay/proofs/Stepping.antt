@@ -15,7 +15,8 @@ not_none : {A : Type 0} (o : Option A) (a : A) → o ≡ None → o ≡ Some a �
 not_none o a e f = let both : None ≡ Some a = sym e ∙ f in absurd (cc)
 
 -- ---- of a script
-refused-differs : (script : Script) (line : ℕ) (trace : List Entry) (stop : Stop) → stop_of script [] script.steps ≡ Some stop → (IsRefusal stop.fault → ⊥) → IsRefusedAt script line trace → ⊥
+refused-differs : (script : Script) (line : ℕ) (trace : List Entry) (stop : Stop)
+    → stop_of script [] script.steps ≡ Some stop → (IsRefusal stop.fault → ⊥) → IsRefusedAt script line trace → ⊥
 refused-differs script line trace stop stops other refused =
     let same = same_some (stop_of script [] script.steps) _ stop refused.stops stops in
     other (subst IsRefusal (ap (λ (s : Stop). s.fault) same) refused.refused)
@@ -25,7 +26,8 @@ pub taken-not-refused : (script : Script) → AreTaken script → (line : ℕ) (
 taken-not-refused script taken line trace refused = not_none (stop_of script [] script.steps) _ taken refused.stops
 
 -- where they stop at a worn actor none is refused
-pub worn-not-refused : (script : Script) (worn : List Entry) (a : Actor) → IsWornAtStep script worn a → (line : ℕ) (trace : List Entry) → IsRefusedAt script line trace → ⊥
+pub worn-not-refused : (script : Script) (worn : List Entry) (a : Actor) → IsWornAtStep script worn a
+    → (line : ℕ) (trace : List Entry) → IsRefusedAt script line trace → ⊥
 worn-not-refused script worn a h line trace refused = refused-differs script line trace _ h.stops (λ (no : IsRefusal (WornFault a)). absurd no) refused
 
 pub not-taken : (script : Script) (trace : List Entry) (a : Actor) → IsWornAtStep script trace a → AreTaken script → ⊥
@@ -35,7 +37,8 @@ not-taken script trace a at taken = not_none (stop_of script [] script.steps) _ 
 pub all-taken-not-refused : (bundle : Bundle) → AreAllTaken bundle → (line : ℕ) (traces : List (List Entry)) → IsRefusedIn bundle line traces → ⊥
 all-taken-not-refused bundle taken line traces refused = not_none (bundle_stop_of (at_start bundle) bundle.steps) refused.stop taken refused.stops
 
-pub worn-step-not-refused : (bundle : Bundle) (course : Course) (a : Actor) → IsWornAtBundleStep bundle course a → (line : ℕ) (traces : List (List Entry)) → IsRefusedIn bundle line traces → ⊥
+pub worn-step-not-refused : (bundle : Bundle) (course : Course) (a : Actor) → IsWornAtBundleStep bundle course a
+    → (line : ℕ) (traces : List (List Entry)) → IsRefusedIn bundle line traces → ⊥
 worn-step-not-refused bundle course a h line traces refused =
     let same = same_some (bundle_stop_of (at_start bundle) bundle.steps) refused.stop h.stop refused.stops h.stops in
     let fault : refused.stop.fault ≡ WornFault a = ap (λ (s : BundleStop). s.fault) same ∙ h.worn in

@@ -60,7 +60,8 @@ module _ (source sink : Stream) (text : List ℕ) (still : Rose source.faults_be
   a_report (Wrong line clause) judged ends short report sound is well = inr (inr (line, clause, refl))
 
 -- an audit whose outcome is judged by the bytes is decided by them
-pub decided : (source sink : Stream) (outcome : Outcome) → IfSome source.before (λ text. IsAuditJudged text outcome) → EndsAudit source sink outcome → IsAuditDecided source sink outcome
+pub decided : (source sink : Stream) (outcome : Outcome) → IfSome source.before (λ text. IsAuditJudged text outcome)
+    → EndsAudit source sink outcome → IsAuditDecided source sink outcome
 decided source sink outcome judged ends =
     record {
       judged = judged;
@@ -80,7 +81,8 @@ same_command : (words : List (String Global)) (command own : Command) → Says w
 same_command words command own says also = let same = one_request words (a_request.Command command) (a_request.Command own) says also in cc
 
 -- words that say no command have none to decide
-pub none_decided : (words : List (String Global)) (source sink : Stream) (outcome : Outcome) → ((command : Command) → Says words command → ⊥) → IsCommandDecided words source sink outcome
+pub none_decided : (words : List (String Global)) (source sink : Stream) (outcome : Outcome)
+    → ((command : Command) → Says words command → ⊥) → IsCommandDecided words source sink outcome
 none_decided words source sink outcome none =
     record {
       judged = λ command says. absurd (none command says);
@@ -109,7 +111,8 @@ command_decided words source sink outcome command says judged faulty complete we
     record {
       judged = λ own said. subst (λ (c : Command). IfSome source.before (λ text. IsJudged c text outcome)) (same own said) judged;
       faulty = λ own text wanted said left is still. faulty text wanted left (subst (λ (c : Command). IsFaulty c text wanted) (sym (same own said)) is) still;
-      complete = λ own text said left short is still well. complete text left short (subst (λ (c : Command). IsTaken c text) (sym (same own said)) is) still well;
+      complete = λ own text said left short is still well. complete text left short
+          (subst (λ (c : Command). IsTaken c text) (sym (same own said)) is) still well;
       wears = λ own text worn a said replays left short is still. wears text worn a (subst Replays (sym (same own said)) replays) left short is still;
     }
   where
@@ -117,5 +120,6 @@ command_decided words source sink outcome command says judged faulty complete we
     same own said = same_command words command own says said
 
 -- how an audit ends whose outcome is told
-pub ends_at : (source sink : Stream) (outcome shown wanted : Outcome) → shown ≡ outcome → shown ≡ wanted → EndsAudit source sink outcome → EndsAudit source sink wanted
+pub ends_at : (source sink : Stream) (outcome shown wanted : Outcome) → shown ≡ outcome → shown ≡ wanted
+    → EndsAudit source sink outcome → EndsAudit source sink wanted
 ends_at source sink outcome shown wanted same is ends = subst (λ (o : Outcome). EndsAudit source sink o) (sym same ∙ is) ends

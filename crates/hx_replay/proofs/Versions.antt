@@ -59,7 +59,8 @@ shape (Sign s ∷ ts) x e = absurd (cc)
 -- ---- its first word
 no_hx : (a b c d e f g h i : Bool)
     → cond a (Some headings.Space) (cond b (Some headings.Key) (cond c (Some headings.String) (cond d (Some headings.Int) (cond e (Some headings.Subspace)
-    (cond f (Some headings.Servers) (cond g (Some headings.Tolerate) (cond h (Some headings.Session) (cond i (Some headings.Steps) None)))))))) ≡ Some headings.Hx → ⊥
+    (cond f (Some headings.Servers) (cond g (Some headings.Tolerate)
+    (cond h (Some headings.Session) (cond i (Some headings.Steps) None)))))))) ≡ Some headings.Hx → ⊥
 no_hx true b c d e f g h i is = absurd (cc)
 no_hx false true c d e f g h i is = absurd (cc)
 no_hx false false true d e f g h i is = absurd (cc)
@@ -76,14 +77,19 @@ heading_hx w is = by (bytes_eq w (codes "hx")) refl is
   where
     rest : Option Heading
     rest =
-        cond (bytes_eq w (codes "space")) (Some headings.Space) (cond (bytes_eq w (codes "key")) (Some headings.Key) (cond (bytes_eq w (codes "string")) (Some headings.String)
-        (cond (bytes_eq w (codes "int")) (Some headings.Int) (cond (bytes_eq w (codes "subspace")) (Some headings.Subspace) (cond (bytes_eq w (codes "servers")) (Some headings.Servers)
-        (cond (bytes_eq w (codes "tolerate")) (Some headings.Tolerate) (cond (bytes_eq w (codes "session")) (Some headings.Session) (cond (bytes_eq w (codes "steps")) (Some headings.Steps) None))))))))
+        cond (bytes_eq w (codes "space")) (Some headings.Space)
+        (cond (bytes_eq w (codes "key")) (Some headings.Key) (cond (bytes_eq w (codes "string")) (Some headings.String)
+        (cond (bytes_eq w (codes "int")) (Some headings.Int)
+        (cond (bytes_eq w (codes "subspace")) (Some headings.Subspace)
+        (cond (bytes_eq w (codes "servers")) (Some headings.Servers)
+        (cond (bytes_eq w (codes "tolerate")) (Some headings.Tolerate)
+        (cond (bytes_eq w (codes "session")) (Some headings.Session) (cond (bytes_eq w (codes "steps")) (Some headings.Steps) None))))))))
 
     by : (b : Bool) → bytes_eq w (codes "hx") ≡ b → cond b (Some headings.Hx) rest ≡ Some headings.Hx → bytes_eq w (codes "hx") ≡ true
     by true same e = same
     by false same e =
-        absurd (no_hx (bytes_eq w (codes "space")) (bytes_eq w (codes "key")) (bytes_eq w (codes "string")) (bytes_eq w (codes "int")) (bytes_eq w (codes "subspace"))
+        absurd (no_hx (bytes_eq w (codes "space")) (bytes_eq w (codes "key")) (bytes_eq w (codes "string"))
+        (bytes_eq w (codes "int")) (bytes_eq w (codes "subspace"))
         (bytes_eq w (codes "servers")) (bytes_eq w (codes "tolerate")) (bytes_eq w (codes "session")) (bytes_eq w (codes "steps")) e)
 
 same_heading : (h : Heading) → Some (keywords.Heading h) ≡ Some (keywords.Heading headings.Hx) → h ≡ headings.Hx
@@ -97,7 +103,8 @@ no_other_word None None e = absurd (cc)
 keyword_hx : (w : List ℕ) → keyword_of w ≡ Some (keywords.Heading headings.Hx) → bytes_eq w (codes "hx") ≡ true
 keyword_hx w is = by (heading_of w) refl is
   where
-    by : (o : Option Heading) → heading_of w ≡ o → or_heading o (or_call (call_word_of w) (or_step (step_word_of w))) ≡ Some (keywords.Heading headings.Hx) → bytes_eq w (codes "hx") ≡ true
+    by : (o : Option Heading) → heading_of w ≡ o → or_heading o (or_call (call_word_of w) (or_step (step_word_of w)))
+        ≡ Some (keywords.Heading headings.Hx) → bytes_eq w (codes "hx") ≡ true
     by (Some h) same e = heading_hx w (same ∙ ap (λ (x : Heading). Some x) (same_heading h e))
     by None same e = absurd (no_other_word (call_word_of w) (step_word_of w) e)
 
@@ -140,7 +147,9 @@ module _ (n : ℕ) (later : Draft → Result Script ScriptError) (s : Script) wh
   by_line (Ok x) e = (x, refl)
   by_line (Err r) e = absurd (cc)
 
-  by_toks : (r : Result (List Tok) Reason) (version : Result ℕ ScriptError) → (later empty_draft ≡ Ok s → version ≡ Ok 1) → at_line n (on_ok r (line_of_toks n empty_draft)) later ≡ Ok s → version_by n r version ≡ Ok 1
+  by_toks : (r : Result (List Tok) Reason) (version : Result ℕ ScriptError)
+      → (later empty_draft ≡ Ok s → version ≡ Ok 1) → at_line n (on_ok r (line_of_toks n empty_draft)) later ≡ Ok s
+      → version_by n r version ≡ Ok 1
   by_toks (Ok []) version ih e = ih e
   by_toks (Ok (t ∷ ts)) version ih e =
       let came = by_line (command n empty_draft (t ∷ ts)) e in

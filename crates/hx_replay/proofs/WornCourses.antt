@@ -1,5 +1,6 @@
 -- A replay of a bundle that ends at a worn actor ends so by each way through its steps and the schedule.
-use Rattle.std.proofs.Common.{◌≡◌, ◌⊎◌, inl, inr, ◌≤◌, ◌<◌, ◌+◌, ℕ, zero, suc, Bool, List, [], ◌∷◌, Option, Some, None, refl, sym, ap, ◌∙◌, subst, map, reverse, arith}
+use Rattle.std.proofs.Common.{◌≡◌, ◌⊎◌, inl, inr, ◌≤◌, ◌<◌, ◌+◌, ℕ, zero, suc, Bool, List, [], ◌∷◌, Option, Some, None}
+use Rattle.std.proofs.Common.{refl, sym, ap, ◌∙◌, subst, map, reverse, arith}
 use Rattle.std.specs.Prelude.{slice_get, slice_set}
 use Rattle.std.specs.List.{AllZip}
 use Rattle.std.proofs.lemmas.Bool.{cases_lt, leb-true}
@@ -32,7 +33,8 @@ none_some : {A : Type 0} (x : A) → None ≡ Some x → ⊥
 none_some x e = absurd (cc)
 
 -- the space of an entry has one more, or as many, and the others have as many
-set_grows : (j k : ℕ) (a : Actor) (runs : List WorldState) (r new : WorldState) → slice_get runs j ≡ Some r → made_by a r ≤ made_by a new → count k a runs ≤ count k a (slice_set runs j new)
+set_grows : (j k : ℕ) (a : Actor) (runs : List WorldState) (r new : WorldState) → slice_get runs j ≡ Some r
+    → made_by a r ≤ made_by a new → count k a runs ≤ count k a (slice_set runs j new)
 set_grows j k a [] r new at more = absurd (none_some r at)
 set_grows zero zero a (x ∷ rest) r new at more = let same = ap (made_by a) (some_same x r at) in omega (arith, same, more)
 set_grows zero (suc k) a (x ∷ rest) r new at more = omega arith
@@ -110,7 +112,8 @@ module _ (c : Course) (a : Actor) (worn : IsWornTurn c.runs (next_turn c) a) whe
   one_too_many : 1048577 ≤ count worn.next.space a (with_turn c (next_turn c)).runs
   one_too_many =
       let made : 1048576 ≤ entries_of a worn.run.trace = leb-true 1048576 (entries_of a worn.run.trace) worn.worn in
-      let counted : made_by a after ≡ entries_of a worn.run.trace + 1 = counts_own a worn.run.trace (entry_by worn.run.script worn.run.trace worn.next.next) worn.actor in
+      let counted : made_by a after ≡ entries_of a worn.run.trace + 1 =
+      counts_own a worn.run.trace (entry_by worn.run.script worn.run.trace worn.next.next) worn.actor in
       let taken : (with_turn c (next_turn c)).runs ≡ slice_set c.runs worn.next.space after =
       ap (λ (o : Option Turn). (with_turn c o).runs) worn.is_next
       ∙ ap (λ (o : Option WorldState). when_some o c.runs (λ (r : WorldState). slice_set c.runs worn.next.space (run_with worn.next.next r))) worn.stands in
@@ -128,7 +131,8 @@ module _ (start : Course) where
   no_next a c worn quiet = none_some worn.next (sym quiet ∙ worn.is_next)
 
   -- where an actor is worn no course is whole
-  not_quiet : (a : Actor) (i n : ℕ) → IsWornTurn (scheduled start i).runs (next_turn (scheduled start i)) a → next_turn (scheduled start n) ≡ None → HaveFew (scheduled start n).runs → ⊥
+  not_quiet : (a : Actor) (i n : ℕ) → IsWornTurn (scheduled start i).runs (next_turn (scheduled start i)) a
+      → next_turn (scheduled start n) ≡ None → HaveFew (scheduled start n).runs → ⊥
   not_quiet a i n worn quiet few = by (cases_lt i n)
     where
       by : (i < n) ⊎ (n ≤ i) → ⊥
@@ -141,7 +145,8 @@ module _ (start : Course) where
   same_worn : (c : Course) (a b : Actor) → IsWornTurn c.runs (next_turn c) a → IsWornTurn c.runs (next_turn c) b → a ≡ b
   same_worn c a b h g = sym h.actor ∙ ap (λ (t : Turn). t.next.actor) (some_same h.next g.next (sym h.is_next ∙ g.is_next)) ∙ g.actor
 
-  one_worn : (a b : Actor) (i n : ℕ) → IsWornTurn (scheduled start i).runs (next_turn (scheduled start i)) a → IsWornTurn (scheduled start n).runs (next_turn (scheduled start n)) b
+  one_worn : (a b : Actor) (i n : ℕ) → IsWornTurn (scheduled start i).runs (next_turn (scheduled start i)) a
+      → IsWornTurn (scheduled start n).runs (next_turn (scheduled start n)) b
       → HaveFew (scheduled start i).runs → HaveFew (scheduled start n).runs → a ≡ b
   one_worn a b i n worn other few many = by (cases_lt i n) (cases_lt n i)
     where
@@ -157,7 +162,8 @@ abbrev start_of : Bundle → Course
 start_of bundle = bundle_stepped (at_start bundle) bundle.steps
 
 -- a bundle whose replay is whole has no worn course
-pub whole_course_is_not_worn : (with_trace : Bool) (bundle : Bundle) (traces worn : List (List Entry)) (report : List ℕ) (a : Actor) → IsWholeCourse with_trace bundle traces report → IsWornCourse bundle worn a → ⊥
+pub whole_course_is_not_worn : (with_trace : Bool) (bundle : Bundle) (traces worn : List (List Entry))
+    (report : List ℕ) (a : Actor) → IsWholeCourse with_trace bundle traces report → IsWornCourse bundle worn a → ⊥
 whole_course_is_not_worn with_trace bundle traces worn report a whole run = by run.ends
   where
     by : IsWornAtBundleStep bundle run.course a ⊎ IsWornAfterBundleSteps bundle run.course a → ⊥
@@ -173,7 +179,8 @@ whole_course_is_not_worn with_trace bundle traces worn report a whole run = by r
 pub worn_course_at_one : (bundle : Bundle) (one other : List (List Entry)) (a b : Actor) → IsWornCourse bundle one a → IsWornCourse bundle other b → a ≡ b
 worn_course_at_one bundle one other a b run further = by run.ends further.ends
   where
-    by : IsWornAtBundleStep bundle run.course a ⊎ IsWornAfterBundleSteps bundle run.course a → IsWornAtBundleStep bundle further.course b ⊎ IsWornAfterBundleSteps bundle further.course b → a ≡ b
+    by : IsWornAtBundleStep bundle run.course a ⊎ IsWornAfterBundleSteps bundle run.course a
+        → IsWornAtBundleStep bundle further.course b ⊎ IsWornAfterBundleSteps bundle further.course b → a ≡ b
     by (inl at) (inl also) = one-worn-step bundle run.course further.course a b at also
     by (inl at) (inr after) = absurd (not-all-taken bundle run.course a at after.taken)
     by (inr after) (inl at) = absurd (not-all-taken bundle further.course b at after.taken)

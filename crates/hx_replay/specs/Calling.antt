@@ -58,7 +58,8 @@ EndsAudit source sink (an_outcome.Refused line reason) =
 EndsAudit source sink an_outcome.TooLarge = ConsumesExactly source.before source.after (limit + 1)
 EndsAudit source sink an_outcome.ReadFault = Rose source.faults_before source.faults_after
 EndsAudit source sink an_outcome.WriteFault =
-    (text : List ℕ) × ReadsText source.before source.after text × IsAudited text Yes × Rose sink.faults_before sink.faults_after × AppendsPrefix sink.before sink.after yes_line
+    (text : List ℕ) × ReadsText source.before source.after text × IsAudited text Yes
+    × Rose sink.faults_before sink.faults_after × AppendsPrefix sink.before sink.after yes_line
 EndsAudit source sink an_outcome.Memory = ⊤
 EndsAudit source sink (an_outcome.Worn a) = ⊥
 EndsAudit source sink (an_outcome.Wrong line clause) =

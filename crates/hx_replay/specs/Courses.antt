@@ -22,7 +22,8 @@ pub record IsRunOf (script : Script) (trace : List Entry) : Type 0 where
   pub run : IsRun script (reverse trace)
   pub few : HasFewEntries (reverse trace)
 
--- the course is one of the bundle: each session makes its calls in the order of its turns, one after another, whatever their spaces. Each trace is the run of its space
+-- the course is one of the bundle: each session makes its calls in the order of its turns, one
+-- after another, whatever their spaces. Each trace is the run of its space
 pub record IsCourseOf (bundle : Bundle) (course : Course) (traces : List (List Entry)) : Type 0 where
   pub is_course : IsCourse course
   pub of_bundle : course.bundle ≡ bundle
@@ -87,7 +88,8 @@ pub record IsWornAfterBundleSteps (bundle : Bundle) (course : Course) (a : Actor
   pub course_is : course ≡ course_after bundle entries
   pub worn_out : IsWornTurn course.runs (next_turn course) a
 
--- the course that the steps and the schedule of the bundle begin with, up to where the next entry is one of this actor, which has made 1,048,576 entries in that space
+-- the course that the steps and the schedule of the bundle begin with, up to where the next entry
+-- is one of this actor, which has made 1,048,576 entries in that space
 pub record IsWornCourse (bundle : Bundle) (traces : List (List Entry)) (a : Actor) : Type 0 where
   pub course : Course
   pub of_bundle : IsCourseOf bundle course traces

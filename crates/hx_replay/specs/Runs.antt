@@ -41,12 +41,14 @@ pub record IsWornRun (script : Script) (trace : List Entry) (a : Actor) : Type 0
   pub few : HasFewEntries (reverse trace)
   pub ends : IsWornAtStep script trace a ⊎ IsWornAfterSteps script trace a
 
--- the finished search holds every match that was committed before it began and not changed meanwhile, and only versions that were committed or under way during it
+-- the finished search holds every match that was committed before it began and not changed
+-- meanwhile, and only versions that were committed or under way during it
 pub record IsSearchWell (script : Script) (trace : List Entry) (s : FinishedSearch) : Type 0 where
   pub true_rows : IsSearchTrue script trace s
   pub whole : (key : List ℕ) → IsSearchWhole script trace key s
 
--- each key's history is linear, all of them have one order, each finished search is whole and true, every answer has its cause, and a lost region has lost its replicas
+-- each key's history is linear, all of them have one order, each finished search is whole and true,
+-- every answer has its cause, and a lost region has lost its replicas
 pub record IsLawful (script : Script) (trace : List Entry) : Type 0 where
   pub linear : (key : List ℕ) → IsLinear script (reverse trace) key
   pub one_order : HasOneOrder script (reverse trace)
@@ -54,7 +56,9 @@ pub record IsLawful (script : Script) (trace : List Entry) : Type 0 where
   pub causes : HasCauses script (reverse trace)
   pub lost : LosesReplicas script (reverse trace)
 
--- the trace is the run of the script that its steps and the schedule give, each key's history is linear, all of them have one order, each finished search is whole and true, every answer has its cause, a lost region has lost its replicas, and the report tells of it
+-- the trace is the run of the script that its steps and the schedule give, each key's history is
+-- linear, all of them have one order, each finished search is whole and true, every answer has its
+-- cause, a lost region has lost its replicas, and the report tells of it
 pub record IsWholeReplay (with_trace : Bool) (script : Script) (trace : List Entry) (report : List ℕ) : Type 0 where
   pub run : IsRun script (reverse trace)
   pub taken : AreTaken script

@@ -1,12 +1,15 @@
 -- What a server posts of its replicas in a new configuration.
-use Rattle.std.proofs.Common.{◌≡◌, ℕ, ◌+◌, ◌<◌, Bool, true, false, cond, List, [], ◌∷◌, ◌++◌, length, get_or, Option, None, Some, refl, ap, sym, ◌∙◌, subst, append_assoc, append-nil}
+use Rattle.std.proofs.Common.{◌≡◌, ℕ, ◌+◌, ◌<◌, Bool, true, false, cond, List, [], ◌∷◌, ◌++◌, length, get_or, Option}
+use Rattle.std.proofs.Common.{None, Some, refl, ap, sym, ◌∙◌, subst, append_assoc, append-nil}
 use Rattle.std.specs.List.{flat_map, slice_get}
 use Rattle.std.specs.Option.{option_map}
 use Rattle.std.proofs.lemmas.Grind.{flat_map-append}
 use Rattle.hx_model.specs.Types.{Config, Post, RegionId, ServerId, Space}
 use Rattle.hx_types.specs.Configs.{joiner_for, lists}
 use Rattle.hx_types.specs.Words.{provided, when_some}
-use Rattle.hx_model.specs.ServerSteps.{Replica as ReplicaState, ServerState, SlotContext as ModelContext, adopted_posts, is_active, ready_post, replica_of, replica_or_new, resumed_posts, snap_posts, snap_to}
+use Rattle.hx_model.specs.ServerSteps.{Replica as ReplicaState, ServerState, SlotContext as ModelContext}
+use Rattle.hx_model.specs.ServerSteps.{adopted_posts, is_active, ready_post, replica_of, replica_or_new, resumed_posts}
+use Rattle.hx_model.specs.ServerSteps.{snap_posts, snap_to}
 use Rattle.hx_replica.specs.declared.replicas.Replica.{Replica}
 use Rattle.hx_replica.specs.Replicas.{AreReplicas, IsReplicaIn, view_of, views_of}
 use Rattle.hx_replica.specs.Ticking.{kept_here, standing}
@@ -24,7 +27,8 @@ abbrev context_at : Space → Config → ServerId → RegionId → ModelContext
 context_at space config server g = record { space = space; config = config; server = server; region = g }
 
 -- what a replica posts that goes on, one after another
-pub active_posts : (space : Space) (config : Config) (server : ServerId) (g : RegionId) (r : Replica) (old snapped went posts : List Post) → is_active config (view_of r) ≡ true → r.region ≡ g
+pub active_posts : (space : Space) (config : Config) (server : ServerId) (g : RegionId) (r : Replica)
+    (old snapped went posts : List Post) → is_active config (view_of r) ≡ true → r.region ≡ g
     → snapped ≡ old ++ snap_posts (standing config server) (kept_here g r.store.states)
     → went ≡ snapped ++ flat_map (resumed_posts (context_at space config server g)) r.store.states
     → posts ≡ went ++ ready_post (standing config server) g → posts ≡ old ++ adopted_posts space (standing config server) (view_of r)
@@ -35,15 +39,23 @@ active_posts space config server g r old snapped went posts active at a b c =
     let ready = ready_post s g in
     c ∙ ap (λ (ps : List Post). ps ++ ready) (b ∙ ap (λ (ps : List Post). ps ++ all) a)
     ∙ ap (λ (ps : List Post). ps ++ ready) (append_assoc old snap all) ∙ append_assoc old (snap ++ all) ready
-    ∙ ap (λ (x : RegionId). old ++ (snap_posts s (kept_here x r.store.states) ++ flat_map (resumed_posts (context_at space config server x)) r.store.states ++ ready_post s x)) (sym at)
-    ∙ ap (λ (l : List Post). old ++ (l ++ flat_map (resumed_posts (context_at space config server r.region)) r.store.states ++ ready_post s r.region)) (snap_kept s (view_of r) (joiner_for config r.region server))
-    ∙ ap (λ b. old ++ provided b (snap_posts s (view_of r) ++ flat_map (resumed_posts (context_at space config server r.region)) r.store.states ++ ready_post s r.region)) (sym active)
+    ∙ ap (λ (x : RegionId). old ++ (snap_posts s (kept_here x r.store.states)
+    ++ flat_map (resumed_posts (context_at space config server x)) r.store.states ++ ready_post s x)) (sym at)
+    ∙ ap (λ (l : List Post). old ++ (l ++ flat_map
+    (resumed_posts (context_at space config server r.region)) r.store.states ++ ready_post s r.region))
+    (snap_kept s (view_of r) (joiner_for config r.region server))
+    ∙ ap (λ b. old ++ provided b (snap_posts s (view_of r)
+    ++ flat_map (resumed_posts (context_at space config server r.region)) r.store.states
+    ++ ready_post s r.region)) (sym active)
 
 -- one that doesn't go on posts nothing
-pub idle_posts : (space : Space) (config : Config) (server : ServerId) (r : Replica) (old : List Post) → is_active config (view_of r) ≡ false → old ≡ old ++ adopted_posts space (standing config server) (view_of r)
+pub idle_posts : (space : Space) (config : Config) (server : ServerId) (r : Replica) (old : List Post)
+    → is_active config (view_of r) ≡ false → old ≡ old ++ adopted_posts space (standing config server) (view_of r)
 idle_posts space config server r old idle =
     sym (append-nil old)
-    ∙ ap (λ b. old ++ provided b (snap_posts (standing config server) (view_of r) ++ flat_map (resumed_posts (context_at space config server r.region)) r.store.states ++ ready_post (standing config server) r.region)) (sym idle)
+    ∙ ap (λ b. old ++ provided b (snap_posts (standing config server) (view_of r)
+    ++ flat_map (resumed_posts (context_at space config server r.region)) r.store.states
+    ++ ready_post (standing config server) r.region)) (sym idle)
 
 -- the replica at the place is the region's
 pub record IsThere (space : Space) (views : List ReplicaState) (g : RegionId) (y : Replica) : Type 0 where
@@ -64,13 +76,15 @@ there space rs g place y are at found =
     }
 
 -- a new replica posts nothing
-pub new_posts : (space : Space) (config : Config) (server : ServerId) (rs : List Replica) (g : RegionId) (old : List Post) → None ≡ option_map (λ (r : ReplicaState). Some r) (replica_of g (views_of rs))
+pub new_posts : (space : Space) (config : Config) (server : ServerId) (rs : List Replica) (g : RegionId)
+    (old : List Post) → None ≡ option_map (λ (r : ReplicaState). Some r) (replica_of g (views_of rs))
     → old ≡ old ++ adopted_posts space (standing config server) (replica_or_new (views_of rs) g)
 new_posts space config server rs g old none =
     sym (append-nil old)
     ∙ sym
     (
-    ap (λ (o : Option ReplicaState). old ++ adopted_posts space (standing config server) (when_some o (record { region = g; installed = false; states = [] }) (λ (r : ReplicaState). r)))
+    ap (λ (o : Option ReplicaState). old ++ adopted_posts space (standing config server)
+    (when_some o (record { region = g; installed = false; states = [] }) (λ (r : ReplicaState). r)))
     (found_nowhere (replica_of g (views_of rs)) none)
     )
 
@@ -85,15 +99,20 @@ module _ (space : Space) (config : Config) (server : ServerId) (views : List Rep
   said = posts_at space config server views
 
   -- a region more in which the server is listed, and one in which it isn't
-  pub one_more : (n : ℕ) (mid after : List Post) → mid ≡ before ++ flat_map said (passing p n) → p (record { 0 = n }) ≡ true → after ≡ mid ++ said (record { 0 = n }) → after ≡ before ++ flat_map said (passing p (n + 1))
+  pub one_more : (n : ℕ) (mid after : List Post) → mid ≡ before ++ flat_map said (passing p n)
+      → p (record { 0 = n }) ≡ true → after ≡ mid ++ said (record { 0 = n }) → after ≡ before ++ flat_map said (passing p (n + 1))
   one_more n mid after so t a =
       a ∙ ap (λ (ps : List Post). ps ++ said (record { 0 = n })) so ∙ append_assoc before (flat_map said (passing p n)) (said (record { 0 = n }))
       ∙ ap (λ (ps : List Post). before ++ ps)
       (
-      ap (λ (ps : List Post). flat_map said (passing p n) ++ ps) (sym (append-nil (said (record { 0 = n })))) ∙ sym (flat_map-append said (passing p n) (record { 0 = n } ∷ []))
+      ap (λ (ps : List Post). flat_map said (passing p n) ++ ps) (sym (append-nil (said (record { 0 = n }))))
+      ∙ sym (flat_map-append said (passing p n) (record { 0 = n } ∷ []))
       ∙ ap (flat_map said) (ap (λ b. passing p n ++ cond b (record { 0 = n } ∷ []) []) (sym t) ∙ sym (passing_more p n))
       )
 
-  pub no_more : (n : ℕ) (after : List Post) → after ≡ before ++ flat_map said (passing p n) → p (record { 0 = n }) ≡ false → after ≡ before ++ flat_map said (passing p (n + 1))
+  pub no_more : (n : ℕ) (after : List Post) → after ≡ before ++ flat_map said (passing p n)
+      → p (record { 0 = n }) ≡ false → after ≡ before ++ flat_map said (passing p (n + 1))
   no_more n after so f =
-      so ∙ ap (λ (ps : List Post). before ++ ps) (ap (flat_map said) (sym (append-nil (passing p n)) ∙ ap (λ b. passing p n ++ cond b (record { 0 = n } ∷ []) []) (sym f) ∙ sym (passing_more p n)))
+      so ∙ ap (λ (ps : List Post). before ++ ps) (ap (flat_map said)
+      (sym (append-nil (passing p n)) ∙ ap (λ b. passing p n ++ cond b (record { 0 = n } ∷ []) []) (sym f)
+      ∙ sym (passing_more p n)))

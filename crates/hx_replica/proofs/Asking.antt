@@ -1,5 +1,6 @@
 -- What a server asks of a slot when it takes a message.
-use Rattle.std.proofs.Common.{◌≡◌, ℕ, suc, ◌+◌, ◌<◌, ◌≤◌, Bool, true, false, not, ◌&&◌, ◌||◌, cond, List, [], ◌∷◌, length, Option, Some, refl, ap, sym, ◌∙◌, subst, arith, inl, inr}
+use Rattle.std.proofs.Common.{◌≡◌, ℕ, suc, ◌+◌, ◌<◌, ◌≤◌, Bool, true, false, not, ◌&&◌, ◌||◌, cond, List, [], ◌∷◌}
+use Rattle.std.proofs.Common.{length, Option, Some, refl, ap, sym, ◌∙◌, subst, arith, inl, inr}
 use Rattle.std.specs.List.{All, AllByRecursion, slice_get}
 use Rattle.std.proofs.lemmas.Bool.{and_parts, cond_both, false≢true}
 use Rattle.std.proofs.lemmas.Option.{same_Some}
@@ -31,14 +32,16 @@ state_key marks key (s ∷ rest) =
     (λ e. state_key marks key rest)
 
 -- it keeps marks as the others do
-pub state_marks : (marks : Bool) (key : List ℕ) (states : List KeyState) → AllByRecursion (λ (t : KeyState). t.marks ≡ marks) states → (state_among marks key states).marks ≡ marks
+pub state_marks : (marks : Bool) (key : List ℕ) (states : List KeyState)
+    → AllByRecursion (λ (t : KeyState). t.marks ≡ marks) states → (state_among marks key states).marks ≡ marks
 state_marks marks key [] h = refl
 state_marks marks key (s ∷ rest) h =
     cond_both (same_text s.base.key key) s (state_among marks key rest) (λ (t : KeyState). t.marks ≡ marks)
     (λ e. h.0)
     (λ e. state_marks marks key rest h.1)
 
-state_small : (marks : Bool) (key : List ℕ) (states : List KeyState) → ((t : KeyState) → IsIn t states → top_of t ≤ GREATEST_NUMBER) → top_of (state_among marks key states) ≤ GREATEST_NUMBER
+state_small : (marks : Bool) (key : List ℕ) (states : List KeyState)
+    → ((t : KeyState) → IsIn t states → top_of t ≤ GREATEST_NUMBER) → top_of (state_among marks key states) ≤ GREATEST_NUMBER
 state_small marks key [] h = omega arith
 state_small marks key (s ∷ rest) h =
     cond_both (same_text s.base.key key) s (state_among marks key rest) (λ (t : KeyState). top_of t ≤ GREATEST_NUMBER)
@@ -57,13 +60,15 @@ pub placed : (g : RegionId) (places : List Place) → has_place_in g places ≡ 
 placed g [] e = absurd (false≢true e)
 placed g (p ∷ rest) e = by (same_region p.region g) (placed g rest) e
   where
-    by : (t : Bool) → (has_place_in g rest ≡ true → place_number g rest < length rest) → (t || has_place_in g rest) ≡ true → cond t 0 (place_number g rest + 1) < suc (length rest)
+    by : (t : Bool) → (has_place_in g rest ≡ true → place_number g rest < length rest)
+        → (t || has_place_in g rest) ≡ true → cond t 0 (place_number g rest + 1) < suc (length rest)
     by true more e = omega arith
     by false more e = let h = more e in omega (arith, h)
 
 -- the slots of each replica keep marks at a key region
 abbrev pub AreMarked : ServerValue → Type 0
-AreMarked v = (place : ℕ) (r : Replica) → slice_get v.state.replicas place ≡ Some r → AllByRecursion (λ (t : KeyState). t.marks ≡ is_key_region v.space r.region) r.states
+AreMarked v = (place : ℕ) (r : Replica) → slice_get v.state.replicas place ≡ Some r
+    → AllByRecursion (λ (t : KeyState). t.marks ≡ is_key_region v.space r.region) r.states
 
 -- the slot of a key at its leader
 pub slot_leads : (v : ServerValue) (key : List ℕ) (place : ℕ) (r : Replica) → AreMarked v → HasSmallVersions v.state → leading v.space v.state key ≡ Some r
@@ -86,7 +91,8 @@ pub record IsUpdateTo (g : RegionId) (u : Update) : Type 0 where
   pub few : length u.places ≤ MOST_PLACES
   pub after : All (λ (p : Place). p.after.0 < u.version.0) u.places
 
-pub update_taken : (v : ServerValue) (from : Actor) (m : Message) (epoch : Epoch) (g : RegionId) (u : Update) → CanHear v.space v.state from m → m ≡ a_message.Update epoch g u → IsUpdateTo g u
+pub update_taken : (v : ServerValue) (from : Actor) (m : Message) (epoch : Epoch) (g : RegionId) (u : Update)
+    → CanHear v.space v.state from m → m ≡ a_message.Update epoch g u → IsUpdateTo g u
 update_taken v from m epoch g u hears is =
     let sound = hears.can.input_to in
     let h = subst (IsSoundMessage (record { space = v.space; sessions = sound.sessions; most = sound.entry + 1 })) is sound.sound.message in

@@ -33,13 +33,15 @@ bare_first space (g ∷ gs) = ap (λ (rs : List ReplicaState). record { region =
 
 -- those of a configuration that was adopted
 pub adopted_views : (i : Inside) (v : ServerValue) (config shown : Config) (old : List Replica) → value_of i ≡ v → shown ≡ config → old ≡ i.replicas.items
-    → map (λ (g : RegionId). lean_replica i.space (standing shown i.id) (replica_or_new (views_of old) g)) (listed_regions shown i.id) ≡ (lean_with_config v.space v.state config).replicas
+    → map (λ (g : RegionId). lean_replica i.space (standing shown i.id) (replica_or_new (views_of old) g))
+    (listed_regions shown i.id) ≡ (lean_with_config v.space v.state config).replicas
 adopted_views i v config shown old seen same is =
     (λ j. map (λ (g : RegionId). lean_replica i.space (standing (same j) i.id) (replica_or_new (views_of (is j)) g)) (listed_regions (same j) i.id))
     ∙ ap (λ (x : ServerValue). (lean_with_config x.space x.state config).replicas) seen
 
 -- and their rooms
-pub adopted_rooms : (i : Inside) (v : ServerValue) (old next : List Replica) → value_of i ≡ v → old ≡ i.replicas.items → KeepRegionRooms (views_of old) (rooms_of old) (views_of next) (rooms_of next)
+pub adopted_rooms : (i : Inside) (v : ServerValue) (old next : List Replica) → value_of i ≡ v → old ≡ i.replicas.items
+    → KeepRegionRooms (views_of old) (rooms_of old) (views_of next) (rooms_of next)
     → KeepRegionRooms v.state.replicas v.rooms (views_of next) (rooms_of next)
 adopted_rooms i v old next seen is k =
     subst (λ (x : ServerValue). KeepRegionRooms x.state.replicas x.rooms (views_of next) (rooms_of next)) seen

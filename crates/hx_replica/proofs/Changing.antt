@@ -36,7 +36,8 @@ stepped_marks Open g s = refl
 stepped_marks (Accept u place tail_versions) g s = marks_stay (accepted g s u tail_versions.items) s
 stepped_marks (AckChange v) g s = marks_stay (acknowledged s v.0) s
 
-pub with_marked : (b : Bool) (s : KeyState) (states : List KeyState) → s.marks ≡ b → AllByRecursion (λ (t : KeyState). t.marks ≡ b) states → AllByRecursion (λ (t : KeyState). t.marks ≡ b) (with_state s states)
+pub with_marked : (b : Bool) (s : KeyState) (states : List KeyState) → s.marks ≡ b
+    → AllByRecursion (λ (t : KeyState). t.marks ≡ b) states → AllByRecursion (λ (t : KeyState). t.marks ≡ b) (with_state s states)
 with_marked b s [] e h = (e, tt)
 with_marked b s (x ∷ rest) e h =
     let P : List KeyState → Type 0 = AllByRecursion (λ (t : KeyState). t.marks ≡ b) in
@@ -49,12 +50,14 @@ with_marked b s (x ∷ rest) e h =
     )
 
 -- the replica at a place that holds what it should
-pub replica_at : (space : Space) (rs : List Replica) (i : ℕ) (d : Replica) → AllByRecursion (IsReplicaIn space) rs → i < length rs → IsReplicaIn space (get_or rs i d)
+pub replica_at : (space : Space) (rs : List Replica) (i : ℕ) (d : Replica) → AllByRecursion (IsReplicaIn space) rs
+    → i < length rs → IsReplicaIn space (get_or rs i d)
 replica_at space [] i d h l = absurd (omega arith)
 replica_at space (r ∷ rest) zero d h l = h.0
 replica_at space (r ∷ rest) (suc i) d h l = replica_at space rest i d h.1 (omega arith)
 
-set_each : (space : Space) (rs : List Replica) (i : ℕ) (x : Replica) → AllByRecursion (IsReplicaIn space) rs → IsReplicaIn space x → AllByRecursion (IsReplicaIn space) (set rs i x)
+set_each : (space : Space) (rs : List Replica) (i : ℕ) (x : Replica) → AllByRecursion (IsReplicaIn space) rs
+    → IsReplicaIn space x → AllByRecursion (IsReplicaIn space) (set rs i x)
 set_each space [] i x h p = tt
 set_each space (r ∷ rest) zero x h p = (p, h.1)
 set_each space (r ∷ rest) (suc i) x h p = (h.0, set_each space rest i x h.1 p)
@@ -65,7 +68,8 @@ map_stays f [] i x e = refl
 map_stays f (r ∷ rest) zero x e = ap (λ y. y ∷ map f rest) e
 map_stays f (r ∷ rest) (suc i) x e = ap (λ (l : List _). f r ∷ l) (map_stays f rest i x e)
 
-pub set_replicas : (space : Space) (rs : List Replica) (i : ℕ) (x : Replica) → AreReplicas space rs → IsReplicaIn space x → x.region ≡ (get_or rs i x).region → AreReplicas space (set rs i x)
+pub set_replicas : (space : Space) (rs : List Replica) (i : ℕ) (x : Replica) → AreReplicas space rs
+    → IsReplicaIn space x → x.region ≡ (get_or rs i x).region → AreReplicas space (set rs i x)
 set_replicas space rs i x h p e = record {
   each = set_each space rs i x h.each p;
   ascend = subst IsAscending (sym (map_stays (λ (r : Replica). r.region.0) rs i x (ap (λ (g : RegionId). g.0) e))) h.ascend;
@@ -82,7 +86,8 @@ view_at (x ∷ rest) zero d r e = same_Some (view_of x) r e
 view_at (x ∷ rest) (suc i) d r e = view_at rest i d r e
 
 -- the first replica of a region is the one at its place
-pub set_is_with : (rs : List Replica) (i : ℕ) (x r : ReplicaState) → AscendByRegion rs → slice_get (views_of rs) i ≡ Some r → x.region ≡ r.region → set (views_of rs) i x ≡ with_replica x (views_of rs)
+pub set_is_with : (rs : List Replica) (i : ℕ) (x r : ReplicaState) → AscendByRegion rs
+    → slice_get (views_of rs) i ≡ Some r → x.region ≡ r.region → set (views_of rs) i x ≡ with_replica x (views_of rs)
 set_is_with [] i x r h e s = absurd cc
 set_is_with (y ∷ rest) zero x r h e s =
     let k : y.region.0 ≡ x.region.0 = ap (λ (z : ReplicaState). z.region.0) (same_Some (view_of y) r e) ∙ ap (λ (g : RegionId). g.0) (sym s) in
@@ -99,7 +104,8 @@ set_there f [] i x l = absurd (omega arith)
 set_there f (r ∷ rest) zero x l = refl
 set_there f (r ∷ rest) (suc i) x l = set_there f rest i x (omega arith)
 
-module _ (space : Space) (rs : List Replica) (place : ℕ) (y : Replica) (store : StoreState) (are : AreReplicas space rs) (within : place < length rs) (is : y ≡ get_or rs place y) where
+module _ (space : Space) (rs : List Replica) (place : ℕ) (y : Replica) (store : StoreState)
+    (are : AreReplicas space rs) (within : place < length rs) (is : y ≡ get_or rs place y) where
   -- the replica with this store in place of its own
   abbrev pub put : Replica
   put = record { region = y.region; installed = y.installed; store = store }
@@ -111,9 +117,15 @@ module _ (space : Space) (rs : List Replica) (place : ℕ) (y : Replica) (store 
   held = subst (IsReplicaIn space) (sym is) (replica_at space rs place y are.each within)
 
   -- a store of the same kind
-  pub stays : store.region ≡ y.store.region → store.keeps_marks ≡ y.store.keeps_marks → AllByRecursion (λ (t : KeyState). t.marks ≡ is_key_region space y.region) store.states → AreReplicas space (set rs place put)
+  pub stays : store.region ≡ y.store.region → store.keeps_marks ≡ y.store.keeps_marks
+      → AllByRecursion (λ (t : KeyState). t.marks ≡ is_key_region space y.region) store.states
+      → AreReplicas space (set rs place put)
   stays region marks marked =
-      set_replicas space rs place put are (record { region = region ∙ held.region; marks = marks ∙ held.marks; marked = marked }) (ap (λ (r : Replica). r.region) here)
+      set_replicas space rs place put are (record {
+        region = region ∙ held.region;
+        marks = marks ∙ held.marks;
+        marked = marked;
+      }) (ap (λ (r : Replica). r.region) here)
 
   -- one with the same slots
   pub reserved : store.region ≡ y.store.region → store.keeps_marks ≡ y.store.keeps_marks → store.states ≡ y.store.states → AreReplicas space (set rs place put)
@@ -132,7 +144,8 @@ module _ (space : Space) (rs : List Replica) (place : ℕ) (y : Replica) (store 
   put_there f = set_there f rs place put within
 
   -- one whose slot of a key moved
-  moved_marked : (key : List ℕ) (change : SlotChange) → store.states ≡ after_step y.store key (stepped change) → AllByRecursion (λ (t : KeyState). t.marks ≡ is_key_region space y.region) store.states
+  moved_marked : (key : List ℕ) (change : SlotChange) → store.states ≡ after_step y.store key (stepped change)
+      → AllByRecursion (λ (t : KeyState). t.marks ≡ is_key_region space y.region) store.states
   moved_marked key change states =
       let b : Bool = is_key_region space y.region in
       let s : KeyState = state_at y.store key in
@@ -140,7 +153,9 @@ module _ (space : Space) (rs : List Replica) (place : ℕ) (y : Replica) (store 
       subst (AllByRecursion (λ (t : KeyState). t.marks ≡ b)) (sym states)
       (with_marked b (stepped change y.store.region s) y.store.states (stepped_marks change y.store.region s ∙ kept) held.marked)
 
-  pub changed : (key : List ℕ) (change : SlotChange) → store.region ≡ y.store.region → store.keeps_marks ≡ y.store.keeps_marks → store.states ≡ after_step y.store key (stepped change) → AreReplicas space (set rs place put)
+  pub changed : (key : List ℕ) (change : SlotChange) → store.region ≡ y.store.region
+      → store.keeps_marks ≡ y.store.keeps_marks → store.states ≡ after_step y.store key (stepped change)
+      → AreReplicas space (set rs place put)
   changed key change region marks states = stays region marks (moved_marked key change states)
 
   pub changed_views : (key : List ℕ) (change : SlotChange) (r : ReplicaState) → slice_get (views_of rs) place ≡ Some r
@@ -148,9 +163,11 @@ module _ (space : Space) (rs : List Replica) (place : ℕ) (y : Replica) (store 
       → views_of (set rs place put) ≡ with_replica (record r { states = with_state (stepped change r.region (state_in space r key)) r.states }) (views_of rs)
   changed_views key change r e states =
       let same : view_of y ≡ r = ap view_of is ∙ view_at rs place y r e in
-      let after : Bool → RegionId → List KeyState = λ b g. let s : KeyState = state_among b key y.store.states in with_state (stepped change g s) y.store.states in
+      let after : Bool → RegionId → List KeyState = λ b g. let s : KeyState = state_among b key y.store.states in
+      with_state (stepped change g s) y.store.states in
       let moved_to : ReplicaState → ReplicaState = λ z. record z { states = with_state (stepped change z.region (state_in space z key)) z.states } in
-      let states_are : store.states ≡ after (is_key_region space y.region) y.region = states ∙ ap (λ b. after b y.store.region) held.marks ∙ ap (after (is_key_region space y.region)) held.region in
+      let states_are : store.states ≡ after (is_key_region space y.region) y.region =
+      states ∙ ap (λ b. after b y.store.region) held.marks ∙ ap (after (is_key_region space y.region)) held.region in
       map-set view_of rs place put
       ∙ set_is_with rs place (view_of put) r are.ascend e (ap (λ (z : ReplicaState). z.region) same)
       ∙ ap (λ (z : ReplicaState). with_replica z (views_of rs))

@@ -44,9 +44,12 @@ abbrev lent : Option ReplicaState → Option (Option ReplicaState)
 lent o = option_map (λ r. Some r) o
 
 -- the replica at the place that was found is the region's
-pub found : (g : RegionId) (rs : List Replica) (i : ℕ) → AscendByRegion rs → i < length rs → HoldsAt (λ (r : Replica). nat_cmp r.region.0 g.0 ≡ an_order.Equal) rs i → Some (slice_get (views_of rs) i) ≡ lent (replica_of g (views_of rs))
+pub found : (g : RegionId) (rs : List Replica) (i : ℕ) → AscendByRegion rs → i < length rs
+    → HoldsAt (λ (r : Replica). nat_cmp r.region.0 g.0 ≡ an_order.Equal) rs i
+    → Some (slice_get (views_of rs) i) ≡ lent (replica_of g (views_of rs))
 found g [] i h l e = absurd (omega arith)
-found g (r ∷ rest) zero h l e = ap lent (sym (cond-true (same_region r.region g) _ _ (eq-eqb r.region.0 g.0 (ranked r.region.0 g.0 an_order.Equal (sym (e r))))))
+found g (r ∷ rest) zero h l e = ap lent (sym (cond-true (same_region r.region g) _ _
+    (eq-eqb r.region.0 g.0 (ranked r.region.0 g.0 an_order.Equal (sym (e r))))))
 found g (r ∷ rest) (suc i) h l e =
     let within : i < length rest = omega arith in
     let b = higher r rest i r h within in
@@ -55,11 +58,16 @@ found g (r ∷ rest) (suc i) h l e =
 
 none_of : (g : RegionId) (rs : List Replica) → ((k : ℕ) (d : Replica) → k < length rs → (get_or rs k d).region.0 ≡ g.0 → ⊥) → replica_of g (views_of rs) ≡ None
 none_of g [] h = refl
-none_of g (r ∷ rest) h = cond-false (same_region r.region g) _ _ (ne_eqb r.region.0 g.0 (h 0 r (omega arith))) ∙ none_of g rest (λ k d l. h (suc k) d (omega arith))
+none_of g (r ∷ rest) h = cond-false (same_region r.region g) _ _ (ne_eqb r.region.0 g.0 (h 0 r (omega arith)))
+    ∙ none_of g rest (λ k d l. h (suc k) d (omega arith))
 
 -- where the region would stand between others, there is none
-pub missing : (g : RegionId) (rs : List Replica) (i : ℕ) → IsPartitionPoint (λ (r : Replica). nat_cmp r.region.0 g.0 ≡ an_order.Less) (λ (r : Replica). nat_cmp r.region.0 g.0 ≡ an_order.Greater) rs i → None ≡ lent (replica_of g (views_of rs))
+pub missing : (g : RegionId) (rs : List Replica) (i : ℕ)
+    → IsPartitionPoint (λ (r : Replica). nat_cmp r.region.0 g.0 ≡ an_order.Less)
+    (λ (r : Replica). nat_cmp r.region.0 g.0 ≡ an_order.Greater) rs i → None ≡ lent (replica_of g (views_of rs))
 missing g rs i p = ap lent (sym (none_of g rs (λ k d l. ⊎_elim
-    (λ low same. let b : (get_or rs k d).region.0 < g.0 = ranked (get_or rs k d).region.0 g.0 an_order.Less (sym (p.0 k d (omega arith) low)) in omega (arith, b, same))
-    (λ high same. let b : g.0 < (get_or rs k d).region.0 = ranked (get_or rs k d).region.0 g.0 an_order.Greater (sym (p.1 k d high l)) in omega (arith, b, same))
+    (λ low same. let b : (get_or rs k d).region.0 < g.0 =
+    ranked (get_or rs k d).region.0 g.0 an_order.Less (sym (p.0 k d (omega arith) low)) in omega (arith, b, same))
+    (λ high same. let b : g.0 < (get_or rs k d).region.0 =
+    ranked (get_or rs k d).region.0 g.0 an_order.Greater (sym (p.1 k d high l)) in omega (arith, b, same))
     (cases_lt k i))))

@@ -28,9 +28,11 @@ pub record IsGranted (g : RegionId) (s : KeyState) (u : Update) : Type 0 where
   pub coming : IsComing g s u
   pub key : u.key ≡ s.base.key
 
-module _ (space : Space) (valid : IsSpace space) (config : Config) (g : RegionId) (s : KeyState) (caller : Caller) (op : Op) (key : g ≡ key_region space s.base.key)
+module _ (space : Space) (valid : IsSpace space) (config : Config) (g : RegionId) (s : KeyState) (caller : Caller)
+    (op : Op) (key : g ≡ key_region space s.base.key)
     (touches : All (λ (t : Touch). t.version.0 ≤ top_of s) (touches_of s)) (floor : s.floor ≤ top_of s) where
-  granted_is : (e : Effect) (old new : Option (List Value)) (changes : Bool) (ts : List Touch) → TouchedBy (top_of s) ts → IsGranted g s (granted s caller e (places_of space s.base.key old new changes (top_of s) ts))
+  granted_is : (e : Effect) (old new : Option (List Value)) (changes : Bool) (ts : List Touch)
+      → TouchedBy (top_of s) ts → IsGranted g s (granted s caller e (places_of space s.base.key old new changes (top_of s) ts))
   granted_is e old new changes ts by =
       let p = placed space valid s.base.key old new ts changes (top_of s) by in
       record {
@@ -46,17 +48,22 @@ module _ (space : Space) (valid : IsSpace space) (config : Config) (g : RegionId
     where
       at_first : (top : ℕ) → place_number g (places_of space s.base.key old new changes top ts) < length (places_of space s.base.key old new changes top ts)
       at_first top =
-          let e : place_number g (places_of space s.base.key old new changes top ts) ≡ 0 = cond-true (same_region (key_region space s.base.key) g) 0 _ (eq-eqb (key_region space s.base.key).0 g.0 (ap (λ (r : RegionId). r.0) (sym key))) in
+          let e : place_number g (places_of space s.base.key old new changes top ts) ≡ 0 =
+          cond-true (same_region (key_region space s.base.key) g) 0 _
+          (eq-eqb (key_region space s.base.key).0 g.0 (ap (λ (r : RegionId). r.0) (sym key))) in
           omega (arith, e)
 
   pub assigned_is : (u : Update) → decide space config g s caller op ≡ a_decision.Assign u → IsGranted g s u
   assigned_is u e =
       subst (IsGranted g s) (sym (decides space config g s caller op u e))
       (
-      when_some_both (first_lost config (places_of space s.base.key old (effect_of space old op).object (effect_of space old op).changes (top_of s) (touches_of s)))
-      (granted s caller (effect_of space old op) (places_of space s.base.key old (effect_of space old op).object (effect_of space old op).changes (top_of s) (touches_of s)))
+      when_some_both (first_lost config (places_of space s.base.key old (effect_of space old op).object
+      (effect_of space old op).changes (top_of s) (touches_of s)))
+      (granted s caller (effect_of space old op) (places_of space s.base.key old (effect_of space old op).object
+      (effect_of space old op).changes (top_of s) (touches_of s)))
       (λ (r : RegionId). granted s caller (refusal space config s old r).0 (refusal space config s old r).1) (IsGranted g s)
-      (λ n. granted_is (effect_of space old op) old (effect_of space old op).object (effect_of space old op).changes (touches_of s) (touched_by (top_of s) (touches_of s) touches))
+      (λ n. granted_is (effect_of space old op) old (effect_of space old op).object (effect_of space old op).changes
+      (touches_of s) (touched_by (top_of s) (touches_of s) touches))
       (λ r n. granted_is (refusal space config s old r).0 old old false [] (λ t i. absurd i))
       )
     where
@@ -64,8 +71,11 @@ module _ (space : Space) (valid : IsSpace space) (config : Config) (g : RegionId
       old = latest_of g s
 
 -- the same with the slot's own region
-pub at_region : (space : Space) (config : Config) (g h : RegionId) (s : KeyState) (caller : Caller) (op : Op) (u : Update) → g ≡ h → decide space config g s caller op ≡ a_decision.Assign u → decide space config h s caller op ≡ a_decision.Assign u
+pub at_region : (space : Space) (config : Config) (g h : RegionId) (s : KeyState) (caller : Caller) (op : Op)
+    (u : Update) → g ≡ h → decide space config g s caller op ≡ a_decision.Assign u
+    → decide space config h s caller op ≡ a_decision.Assign u
 at_region space config g h s caller op u same e = subst (λ (r : RegionId). decide space config r s caller op ≡ a_decision.Assign u) same e
 
-pub up_to : (s : KeyState) (n : ℕ) → n ≡ top_of s → All (λ (t : Touch). t.version.0 ≤ n) (touches_of s) → All (λ (t : Touch). t.version.0 ≤ top_of s) (touches_of s)
+pub up_to : (s : KeyState) (n : ℕ) → n ≡ top_of s → All (λ (t : Touch). t.version.0 ≤ n) (touches_of s)
+    → All (λ (t : Touch). t.version.0 ≤ top_of s) (touches_of s)
 up_to s n e h = subst (λ m. All (λ (t : Touch). t.version.0 ≤ m) (touches_of s)) e h

@@ -8,7 +8,9 @@ use Rattle.hx_types.specs.Words.{same_region, when_some}
 use Rattle.hx_model.specs.Regions.{key_region}
 use Rattle.hx_model.specs.Hearing.{hears_ack, hears_update}
 use Rattle.hx_model.specs.Neighbours.{place_number}
-use Rattle.hx_model.specs.ServerSteps.{Replica, ServerState, SlotContext, ack_step, acked, acked_of, at_slot, call_at, call_step, called, context_of, if_installed, pending_with, replica_for, replica_of, state_in, unmoved, update_step, updated}
+use Rattle.hx_model.specs.ServerSteps.{Replica, ServerState, SlotContext, ack_step, acked, acked_of, at_slot, call_at}
+use Rattle.hx_model.specs.ServerSteps.{call_step, called, context_of, if_installed, pending_with, replica_for}
+use Rattle.hx_model.specs.ServerSteps.{replica_of, state_in, unmoved, update_step, updated}
 use Rattle.hx_model.specs.Slots.{KeyState}
 use Rattle.hx_replica.specs.Hearing.{leading}
 use Rattle.hx_replica.specs.Outputs.{hears_version}
@@ -54,17 +56,25 @@ pub record IsLed (space : Space) (s : ServerState) (key : List ℕ) (r : Replica
 pub led : (space : Space) (s : ServerState) (key : List ℕ) (r : Replica) → leading space s key ≡ Some r → IsLed space s key r
 led space s key r e =
     let both = if_some (leads space s.config s.id (key_region space key)) (replica_for s (key_region space key)) r e in
-    record { leads_it = both.0; takes = both.1; region = found_region (key_region space key) s.replicas r (replica_for_found s (key_region space key) r both.1) }
+    record {
+      leads_it = both.0;
+      takes = both.1;
+      region =
+          found_region (key_region space key) s.replicas r (replica_for_found s (key_region space key) r both.1);
+    }
 
 -- where the server doesn't lead the key's region, a call moves nothing
 not_led : (space : Space) (s : ServerState) (caller : Caller) (op : Op) (key : List ℕ) (h : Option Replica) → replica_for s (key_region space key) ≡ h
-    → cond (leads space s.config s.id (key_region space key)) h None ≡ None → when_some h (unmoved s) (λ (x : Replica). call_at space s x key caller op) ≡ unmoved s
+    → cond (leads space s.config s.id (key_region space key)) h None ≡ None
+    → when_some h (unmoved s) (λ (x : Replica). call_at space s x key caller op) ≡ unmoved s
 not_led space s caller op key None is e = refl
 not_led space s caller op key (Some r) is e =
     let region = found_region (key_region space key) s.replicas r (replica_for_found s (key_region space key) r is) in
-    cond-false (leads space s.config s.id r.region) _ (unmoved s) (ap (leads space s.config s.id) region ∙ if_none (leads space s.config s.id (key_region space key)) r e)
+    cond-false (leads space s.config s.id r.region) _ (unmoved s)
+    (ap (leads space s.config s.id) region ∙ if_none (leads space s.config s.id (key_region space key)) r e)
 
-pub called_nowhere : (space : Space) (s : ServerState) (caller : Caller) (op : Op) (key : List ℕ) → leading space s key ≡ None → called space s caller op (Some key) ≡ unmoved s
+pub called_nowhere : (space : Space) (s : ServerState) (caller : Caller) (op : Op) (key : List ℕ)
+    → leading space s key ≡ None → called space s caller op (Some key) ≡ unmoved s
 called_nowhere space s caller op key e = not_led space s caller op key (replica_for s (key_region space key)) refl e
 
 -- ---- the slot of a key at a replica, which stands so, and is so
@@ -97,7 +107,9 @@ module _ (space : Space) (s : ServerState) (r : Replica) (x : SlotContext) (stan
 
   -- an acknowledgement
   module _ (from : Actor) (by : RegionId) (key : List ℕ) (v : ℕ) (state : KeyState) (same : state ≡ state_in space r key) where
-    acked_so : (o : Option Update) → acked_of space s from by r state v o ≡ cond (hears_version (context_of space s r.region) from by o) (at_slot s r state (ack_step (context_of space s r.region) state v)) (unmoved s)
+    acked_so : (o : Option Update) → acked_of space s from by r state v o
+        ≡ cond (hears_version (context_of space s r.region) from by o)
+        (at_slot s r state (ack_step (context_of space s r.region) state v)) (unmoved s)
     acked_so None = refl
     acked_so (Some u) = refl
 
@@ -115,14 +127,17 @@ module _ (space : Space) (s : ServerState) (r : Replica) (x : SlotContext) (stan
 
 -- whether an update is heard, by the number of its place
 pub heard_there : (config : Config) (g : RegionId) (s : ServerId) (from : Actor) (u a b : Update) (place : ℕ) (found answer : Bool) → a ≡ u → b ≡ u
-    → place ≡ place_number g a.places → found ≡ hears_update config b place s from → found ≡ answer → hears_update config u (place_number g u.places) s from ≡ answer
+    → place ≡ place_number g a.places → found ≡ hears_update config b place s from → found ≡ answer
+    → hears_update config u (place_number g u.places) s from ≡ answer
 heard_there config g s from u a b place found answer first second at is so =
     ap (λ (n : ℕ). hears_update config u n s from) (sym (at ∙ ap (λ (x : Update). place_number g x.places) first))
     ∙ ap (λ (x : Update). hears_update config x place s from) (sym second) ∙ sym is ∙ so
 
 -- and an acknowledgement
-pub ack_heard_there : (config : Config) (g : RegionId) (s : ServerId) (from : Actor) (by : RegionId) (u a b : Update) (place : ℕ) (found answer : Bool) → a ≡ u → b ≡ u
-    → place ≡ place_number g a.places → found ≡ hears_ack config b place s from by → found ≡ answer → hears_ack config u (place_number g u.places) s from by ≡ answer
+pub ack_heard_there : (config : Config) (g : RegionId) (s : ServerId) (from : Actor) (by : RegionId) (u a b : Update)
+    (place : ℕ) (found answer : Bool) → a ≡ u → b ≡ u
+    → place ≡ place_number g a.places → found ≡ hears_ack config b place s from by → found ≡ answer
+    → hears_ack config u (place_number g u.places) s from by ≡ answer
 ack_heard_there config g s from by u a b place found answer first second at is so =
     ap (λ (n : ℕ). hears_ack config u n s from by) (sym (at ∙ ap (λ (x : Update). place_number g x.places) first))
     ∙ ap (λ (x : Update). hears_ack config x place s from by) (sym second) ∙ sym is ∙ so

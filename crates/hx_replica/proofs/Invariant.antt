@@ -1,5 +1,6 @@
 -- What contracts see of a server in which one replica's store was put in place of another.
-use Rattle.std.proofs.Common.{◌≡◌, ℕ, Bool, Box, Global, true, false, cond, ◌||◌, ◌∷◌, ◌<◌, ◌≤◌, List, [], length, get_or, set, Option, None, Some, Result, Ok, Err, IfOk, refl, ap, sym, ◌∙◌, subst, arith}
+use Rattle.std.proofs.Common.{◌≡◌, ℕ, Bool, Box, Global, true, false, cond, ◌||◌, ◌∷◌, ◌<◌, ◌≤◌, List, [], length}
+use Rattle.std.proofs.Common.{get_or, set, Option, None, Some, Result, Ok, Err, IfOk, refl, ap, sym, ◌∙◌, subst, arith}
 use Rattle.std.specs.Prelude.{IfNone, IfSome, IsSomeAnd, is_some}
 use Rattle.std.specs.List.{AllByRecursion, slice_get}
 use Rattle.std.specs.Option.{option_map}
@@ -32,7 +33,18 @@ use Rattle.hx_replica.proofs.Planning.{found_there}
 pub marked_inside : (i : Inside) (v : ServerValue) → value_of i ≡ v → IsServer i → AreMarked v
 marked_inside i v seen is = subst AreMarked seen (λ place r e.
     let rs = i.replicas.items in
-    let d : Replica = record { region = r.region; installed = r.installed; store = record { region = r.region; keeps_marks = is_key_region i.space r.region; attributes = 0; states = []; rooms = []; ordered = true } } in
+    let d : Replica = record {
+      region = r.region;
+      installed = r.installed;
+      store = record {
+        region = r.region;
+        keeps_marks = is_key_region i.space r.region;
+        attributes = 0;
+        states = [];
+        rooms = [];
+        ordered = true;
+      };
+    } in
     subst (λ (z : ReplicaState). AllByRecursion (λ (t : KeyState). t.marks ≡ is_key_region i.space z.region) z.states) (view_at rs place d r e)
     (replica_at i.space rs place d is.replicas_are.each (below_views rs place r e)).marked)
 
@@ -60,8 +72,10 @@ room_for s key n place is enough =
     let none : Room = record { key = []; spare = 0 } in
     let r : Room = get_or s.rooms place none in
     let e : slice_get s.rooms place ≡ Some r = slice_get-get_or s.rooms place none is.within in
-    at_some (λ (x : Room). (x.key ≡ key) × (n ≤ x.spare)) (slice_get s.rooms place) r e
-    (sym (ap (λ (o : Option Room). when_some o [] (λ (x : Room). x.key)) e) ∙ is.key_is, subst (λ (o : Option Room). n ≤ when_some o 0 (λ (x : Room). x.spare)) e enough)
+    at_some (λ (x : Room). (x.key ≡ key) × (n ≤ x.spare)) (slice_get s.rooms place) r e (
+      sym (ap (λ (o : Option Room). when_some o [] (λ (x : Room). x.key)) e) ∙ is.key_is,
+      subst (λ (o : Option Room). n ≤ when_some o 0 (λ (x : Room). x.spare)) e enough,
+    )
 
 pub is_room_for : (s : StoreState) (key : List ℕ) (n place : ℕ) → HasRoomFor key n place s.rooms → IsRoomFor s key n place
 is_room_for s key n place h = by (slice_get s.rooms place) refl h
@@ -78,14 +92,17 @@ ok_both (Ok x) P Q R f p q = f x p q
 ok_both (Err e) P Q R f p q = tt
 
 -- the replica at a number, as contracts see it
-pub view_there : (i : Inside) (v : ServerValue) (number : ℕ) (y : Replica) → value_of i ≡ v → number < length i.replicas.items → y ≡ get_or i.replicas.items number y → slice_get v.state.replicas number ≡ Some (view_of y)
+pub view_there : (i : Inside) (v : ServerValue) (number : ℕ) (y : Replica) → value_of i ≡ v
+    → number < length i.replicas.items → y ≡ get_or i.replicas.items number y
+    → slice_get v.state.replicas number ≡ Some (view_of y)
 view_there i v number y seen l is =
     ap (λ (x : ServerValue). slice_get x.state.replicas number) (sym seen)
     ∙ slice_get-get_or (views_of i.replicas.items) number (view_of y) (let n = length-map i.replicas.items view_of in omega (arith, n))
     ∙ ap (λ (z : ReplicaState). Some z) (get_or-map view_of i.replicas.items number y (view_of y) l ∙ ap view_of (sym is))
 
 -- its room
-pub placed_at : (i : Inside) (v : ServerValue) (number : ℕ) (key : List ℕ) (n place : ℕ) (y : Replica) → value_of i ≡ v → number < length i.replicas.items → y ≡ get_or i.replicas.items number y → HasRoomAt number key n v place
+pub placed_at : (i : Inside) (v : ServerValue) (number : ℕ) (key : List ℕ) (n place : ℕ) (y : Replica)
+    → value_of i ≡ v → number < length i.replicas.items → y ≡ get_or i.replicas.items number y → HasRoomAt number key n v place
     → IsRoomFor y.store key n place
 placed_at i v number key n place y seen l is room =
     let f : Replica → List Room = λ r. r.store.rooms in
@@ -96,10 +113,15 @@ placed_at i v number key n place y seen l is room =
     is_room_for y.store key n place (subst (λ (o : Option (List Room)). IsSomeAnd o (HasRoomFor key n place)) at room)
 
 -- room that was made
-pub room_there : (i : Inside) (number : ℕ) (key : List ℕ) (n place : ℕ) (y : Replica) (store : StoreState) (is : IsServer i) (l : number < length i.replicas.items) (at : y ≡ get_or i.replicas.items number y) → IsPlace store place key → n ≤ spare_at store place
-    → IsSomeAnd (slice_get (rooms_of (set i.replicas.items number (put i.space i.replicas.items number y store is.replicas_are l at))) number) (HasRoomFor key n place)
+pub room_there : (i : Inside) (number : ℕ) (key : List ℕ) (n place : ℕ) (y : Replica) (store : StoreState)
+    (is : IsServer i) (l : number < length i.replicas.items) (at : y ≡ get_or i.replicas.items number y)
+    → IsPlace store place key → n ≤ spare_at store place
+    → IsSomeAnd (slice_get (rooms_of (set i.replicas.items number
+    (put i.space i.replicas.items number y store is.replicas_are l at))) number) (HasRoomFor key n place)
 room_there i number key n place y store is l at here enough =
-    at_some (HasRoomFor key n place) _ store.rooms (put_there i.space i.replicas.items number y store is.replicas_are l at (λ (r : Replica). r.store.rooms)) (room_for store key n place here enough)
+    at_some (HasRoomFor key n place) _ store.rooms
+    (put_there i.space i.replicas.items number y store is.replicas_are l at (λ (r : Replica). r.store.rooms))
+    (room_for store key n place here enough)
 
 -- the change of a plan that changes a slot
 pub planned : (v : ServerValue) (after : ServerState) (change : Change) (number place : ℕ) (slot : SlotChange) → change ≡ a_change.Slot number place slot
@@ -113,7 +135,8 @@ pub changed_state : (i : Inside) (v : ServerValue) (after : ServerState) (number
     → store.states ≡ after_step y.store h.key (stepped slot)
     → with_views i (views_of (set i.replicas.items number (put i.space i.replicas.items number y store is.replicas_are l at))) ≡ folded_server after
 changed_state i v after number place slot y store seen is h l at states =
-    ap (with_views i) (changed_views i.space i.replicas.items number y store is.replicas_are l at h.key slot h.replica (ap (λ (x : ServerValue). slice_get x.state.replicas number) seen ∙ h.found) states)
+    ap (with_views i) (changed_views i.space i.replicas.items number y store is.replicas_are l at h.key slot h.replica
+    (ap (λ (x : ServerValue). slice_get x.state.replicas number) seen ∙ h.found) states)
     ∙ ap (λ (x : ServerValue). with_slot x.state h.replica (stepped slot h.replica.region (state_in x.space h.replica h.key))) seen
     ∙ sym h.state
 
@@ -136,10 +159,12 @@ can_change i v after number place slot y seen is h at =
     let holds : IsReplicaIn i.space y = subst (IsReplicaIn i.space) (sym at) (replica_at i.space i.replicas.items number y is.replicas_are.each l) in
     let same : view_of y ≡ h.replica = same_Some (view_of y) h.replica (sym (view_there i v number y seen l at) ∙ h.found) in
     let Fits : ServerValue → ReplicaState → Type 0 = λ x z. ChangeFits z.region (state_in x.space z h.key) h.key slot in
-    let fits : Fits (value_of i) (view_of y) = subst (λ (z : ReplicaState). Fits (value_of i) z) (sym same) (subst (λ (x : ServerValue). Fits x h.replica) (sym seen) h.fits) in
+    let fits : Fits (value_of i) (view_of y) = subst (λ (z : ReplicaState). Fits (value_of i) z) (sym same)
+    (subst (λ (x : ServerValue). Fits x h.replica) (sym seen) h.fits) in
     record {
       key_is = room.is.key_is;
-      room = subst (λ (k : List ℕ). HasRoomFor k (room_of slot) place y.store.rooms) (sym room.is.key_is) (room_for y.store h.key (room_of slot) place room.is room.enough);
+      room = subst (λ (k : List ℕ). HasRoomFor k (room_of slot) place y.store.rooms) (sym room.is.key_is)
+          (room_for y.store h.key (room_of slot) place room.is room.enough);
       fits = subst (λ (k : List ℕ). ChangeFits y.store.region (state_at y.store k) k slot) (sym room.is.key_is)
           (subst (λ (b : Bool). ChangeFits y.store.region (state_among b h.key y.store.states) h.key slot) (sym holds.marks)
           (subst (λ (g : RegionId). ChangeFits g (state_in i.space (view_of y) h.key) h.key slot) (sym holds.region) fits));
@@ -203,7 +228,8 @@ pub no_slot : (marks : Bool) (key : List ℕ) (states : List KeyState) → has_s
 no_slot marks key [] e = refl
 no_slot marks key (s ∷ rest) e = by (same_text s.base.key key) (no_slot marks key rest) e
   where
-    by : (t : Bool) → (has_slot key rest ≡ false → state_among marks key rest ≡ new_state marks key) → (t || has_slot key rest) ≡ false → cond t s (state_among marks key rest) ≡ new_state marks key
+    by : (t : Bool) → (has_slot key rest ≡ false → state_among marks key rest ≡ new_state marks key)
+        → (t || has_slot key rest) ≡ false → cond t s (state_among marks key rest) ≡ new_state marks key
     by true more e = absurd (false≢true (sym e))
     by false more e = more e
 

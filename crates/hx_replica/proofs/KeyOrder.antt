@@ -1,5 +1,6 @@
 -- The keys of updates, in byte order.
-use Rattle.std.proofs.Common.{◌≡◌, ℕ, zero, suc, ◌+◌, ◌<◌, true, false, cond, List, [], ◌∷◌, ◌++◌, take, drop, get_or, length, Some, refl, ap, sym, ◌∙◌, add-one, append_assoc}
+use Rattle.std.proofs.Common.{◌≡◌, ℕ, zero, suc, ◌+◌, ◌<◌, true, false, cond, List, [], ◌∷◌, ◌++◌, take, drop, get_or}
+use Rattle.std.proofs.Common.{length, Some, refl, ap, sym, ◌∙◌, add-one, append_assoc}
 use Rattle.std.specs.Borrow.{Bor}
 use Rattle.std.specs.List.{AllByRecursion, insert, slice_get}
 use Rattle.std.proofs.lemmas.Bool.{cond_both, cond-true, cond-false, false_from_ne_true, false≢true}
@@ -35,7 +36,9 @@ module _ (key : List ℕ) (ks : List (List ℕ)) (i : ℕ) (x : List ℕ) (so : 
   pub is_there : key ≡ x → ks ≡ with_key key ks
   is_there e =
       sym (take-append-drop i ks)
-      ∙ ap (λ (l : List (List ℕ)). take i ks ++ l) (rest ∙ sym (cond-true (same_text key x) (x ∷ drop (i + 1) ks) _ (ap (same_text key) (sym e) ∙ same_text_self key)) ∙ ap (with_key key) (sym rest))
+      ∙ ap (λ (l : List (List ℕ)). take i ks ++ l) (rest
+      ∙ sym (cond-true (same_text key x) (x ∷ drop (i + 1) ks) _
+      (ap (same_text key) (sym e) ∙ same_text_self key)) ∙ ap (with_key key) (sym rest))
       ∙ sym so.so_far
 
   -- it comes before the next one
@@ -43,7 +46,8 @@ module _ (key : List ℕ) (ks : List (List ℕ)) (i : ℕ) (x : List ℕ) (so : 
   goes_here n b =
       ap (λ (l : List (List ℕ)). take i ks ++ key ∷ l) rest
       ∙ ap (λ (l : List (List ℕ)). take i ks ++ l)
-      (sym (cond-false (same_text key x) (x ∷ drop (i + 1) ks) _ n ∙ cond-true (text_below key x) (key ∷ x ∷ drop (i + 1) ks) _ b) ∙ ap (with_key key) (sym rest))
+      (sym (cond-false (same_text key x) (x ∷ drop (i + 1) ks) _ n
+      ∙ cond-true (text_below key x) (key ∷ x ∷ drop (i + 1) ks) _ b) ∙ ap (with_key key) (sym rest))
       ∙ sym so.so_far
 
   -- it comes later
@@ -110,7 +114,8 @@ keys_ascend [] = tt
 keys_ascend (u ∷ us) = with_key_ascends u.key (keys_of us) (keys_ascend us)
 
 -- those before a key differ from it
-pub earlier_differ : (ks : List (List ℕ)) (i : ℕ) (k : List ℕ) → TextsAscend ks → slice_get ks i ≡ Some k → AllByRecursion (λ (y : List ℕ). same_text y k ≡ false) (take i ks)
+pub earlier_differ : (ks : List (List ℕ)) (i : ℕ) (k : List ℕ) → TextsAscend ks → slice_get ks i ≡ Some k
+    → AllByRecursion (λ (y : List ℕ). same_text y k ≡ false) (take i ks)
 earlier_differ [] i k h e = absurd cc
 earlier_differ (x ∷ rest) zero k h e = tt
 earlier_differ (x ∷ rest) (suc i) k h e = (text_below-differs x k (at rest i h.0 e), earlier_differ rest i k h.1 e)

@@ -43,7 +43,8 @@ module _ (Known : Actor → Type 0) where
       (λ t. first-known rest (rest-known m rest h))
       (λ t. after-known s rest (rest-known m rest h))
 
-  before-known : (found : Option ServerId) (s : ServerId) (members : List Member) → IsMaybeKnown found → AreKnown members → IsMaybeKnown (member_before found s members)
+  before-known : (found : Option ServerId) (s : ServerId) (members : List Member) → IsMaybeKnown found
+      → AreKnown members → IsMaybeKnown (member_before found s members)
   before-known found s [] f h = tt
   before-known found s (m ∷ rest) f h =
       cond_both (same_server m.server s) found (member_before (Some m.server) s rest) IsMaybeKnown
@@ -91,9 +92,11 @@ module _ (Known : Actor → Type 0) where
         (λ t. hop-known place (last_member None (members_of config p.region)) (last-known None (members_of config p.region) tt (knows p.region)))
 
     at-place : (places : List Place) (place : ℕ) → AreKnown (members_at config places place)
-    at-place places place = when_some_both (slice_get places place) [] (λ (p : Place). members_of config p.region) AreKnown (λ e m i. absurd i) (λ (p : Place) e. knows p.region)
+    at-place places place = when_some_both (slice_get places place) []
+        (λ (p : Place). members_of config p.region) AreKnown (λ e m i. absurd i) (λ (p : Place) e. knows p.region)
 
-    here-or : (place : ℕ) (o : Option ServerId) (other : Hop) → IsMaybeKnown o → GoesToKnown other → GoesToKnown (when_some o other (λ (x : ServerId). At x place))
+    here-or : (place : ℕ) (o : Option ServerId) (other : Hop) → IsMaybeKnown o → GoesToKnown other
+        → GoesToKnown (when_some o other (λ (x : ServerId). At x place))
     here-or place None other h k = k
     here-or place (Some x) other h k = h
 

@@ -25,11 +25,13 @@ use Rattle.hx_replica.proofs.NamedSteps.{ack-good, call-good, update-good}
 pub member-named : (config : Config) (g : RegionId) (m : Member) → IsIn m (members_of config g) → IsIn (Server m.server) (actors_of_config config)
 member-named config g m = by (slice_get config.regions g.0) refl
   where
-    by : (o : Option (List Member)) → slice_get config.regions g.0 ≡ o → IsIn m (when_some o [] (λ (members : List Member). members)) → IsIn (Server m.server) (actors_of_config config)
+    by : (o : Option (List Member)) → slice_get config.regions g.0 ≡ o
+        → IsIn m (when_some o [] (λ (members : List Member). members)) → IsIn (Server m.server) (actors_of_config config)
     by None e i = absurd i
     by (Some members) e i =
         in_right (map (λ (s : ServerId). Server s) config.servers) (flat_map servers_among config.regions) (Server m.server)
-        (in-flat servers_among config.regions members (Server m.server) (in-slice_get config.regions g.0 members e) (map-in (λ (x : Member). Server x.server) members m i))
+        (in-flat servers_among config.regions members (Server m.server) (in-slice_get config.regions g.0 members e)
+        (map-in (λ (x : Member). Server x.server) members m i))
 
 module _ (Known : Actor → Type 0) where
   -- what is posted in the step names known actors alone
@@ -98,12 +100,14 @@ module _ (Known : Actor → Type 0) where
         calling = map (λ (u : Update). Session u.caller.session) pending
 
         callers : (u : Update) → IsIn u pending → Known (Session u.caller.session)
-        callers u i = names (Session u.caller.session) (in_right marked calling (Session u.caller.session) (map-in (λ (w : Update). Session w.caller.session) pending u i))
+        callers u i = names (Session u.caller.session)
+            (in_right marked calling (Session u.caller.session) (map-in (λ (w : Update). Session w.caller.session) pending u i))
 
         marks : (k : Kept) → IsIn k snapshot → (m : Mark) → IsIn m k.marks → Known (Session m.session)
         marks k i m j =
             names (Session m.session)
-            (in_left marked calling (Session m.session) (in-flat sessions_marked snapshot k (Session m.session) i (map-in (λ (x : Mark). Session x.session) k.marks m j)))
+            (in_left marked calling (Session m.session)
+            (in-flat sessions_marked snapshot k (Session m.session) i (map-in (λ (x : Mark). Session x.session) k.marks m j)))
 
     -- whom the server names in another configuration
     with_config-known : (config : Config) → KnowsMessage (a_message.Install config) → Knows Known (with_config s config)
@@ -116,7 +120,8 @@ module _ (Known : Actor → Type 0) where
       where
         kept-or-new : (g : RegionId) (t : KeyState) → IsIn t (replica_or_new s.replicas g).states → KnowsSlot Known t
         kept-or-new g =
-            when_some_both (replica_of g s.replicas) (record { region = g; installed = false; states = [] }) (λ (r : Replica). r) (λ (x : Replica). (t : KeyState) → IsIn t x.states → KnowsSlot Known t)
+            when_some_both (replica_of g s.replicas) (record { region = g; installed = false; states = [] })
+            (λ (r : Replica). r) (λ (x : Replica). (t : KeyState) → IsIn t x.states → KnowsSlot Known t)
             (λ e t i. absurd i)
             (λ r e. knows.slots r (replica-found g s.replicas r e).0)
 

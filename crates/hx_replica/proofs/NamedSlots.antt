@@ -7,7 +7,8 @@ use Rattle.hx_types.specs.Posted.{actors_of_message}
 use Rattle.hx_types.specs.Words.{IsIn, provided, same_session}
 use Rattle.hx_model.specs.Neighbours.{place_number}
 use Rattle.hx_model.specs.Lines.{upto}
-use Rattle.hx_model.specs.Slots.{Acknowledge, Commit, Forget, Hold, KeyState, Move, Take, kept_of, marks_after, mark_by, moved_all, new_state, pending_of, state_among, with_mark}
+use Rattle.hx_model.specs.Slots.{Acknowledge, Commit, Forget, Hold, KeyState, Move, Take, kept_of, marks_after}
+use Rattle.hx_model.specs.Slots.{mark_by, moved_all, new_state, pending_of, state_among, with_mark}
 use Rattle.hx_model.specs.ServerSteps.{SlotContext, ack_to, move_posts, next_at, passed_on, prev_at, reply, told_to, update_to}
 use Rattle.hx_model.proofs.Lemmas.{base-moved_all}
 use Rattle.hx_law_lemmas.proofs.Lemmas.{AllKnownInLine as AllKnown, KnownInLine as IsMoveKnown, held-moved_all-in_line as held-moved_all, pending-in, in-upto}
@@ -19,11 +20,15 @@ use Rattle.hx_replica.proofs.NamedMembers.{GoesToKnown, KnowsMembers, next-known
 in-with_mark : (m : Mark) (marks : List Mark) (x : Mark) → IsIn x (with_mark m marks) → (x ≡ m) ⊎ IsIn x marks
 in-with_mark m [] x = λ i. elim i [ inl e ↦ inl e | inr j ↦ absurd j ]
 in-with_mark m (y ∷ rest) x =
-    cond_both (ltb m.session.0 y.session.0) (m ∷ y ∷ rest) (cond (same_session m.session y.session) (cond (ltb m.number y.number) y m ∷ rest) (y ∷ with_mark m rest)) (λ (l : List Mark). IsIn x l → (x ≡ m) ⊎ IsIn x (y ∷ rest))
+    cond_both (ltb m.session.0 y.session.0) (m ∷ y ∷ rest)
+    (cond (same_session m.session y.session) (cond (ltb m.number y.number) y m ∷ rest) (y ∷ with_mark m rest))
+    (λ (l : List Mark). IsIn x l → (x ≡ m) ⊎ IsIn x (y ∷ rest))
     (λ a i. elim i [ inl e ↦ inl e | inr j ↦ inr j ])
     (
-    λ a. cond_both (same_session m.session y.session) (cond (ltb m.number y.number) y m ∷ rest) (y ∷ with_mark m rest) (λ (l : List Mark). IsIn x l → (x ≡ m) ⊎ IsIn x (y ∷ rest))
-    (λ b. cond_both (ltb m.number y.number) y m (λ (z : Mark). IsIn x (z ∷ rest) → (x ≡ m) ⊎ IsIn x (y ∷ rest)) (λ c i. inr i) (λ c i. elim i [ inl e ↦ inl e | inr j ↦ inr (inr j) ]))
+    λ a. cond_both (same_session m.session y.session) (cond (ltb m.number y.number) y m ∷ rest) (y ∷ with_mark m rest)
+    (λ (l : List Mark). IsIn x l → (x ≡ m) ⊎ IsIn x (y ∷ rest))
+    (λ b. cond_both (ltb m.number y.number) y m (λ (z : Mark). IsIn x (z ∷ rest) → (x ≡ m) ⊎ IsIn x (y ∷ rest))
+    (λ c i. inr i) (λ c i. elim i [ inl e ↦ inl e | inr j ↦ inr (inr j) ]))
     (λ b i. elim i [ inl e ↦ inr (inl e) | inr j ↦ elim (in-with_mark m rest x j) [ inl e ↦ inl e | inr k ↦ inr (inr k) ] ])
     )
 
@@ -70,7 +75,8 @@ module _ (Known : Actor → Type 0) where
   new-known marks key = record { marks = λ m i. absurd i; accepted = λ u i. absurd i; early = λ u i. absurd i }
 
   -- the slot of a key among slots
-  pub among-known : (marks : Bool) (key : List ℕ) (states : List KeyState) → ((t : KeyState) → IsIn t states → KnowsSlot t) → KnowsSlot (state_among marks key states)
+  pub among-known : (marks : Bool) (key : List ℕ) (states : List KeyState)
+      → ((t : KeyState) → IsIn t states → KnowsSlot t) → KnowsSlot (state_among marks key states)
   among-known marks key states h = elim (state-from marks key states) [
     | inl e ↦ subst KnowsSlot (sym e) (new-known marks key)
     | inr i ↦ h (state_among marks key states) i
@@ -80,14 +86,16 @@ module _ (Known : Actor → Type 0) where
   pending-known t h u i = h.accepted u (pending-in t.floor t.accepted u i).0
 
   -- the sessions of some updates, and of what a slot holds
-  pub together-known : (us : List Update) → ((u : Update) → IsIn u us → KnowsCaller u) → (t : KeyState) → KnowsSlot t → (u : Update) → IsIn u (together us t) → KnowsCaller u
+  pub together-known : (us : List Update) → ((u : Update) → IsIn u us → KnowsCaller u) → (t : KeyState) → KnowsSlot t
+      → (u : Update) → IsIn u (together us t) → KnowsCaller u
   together-known us f t h u i = elim (in-append us (t.accepted ++ t.early) u i) [
     | inl j ↦ f u j
     | inr j ↦ elim (in-append t.accepted t.early u j) [ inl k ↦ h.accepted u k | inr k ↦ h.early u k ]
   ]
 
   -- moves of updates whose sessions are known leave a slot so
-  pub moved-known : (us : List Update) → ((u : Update) → IsIn u us → KnowsCaller u) → (t : KeyState) → KnowsSlot t → (moves : List Move) → AllKnown (together us t) moves → KnowsSlot (moved_all moves t)
+  pub moved-known : (us : List Update) → ((u : Update) → IsIn u us → KnowsCaller u) → (t : KeyState) → KnowsSlot t
+      → (moves : List Move) → AllKnown (together us t) moves → KnowsSlot (moved_all moves t)
   moved-known us f t h moves known =
       let held = held-moved_all (together us t) moves t (held-together us t) known in
       record {
@@ -97,7 +105,8 @@ module _ (Known : Actor → Type 0) where
       }
 
   -- the marks after updates
-  marks-known : (base : List Mark) → ((m : Mark) → IsIn m base → Known (Session m.session)) → (us : List Update) → ((u : Update) → IsIn u us → KnowsCaller u) → (m : Mark) → IsIn m (marks_after base us) → Known (Session m.session)
+  marks-known : (base : List Mark) → ((m : Mark) → IsIn m base → Known (Session m.session)) → (us : List Update)
+      → ((u : Update) → IsIn u us → KnowsCaller u) → (m : Mark) → IsIn m (marks_after base us) → Known (Session m.session)
   marks-known base h [] f m i = h m i
   marks-known base h (u ∷ us) f m i = elim (in-with_mark (mark_by u) (marks_after base us) m i) [
     | inl e ↦ subst (λ (x : Mark). Known (Session x.session)) (sym e) (f u (inl refl))
@@ -112,7 +121,8 @@ module _ (Known : Actor → Type 0) where
 
   -- ---- posts of a slot
 
-  pub reply-good : (context : SlotContext) (caller : Caller) (version : Version) (answer : Answer) → Known (Session caller.session) → IsGood (reply context caller version answer)
+  pub reply-good : (context : SlotContext) (caller : Caller) (version : Version) (answer : Answer)
+      → Known (Session caller.session) → IsGood (reply context caller version answer)
   reply-good context caller version answer known = record { to = known; names = λ a i. absurd i }
 
   module _ (context : SlotContext) (members : KnowsMembers Known context.config) where
@@ -135,13 +145,15 @@ module _ (Known : Actor → Type 0) where
     prev-at u = prev-known Known context.config members u.places (place_number context.region u.places) context.server
 
     pub passed-good : (u : Update) → KnowsCaller u → AreGood (passed_on context u)
-    passed-good u known = update_to-good u known (next_at context u) (next-known Known context.config members u.places (place_number context.region u.places) context.server)
+    passed-good u known = update_to-good u known (next_at context u)
+        (next-known Known context.config members u.places (place_number context.region u.places) context.server)
 
     pub ack_to-good : (u : Update) → AreGood (ack_to context u (prev_at context u))
     ack_to-good u = ack-good u (prev_at context u) (prev-at u)
 
     -- what is posted with moves
-    pub moves-good : (line : List Update) → ((u : Update) → IsIn u line → KnowsCaller u) → (moves : List Move) → AllKnown line moves → AreGood (flat_map (move_posts context) moves)
+    pub moves-good : (line : List Update) → ((u : Update) → IsIn u line → KnowsCaller u) → (moves : List Move)
+        → AllKnown line moves → AreGood (flat_map (move_posts context) moves)
     moves-good line f moves known = each-good (move_posts context) moves (λ m i. by m (known m i))
       where
         by : (m : Move) → IsMoveKnown line m → AreGood (move_posts context m)

@@ -9,16 +9,20 @@ use Rattle.hx_types.specs.Configs.{leads}
 use Rattle.hx_types.specs.Effects.{effect_of, is_write}
 use Rattle.hx_model.specs.Leading.{StuckAt, assigned, decide, first_lost, granted, refusal, stuck_of}
 use Rattle.hx_model.specs.Places.{places_of}
-use Rattle.hx_model.specs.ServerSteps.{SlotStep, SlotContext, accepting, ack_step, by_moves, by_posts, call_step, decided, doubt_in, doubts_from, get_answer, get_step, known_to, leader_doubts, update_step, waiting_doubt, write_step}
+use Rattle.hx_model.specs.ServerSteps.{SlotStep, SlotContext, accepting, ack_step, by_moves, by_posts, call_step}
+use Rattle.hx_model.specs.ServerSteps.{decided, doubt_in, doubts_from, get_answer, get_step, known_to, leader_doubts}
+use Rattle.hx_model.specs.ServerSteps.{update_step, waiting_doubt, write_step}
 use Rattle.hx_model.specs.Slots.{KeyState, acknowledged, latest_of, object_in, object_of, offered, pending_of, top_of, touches_of}
 use Rattle.hx_law_lemmas.proofs.Lemmas.{decides, accepting-known-in_line as accepting-known, acknowledged-known-in_line as acknowledged-known}
 use Rattle.hx_law_lemmas.proofs.Lemmas.{offered-known-in_line as offered-known, in-filter, when_some_both}
 use Rattle.hx_law_posts.proofs.Lemmas.{held-together, together}
 use Rattle.hx_replica.proofs.NamedMembers.{KnowsMembers}
-use Rattle.hx_replica.proofs.NamedSlots.{AreGood, IsGood, KnowsCaller, KnowsSlot, ack_to-good, mapped-good, moves-good, none-good, one-good, pending-known, provided-good, reply-good, together-known}
+use Rattle.hx_replica.proofs.NamedSlots.{AreGood, IsGood, KnowsCaller, KnowsSlot, ack_to-good, mapped-good, moves-good}
+use Rattle.hx_replica.proofs.NamedSlots.{none-good, one-good, pending-known, provided-good, reply-good, together-known}
 
 -- an update that is assigned is of its caller
-assigned-caller : (space : Space) (config : Config) (g : RegionId) (t : KeyState) (caller : Caller) (op : Op) → (assigned space config g t caller op).caller ≡ caller
+assigned-caller : (space : Space) (config : Config) (g : RegionId) (t : KeyState) (caller : Caller) (op : Op)
+    → (assigned space config g t caller op).caller ≡ caller
 assigned-caller space config g t caller op =
     let old = latest_of g t in
     let e = effect_of space old op in
@@ -38,26 +42,32 @@ module _ (Known : Actor → Type 0) where
     doubt-good caller version g known = reply-good Known context caller version (an_answer.Doubt g context.config.epoch) known
 
     pub leader-good : AreGood Known (leader_doubts context t)
-    leader-good = provided-good Known (leads context.space context.config context.server context.region) (doubts_from context t (stuck_of context.config t)) (by (stuck_of context.config t))
+    leader-good = provided-good Known (leads context.space context.config context.server context.region)
+        (doubts_from context t (stuck_of context.config t)) (by (stuck_of context.config t))
       where
         by : (o : Option StuckAt) → AreGood Known (doubts_from context t o)
         by None = none-good Known
         by (Some x) =
             let late = filter (λ (u : Update). leb x.version.0 u.version.0) (pending_of t) in
             mapped-good Known (λ (u : Update). doubt_in context u.caller u.version x.region) late
-            (λ u i. doubt-good u.caller u.version x.region (pending-known Known t h u (in-filter (λ (w : Update). leb x.version.0 w.version.0) (pending_of t) u i).0))
+            (λ u i. doubt-good u.caller u.version x.region
+            (pending-known Known t h u (in-filter (λ (w : Update). leb x.version.0 w.version.0) (pending_of t) u i).0))
 
     accept-good : (u : Update) → KnowsCaller Known u → IsGoodStep (by_moves context (accepting context t (offered context.region t u)))
     accept-good u known =
         let us = u ∷ [] in
         let line = together us t in
         let held = held-together us t in
-        moves-good Known context members line (together-known Known us (λ w j. elim j [ inl e ↦ subst (KnowsCaller Known) (sym e) known | inr k ↦ absurd k ]) t h)
-        (accepting context t (offered context.region t u)) (accepting-known line context t (offered context.region t u) held (offered-known line context.region t u held (inl refl)))
+        moves-good Known context members line (together-known Known us
+        (λ w j. elim j [ inl e ↦ subst (KnowsCaller Known) (sym e) known | inr k ↦ absurd k ]) t h)
+        (accepting context t (offered context.region t u))
+        (accepting-known line context t (offered context.region t u) held
+        (offered-known line context.region t u held (inl refl)))
 
     pub update-good : (u : Update) → KnowsCaller Known u → IsGoodStep (update_step context t u)
     update-good u known =
-        cond_both (leb u.version.0 (top_of t)) (by_posts (known_to context t u)) (by_moves context (accepting context t (offered context.region t u))) IsGoodStep
+        cond_both (leb u.version.0 (top_of t)) (by_posts (known_to context t u))
+        (by_moves context (accepting context t (offered context.region t u))) IsGoodStep
         (λ b. provided-good Known (leb u.version.0 t.floor) _ (ack_to-good Known context members u))
         (λ b. accept-good u known)
 
@@ -81,7 +91,9 @@ module _ (Known : Actor → Type 0) where
       write-good : (op : Op) → IsGoodStep (write_step context t caller op)
       write-good op =
           decided-good (decide context.space context.config context.region t caller op)
-          (λ u e. subst (λ (w : Update). w.caller ≡ caller) (sym (decides context.space context.config context.region t caller op u e)) (assigned-caller context.space context.config context.region t caller op))
+          (λ u e. subst (λ (w : Update). w.caller ≡ caller)
+          (sym (decides context.space context.config context.region t caller op u e))
+          (assigned-caller context.space context.config context.region t caller op))
 
       pub call-good : (op : Op) → IsGoodStep (call_step context t caller op)
       call-good op =

@@ -34,8 +34,12 @@ module _ (s : ServerState) (input : Input) where
 
   slot-knows : (r : Replica) → IsIn r s.replicas → (t : KeyState) → IsIn t r.states → KnowsSlot IsNamed t
   slot-knows r i t j = record {
-    marks = λ m k. slot-names r i t j (Session m.session) (in_left (marked ++ accepted) early (Session m.session) (in_left marked accepted (Session m.session) (map-in (λ (x : Mark). Session x.session) t.base.marks m k)));
-    accepted = λ u k. slot-names r i t j (session_of u) (in_left (marked ++ accepted) early (session_of u) (in_right marked accepted (session_of u) (map-in session_of t.accepted u k)));
+    marks = λ m k. slot-names r i t j (Session m.session)
+        (in_left (marked ++ accepted) early (Session m.session)
+        (in_left marked accepted (Session m.session) (map-in (λ (x : Mark). Session x.session) t.base.marks m k)));
+    accepted = λ u k. slot-names r i t j (session_of u)
+        (in_left (marked ++ accepted) early (session_of u)
+        (in_right marked accepted (session_of u) (map-in session_of t.accepted u k)));
     early = λ u k. slot-names r i t j (session_of u) (in_right (marked ++ accepted) early (session_of u) (map-in session_of t.early u k));
   }
     where
@@ -71,10 +75,12 @@ module _ (s : ServerState) (input : Input) where
       by a (inr i) = good.names a i
 
   posts_named : (space : Space) → NameOnly (known_to s input) (server_step space s input).posts
-  posts_named space = all-of (NamesOnly (known_to s input)) (server_step space s input).posts (λ p i. post-named p (server-good IsNamed space s knows input knows-input p i))
+  posts_named space = all-of (NamesOnly (known_to s input)) (server_step space s input).posts
+      (λ p i. post-named p (server-good IsNamed space s knows input knows-input p i))
 
 -- the entry of a plan
-pub entry_named : (v : ServerValue) (input : Input) (entry : Entry) → entry ≡ server_entry v.space v.state entry.input → entry.input ≡ input → NameOnly (known_to v.state input) entry.outputs
+pub entry_named : (v : ServerValue) (input : Input) (entry : Entry) → entry ≡ server_entry v.space v.state entry.input
+    → entry.input ≡ input → NameOnly (known_to v.state input) entry.outputs
 entry_named v input entry e same =
     subst (NameOnly (known_to v.state input)) (sym (ap (λ (x : Entry). x.outputs) e ∙ ap (λ (i : Input). (server_step v.space v.state i).posts) same))
     (posts_named v.state input v.space)

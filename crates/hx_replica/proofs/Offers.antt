@@ -1,5 +1,7 @@
 -- What is posted of the moves of an offer, of the versions whose chain ends here, and of the commits that they bring.
-use Rattle.std.proofs.Common.{◌≡◌, ℕ, ◌+◌, ◌<◌, zero, suc, Bool, true, false, not, cond, ◌||◌, ◌==◌, List, [], ◌∷◌, ◌++◌, map, length, take, Option, None, Some, refl, ap, sym, ◌∙◌, subst, arith, append_assoc, add-one, one-add, nat_le}
+use Rattle.std.proofs.Common.{◌≡◌, ℕ, ◌+◌, ◌<◌, zero, suc, Bool, true, false, not, cond, ◌||◌, ◌==◌, List, [], ◌∷◌}
+use Rattle.std.proofs.Common.{◌++◌, map, length, take, Option, None, Some, refl, ap, sym, ◌∙◌, subst, arith}
+use Rattle.std.proofs.Common.{append_assoc, add-one, one-add, nat_le}
 use Rattle.std.specs.Prelude.{⊤, slice_get}
 use Rattle.std.specs.Borrow.{Bor}
 use Rattle.std.specs.List.{All, filter, find, flat_map, list_any, prefix_len}
@@ -14,7 +16,8 @@ use Rattle.hx_model.specs.Types.{Place, Post, RegionId, Update, Version}
 use Rattle.hx_types.specs.Words.{provided, same_region, when_some}
 use Rattle.hx_model.specs.Neighbours.{is_end, place_number}
 use Rattle.hx_model.specs.ServerSteps.{SlotContext as ModelContext, tail_acks, move_posts, next_at, passed_on}
-use Rattle.hx_model.specs.Slots.{Acknowledge, Commit, Hold, KeyState, Move, Take, commits, follows, moved, moved_all, offered, pending_above, pending_of, place_in, settled, taken, top_of, turns}
+use Rattle.hx_model.specs.Slots.{Acknowledge, Commit, Hold, KeyState, Move, Take, commits, follows, moved, moved_all}
+use Rattle.hx_model.specs.Slots.{offered, pending_above, pending_of, place_in, settled, taken, top_of, turns}
 use Rattle.hx_model.proofs.Lemmas.{moved_all-++}
 use Rattle.hx_store.specs.Stores.{ArePending, acknowledging}
 use Rattle.hx_replica.specs.Outputs.{AreEnds, IsNew, accepting_posts, tail_version, seen, settled_among, settles, told_of}
@@ -24,12 +27,14 @@ pub place_there : (g : RegionId) (places : List Place) → slice_get places (pla
 place_there g [] = refl
 place_there g (p ∷ rest) = by (same_region p.region g) (place_there g rest)
   where
-    by : (t : Bool) → slice_get rest (place_number g rest) ≡ place_in g rest → slice_get (p ∷ rest) (cond t 0 (place_number g rest + 1)) ≡ cond t (Some p) (place_in g rest)
+    by : (t : Bool) → slice_get rest (place_number g rest) ≡ place_in g rest
+        → slice_get (p ∷ rest) (cond t 0 (place_number g rest + 1)) ≡ cond t (Some p) (place_in g rest)
     by true more = refl
     by false more = ap (slice_get (p ∷ rest)) (add-one (place_number g rest)) ∙ more
 
 -- an update follows a version where its place comes after it
-pub follows_there : (g : RegionId) (v : ℕ) (u : Update) (o : Option Place) → o ≡ place_in g u.places → when_some (option_map (λ (p : Place). p.after.0) o) false (λ after. after == v) ≡ follows g v u
+pub follows_there : (g : RegionId) (v : ℕ) (u : Update) (o : Option Place) → o ≡ place_in g u.places
+    → when_some (option_map (λ (p : Place). p.after.0) o) false (λ after. after == v) ≡ follows g v u
 follows_there g v u o e = ap (λ (q : Option Place). when_some (option_map (λ (p : Place). p.after.0) q) false (λ after. after == v)) e
 
 -- updates above a version
@@ -48,14 +53,18 @@ take_pending u s l = cond-false _ [] (pending_above s.floor s.accepted ++ u ∷ 
     omega_false : (v floor : ℕ) → floor < v → nat_le v floor ≡ false
     omega_false v floor l = grind (arith, nat_tests)
 
-turns_pending : (g : RegionId) (n top : ℕ) (early : List Update) (s : KeyState) → AreAbove s.floor (taken (turns g n top early)) → pending_of (moved_all (turns g n top early) s) ≡ pending_of s ++ taken (turns g n top early)
+turns_pending : (g : RegionId) (n top : ℕ) (early : List Update) (s : KeyState)
+    → AreAbove s.floor (taken (turns g n top early))
+    → pending_of (moved_all (turns g n top early) s) ≡ pending_of s ++ taken (turns g n top early)
 turns_pending g zero top early s above = sym (append-nil (pending_of s))
 turns_pending g (suc n) top early s above = by (find (follows g top) early) (λ u. turns_pending g n u.version.0 early (moved (Take u) s)) above
   where
     next : Option Update → List Move
     next o = when_some o [] (λ (u : Update). Take u ∷ turns g n u.version.0 early)
 
-    by : (o : Option Update) → ((u : Update) → AreAbove s.floor (taken (turns g n u.version.0 early)) → pending_of (moved_all (turns g n u.version.0 early) (moved (Take u) s)) ≡ pending_of (moved (Take u) s) ++ taken (turns g n u.version.0 early))
+    by : (o : Option Update) → ((u : Update) → AreAbove s.floor (taken (turns g n u.version.0 early))
+        → pending_of (moved_all (turns g n u.version.0 early) (moved (Take u) s)) ≡ pending_of (moved (Take u) s)
+        ++ taken (turns g n u.version.0 early))
         → AreAbove s.floor (taken (next o)) → pending_of (moved_all (next o) s) ≡ pending_of s ++ taken (next o)
     by None more above = sym (append-nil (pending_of s))
     by (Some u) more above =
@@ -67,18 +76,22 @@ turns_acked : (g : RegionId) (n top : ℕ) (early : List Update) (s : KeyState) 
 turns_acked g zero top early s = refl
 turns_acked g (suc n) top early s = by (find (follows g top) early) (λ u. turns_acked g n u.version.0 early (moved (Take u) s))
   where
-    by : (o : Option Update) → ((u : Update) → (moved_all (turns g n u.version.0 early) (moved (Take u) s)).acked ≡ s.acked) → (moved_all (when_some o [] (λ (u : Update). Take u ∷ turns g n u.version.0 early)) s).acked ≡ s.acked
+    by : (o : Option Update) → ((u : Update) → (moved_all (turns g n u.version.0 early) (moved (Take u) s)).acked
+        ≡ s.acked) → (moved_all (when_some o [] (λ (u : Update). Take u ∷ turns g n u.version.0 early)) s).acked ≡ s.acked
     by None more = refl
     by (Some u) more = more u
 
-turns_posts : (context : ModelContext) (g : RegionId) (n top : ℕ) (early : List Update) → flat_map (move_posts context) (turns g n top early) ≡ flat_map (passed_on context) (taken (turns g n top early))
+turns_posts : (context : ModelContext) (g : RegionId) (n top : ℕ) (early : List Update)
+    → flat_map (move_posts context) (turns g n top early) ≡ flat_map (passed_on context) (taken (turns g n top early))
 turns_posts context g zero top early = refl
 turns_posts context g (suc n) top early = by (find (follows g top) early) (λ u. turns_posts context g n u.version.0 early)
   where
     next : Option Update → List Move
     next o = when_some o [] (λ (u : Update). Take u ∷ turns g n u.version.0 early)
 
-    by : (o : Option Update) → ((u : Update) → flat_map (move_posts context) (turns g n u.version.0 early) ≡ flat_map (passed_on context) (taken (turns g n u.version.0 early))) → flat_map (move_posts context) (next o) ≡ flat_map (passed_on context) (taken (next o))
+    by : (o : Option Update) → ((u : Update) → flat_map (move_posts context) (turns g n u.version.0 early)
+        ≡ flat_map (passed_on context) (taken (turns g n u.version.0 early)))
+        → flat_map (move_posts context) (next o) ≡ flat_map (passed_on context) (taken (next o))
     by None more = refl
     by (Some u) more = ap (λ (ps : List Post). passed_on context u ++ ps) (more u)
 
@@ -101,7 +114,8 @@ offer_is context g s u true = record {
 }
 offer_is context g s u false = record { pending = λ above. sym (append-nil (pending_of s)); acked = refl; posts = refl }
 
-pub offered_is : (context : ModelContext) (g : RegionId) (s : KeyState) (u : Update) → top_of s < u.version.0 → offered g s u ≡ offer_by g s u (follows g (top_of s) u)
+pub offered_is : (context : ModelContext) (g : RegionId) (s : KeyState) (u : Update) → top_of s < u.version.0
+    → offered g s u ≡ offer_by g s u (follows g (top_of s) u)
 offered_is context g s u above = cond-false _ [] _ (not_known u.version.0 (top_of s) above)
   where
     not_known : (v top : ℕ) → top < v → nat_le v top ≡ false
@@ -117,7 +131,8 @@ others_stay v w [] apart = refl
 others_stay v w (x ∷ acked) apart = by (x == w) refl (others_stay v w acked apart)
   where
     by : (t : Bool) → x == w ≡ t → list_any (λ y. y == v) (filter (λ y. not (y == w)) acked) ≡ list_any (λ y. y == v) acked
-        → list_any (λ y. y == v) (cond (not t) (x ∷ filter (λ y. not (y == w)) acked) (filter (λ y. not (y == w)) acked)) ≡ ((x == v) || list_any (λ y. y == v) acked)
+        → list_any (λ y. y == v) (cond (not t) (x ∷ filter (λ y. not (y == w)) acked)
+        (filter (λ y. not (y == w)) acked)) ≡ ((x == v) || list_any (λ y. y == v) acked)
     by false t more = ap (λ b. (x == v) || b) more
     by true t more =
         more ∙ sym (ap (λ b. b || list_any (λ y. y == v) acked) (subst (λ y. y == v ≡ false) (sym (eqb-true x w t)) apart))
@@ -136,7 +151,8 @@ or_turned false true c = refl
 or_turned false false c = refl
 
 -- what is acknowledged afterwards
-pub marks_acked : (tail_versions : List Version) (s : KeyState) (v : Version) → list_any (λ w. w == v.0) (moved_all (acknowledging tail_versions) s).acked ≡ settles s.acked tail_versions v
+pub marks_acked : (tail_versions : List Version) (s : KeyState) (v : Version)
+    → list_any (λ w. w == v.0) (moved_all (acknowledging tail_versions) s).acked ≡ settles s.acked tail_versions v
 marks_acked [] s v = refl
 marks_acked (e ∷ tail_versions) s v =
     marks_acked tail_versions (moved (Acknowledge e.0) s) v
@@ -144,7 +160,8 @@ marks_acked (e ∷ tail_versions) s v =
     ∙ or_turned (list_any (λ (x : Version). x.0 == v.0) tail_versions) (e.0 == v.0) (list_any (λ w. w == v.0) s.acked)
 
 -- what is told of the first updates that are acknowledged is what is posted of committing them
-pub told_commits : (context : ModelContext) (acked after : List ℕ) (tail_versions : List Version) → ((v : Version) → list_any (λ w. w == v.0) after ≡ settles acked tail_versions v) → (bs : List (Bor Update))
+pub told_commits : (context : ModelContext) (acked after : List ℕ) (tail_versions : List Version)
+    → ((v : Version) → list_any (λ w. w == v.0) after ≡ settles acked tail_versions v) → (bs : List (Bor Update))
     → flat_map (λ (b : Bor Update). told_of context b.now) (settled_among acked tail_versions bs) ≡ flat_map (move_posts context) (commits after (seen bs))
 told_commits context acked after tail_versions same [] = refl
 told_commits context acked after tail_versions same (b ∷ bs) =
@@ -155,7 +172,8 @@ told_commits context acked after tail_versions same (b ∷ bs) =
     p x = settles acked tail_versions x.now.version
 
     by : (t : Bool) → flat_map (λ (x : Bor Update). told_of context x.now) (take (prefix_len p bs) bs) ≡ flat_map (move_posts context) (commits after (seen bs))
-        → flat_map (λ (x : Bor Update). told_of context x.now) (take (cond t (1 + prefix_len p bs) 0) (b ∷ bs)) ≡ flat_map (move_posts context) (provided t (Commit b.now ∷ commits after (seen bs)))
+        → flat_map (λ (x : Bor Update). told_of context x.now) (take (cond t (1 + prefix_len p bs) 0) (b ∷ bs))
+        ≡ flat_map (move_posts context) (provided t (Commit b.now ∷ commits after (seen bs)))
     by true more =
         ap (λ n. flat_map (λ (x : Bor Update). told_of context x.now) (take n (b ∷ bs))) (one-add (prefix_len p bs))
         ∙ ap (λ (ps : List Post). told_of context b.now ++ ps) more
@@ -166,7 +184,8 @@ pub acknowledging_append : (xs ys : List Version) → acknowledging (xs ++ ys) �
 acknowledging_append [] ys = refl
 acknowledging_append (x ∷ xs) ys = ap (λ ms. Acknowledge x.0 ∷ ms) (acknowledging_append xs ys)
 
-pub ends_marked : (context : ModelContext) (bs : List (Bor Update)) → acknowledging (flat_map (λ (b : Bor Update). tail_version context b.now) bs) ≡ tail_acks context (seen bs)
+pub ends_marked : (context : ModelContext) (bs : List (Bor Update))
+    → acknowledging (flat_map (λ (b : Bor Update). tail_version context b.now) bs) ≡ tail_acks context (seen bs)
 ends_marked context [] = refl
 ends_marked context (b ∷ bs) =
     acknowledging_append (tail_version context b.now) (flat_map (λ (x : Bor Update). tail_version context x.now) bs)
@@ -174,7 +193,9 @@ ends_marked context (b ∷ bs) =
   where
     by : (t : Bool) → acknowledging (flat_map (λ (x : Bor Update). tail_version context x.now) bs) ≡ tail_acks context (seen bs)
         → acknowledging (provided t (b.now.version ∷ [])) ++ acknowledging (flat_map (λ (x : Bor Update). tail_version context x.now) bs)
-        ≡ map (λ (u : Update). Acknowledge u.version.0) (cond t (b.now ∷ filter (λ (u : Update). is_end (next_at context u)) (seen bs)) (filter (λ (u : Update). is_end (next_at context u)) (seen bs)))
+        ≡ map (λ (u : Update). Acknowledge u.version.0)
+        (cond t (b.now ∷ filter (λ (u : Update). is_end (next_at context u)) (seen bs))
+        (filter (λ (u : Update). is_end (next_at context u)) (seen bs)))
     by true more = ap (λ ms. Acknowledge b.now.version.0 ∷ ms) more
     by false more = more
 
@@ -186,7 +207,9 @@ pub all_append : {A : Type 0} (P : A → Type 0) (xs ys : List A) → All P xs �
 all_append P [] ys h k = k
 all_append P (x ∷ xs) ys h k = All-cons P x (xs ++ ys) (All-head P x xs h) (all_append P xs ys (All-tail P x xs h) k)
 
-pub ends_stand : (context : ModelContext) (us : List Update) (bs : List (Bor Update)) → All (λ (b : Bor Update). Stands us b.now.version) bs → All (Stands us) (flat_map (λ (b : Bor Update). tail_version context b.now) bs)
+pub ends_stand : (context : ModelContext) (us : List Update) (bs : List (Bor Update))
+    → All (λ (b : Bor Update). Stands us b.now.version) bs
+    → All (Stands us) (flat_map (λ (b : Bor Update). tail_version context b.now) bs)
 ends_stand context us [] h = All-nil (Stands us)
 ends_stand context us (b ∷ bs) h =
     all_append (Stands us) (tail_version context b.now) (flat_map (λ (x : Bor Update). tail_version context x.now) bs)
@@ -217,14 +240,18 @@ pub seen_stand : (before : List Update) (bs : List (Bor Update)) → All (λ (b 
 seen_stand before [] = All-nil (λ (b : Bor Update). Stands (before ++ []) b.now.version)
 seen_stand before (b ∷ bs) =
     All-cons (λ (x : Bor Update). Stands (before ++ b.now ∷ seen bs) x.now.version) b bs (self_stands before b bs)
-    (subst (λ (us : List Update). All (λ (x : Bor Update). Stands us x.now.version) bs) (append_assoc before (b.now ∷ []) (seen bs)) (seen_stand (before ++ b.now ∷ []) bs))
+    (subst (λ (us : List Update). All (λ (x : Bor Update). Stands us x.now.version) bs)
+    (append_assoc before (b.now ∷ []) (seen bs)) (seen_stand (before ++ b.now ∷ []) bs))
 
 -- an acknowledgement posts nothing
 pub no_end_posts : (context : ModelContext) (us : List Update) → flat_map (move_posts context) (tail_acks context us) ≡ []
 no_end_posts context [] = refl
 no_end_posts context (x ∷ xs) = by (is_end (next_at context x)) (no_end_posts context xs)
   where
-    by : (t : Bool) → flat_map (move_posts context) (tail_acks context xs) ≡ [] → flat_map (move_posts context) (map (λ (v : Update). Acknowledge v.version.0) (cond t (x ∷ filter (λ (v : Update). is_end (next_at context v)) xs) (filter (λ (v : Update). is_end (next_at context v)) xs))) ≡ []
+    by : (t : Bool) → flat_map (move_posts context) (tail_acks context xs) ≡ []
+        → flat_map (move_posts context) (map (λ (v : Update). Acknowledge v.version.0)
+        (cond t (x ∷ filter (λ (v : Update). is_end (next_at context v)) xs)
+        (filter (λ (v : Update). is_end (next_at context v)) xs))) ≡ []
     by true more = more
     by false more = more
 
@@ -238,7 +265,8 @@ pub acceptance : (context : ModelContext) (s : KeyState) (u : Update) (bs line :
     → top_of s < u.version.0 → seen bs ≡ taken (offered context.region s u) → All (IsNew context.region s.floor) bs
     → tail_versions ≡ flat_map (λ (b : Bor Update). tail_version context b.now) bs
     → seen line ≡ pending_of s ++ seen bs
-    → posts ≡ flat_map (λ (b : Bor Update). passed_on context b.now) bs ++ flat_map (λ (b : Bor Update). told_of context b.now) (settled_among s.acked tail_versions line)
+    → posts ≡ flat_map (λ (b : Bor Update). passed_on context b.now) bs
+    ++ flat_map (λ (b : Bor Update). told_of context b.now) (settled_among s.acked tail_versions line)
     → IsAccepted context s u posts tail_versions
 acceptance context s u bs line tail_versions posts top took new ended lined posted =
     let moves = offered context.region s u in
@@ -246,16 +274,21 @@ acceptance context s u bs line tail_versions posts top took new ended lined post
     let offer : IsOffer context s moves = subst (IsOffer context s) (sym same) (offer_is context context.region s u (follows context.region (top_of s) u)) in
     let above : AreAbove s.floor (taken moves) = subst (AreAbove s.floor) took (above_seen context.region s.floor bs new) in
     let after = moved_all moves s in
-    let marked : acknowledging tail_versions ≡ tail_acks context (taken moves) = ap acknowledging ended ∙ ends_marked context bs ∙ ap (tail_acks context) took in
+    let marked : acknowledging tail_versions ≡ tail_acks context (taken moves) =
+    ap acknowledging ended ∙ ends_marked context bs ∙ ap (tail_acks context) took in
     let pending : pending_of after ≡ pending_of s ++ seen bs = offer.pending above ∙ ap (λ (us : List Update). pending_of s ++ us) (sym took) in
     let all = moved_all (acknowledging tail_versions) after in
-    let now : moved_all (moves ++ tail_acks context (taken moves)) s ≡ all = ap (λ ms. moved_all (moves ++ ms) s) (sym marked) ∙ moved_all-++ moves (acknowledging tail_versions) s in
+    let now : moved_all (moves ++ tail_acks context (taken moves)) s ≡ all =
+    ap (λ ms. moved_all (moves ++ ms) s) (sym marked) ∙ moved_all-++ moves (acknowledging tail_versions) s in
     let settle : settled all ≡ commits all.acked (seen line) = ap (commits all.acked) (marks_pending tail_versions after ∙ pending ∙ sym lined) in
-    let told = told_commits context s.acked all.acked tail_versions (λ v. marks_acked tail_versions after v ∙ ap (λ (acked : List ℕ). settles acked tail_versions v) offer.acked) line in
+    let told = told_commits context s.acked all.acked tail_versions
+    (λ v. marks_acked tail_versions after v ∙ ap (λ (acked : List ℕ). settles acked tail_versions v) offer.acked) line in
     record {
       posts_are =
           posted
-          ∙ ap (λ (ps : List Post). ps ++ flat_map (λ (b : Bor Update). told_of context b.now) (settled_among s.acked tail_versions line)) (passed_seen bs ∙ ap (flat_map (passed_on context)) took ∙ sym offer.posts)
+          ∙ ap (λ (ps : List Post). ps ++ flat_map (λ (b : Bor Update). told_of context b.now)
+          (settled_among s.acked tail_versions line))
+          (passed_seen bs ∙ ap (flat_map (passed_on context)) took ∙ sym offer.posts)
           ∙ ap (λ (ps : List Post). flat_map (move_posts context) moves ++ ps) (told ∙ ap (flat_map (move_posts context)) (sym settle ∙ ap settled (sym now)))
           ∙ sym (whole (settled (moved_all (moves ++ tail_acks context (taken moves)) s)));
       ends = record {
@@ -270,11 +303,16 @@ acceptance context s u bs line tail_versions posts top took new ended lined post
     passed_seen [] = refl
     passed_seen (x ∷ xs) = ap (λ (ps : List Post). passed_on context x.now ++ ps) (passed_seen xs)
 
-    whole : (rest : List Move) → flat_map (move_posts context) (offered context.region s u ++ tail_acks context (taken (offered context.region s u)) ++ rest) ≡ flat_map (move_posts context) (offered context.region s u) ++ flat_map (move_posts context) rest
+    whole : (rest : List Move) → flat_map (move_posts context)
+        (offered context.region s u ++ tail_acks context (taken (offered context.region s u)) ++ rest)
+        ≡ flat_map (move_posts context) (offered context.region s u) ++ flat_map (move_posts context) rest
     whole rest =
         flat_map-append (move_posts context) (offered context.region s u ++ tail_acks context (taken (offered context.region s u))) rest
         ∙ ap (λ (ps : List Post). ps ++ flat_map (move_posts context) rest)
-        (flat_map-append (move_posts context) (offered context.region s u) (tail_acks context (taken (offered context.region s u))) ∙ ap (λ (ps : List Post). flat_map (move_posts context) (offered context.region s u) ++ ps) (no_end_posts context (taken (offered context.region s u))) ∙ append-nil _)
+        (flat_map-append (move_posts context) (offered context.region s u)
+        (tail_acks context (taken (offered context.region s u)))
+        ∙ ap (λ (ps : List Post). flat_map (move_posts context) (offered context.region s u) ++ ps)
+        (no_end_posts context (taken (offered context.region s u))) ∙ append-nil _)
 
 -- a slot that holds no other update, and one whose turn has come
 pub taken_alone : (context : ModelContext) (s : KeyState) (b : Bor Update) (tail_versions : List Version) → top_of s < b.now.version.0 → pending_of s ≡ []

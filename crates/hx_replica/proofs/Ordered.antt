@@ -77,13 +77,15 @@ ordered_there rs g place y h at found =
     subst (λ (r : Replica). r.store.ordered ≡ true) (sym at)
     (by rs place (recursion_from_All (λ (r : Replica). r.store.ordered ≡ true) rs h) (below_views rs place there.replica there.at_place))
   where
-    by : (rs : List Replica) (place : ℕ) → AllByRecursion (λ (r : Replica). r.store.ordered ≡ true) rs → place < length rs → (get_or rs place y).store.ordered ≡ true
+    by : (rs : List Replica) (place : ℕ) → AllByRecursion (λ (r : Replica). r.store.ordered ≡ true) rs
+        → place < length rs → (get_or rs place y).store.ordered ≡ true
     by [] place h l = absurd (omega (arith, l))
     by (r ∷ rs) zero h l = h.0
     by (r ∷ rs) (suc place) h l = by rs place h.1 (omega (arith, l))
 
 -- a server whose replicas are the same to the definitions, with the same rooms
-pub same_value : (i : Inside) (v : ServerValue) (rs : List Replica) → value_of i ≡ v → views_of rs ≡ views_of i.replicas.items → rooms_of rs ≡ rooms_of i.replicas.items
+pub same_value : (i : Inside) (v : ServerValue) (rs : List Replica) → value_of i ≡ v
+    → views_of rs ≡ views_of i.replicas.items → rooms_of rs ≡ rooms_of i.replicas.items
     → record { space = i.space; state = record { id = i.id; config = i.config; halted = i.halted; replicas = views_of rs }; rooms = rooms_of rs } ≡ v
 same_value i v rs seen views rooms =
     (λ j. record { space = i.space; state = record { id = i.id; config = i.config; halted = i.halted; replicas = views j }; rooms = rooms j })

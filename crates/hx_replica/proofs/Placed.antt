@@ -11,7 +11,8 @@ not_placed : (g : RegionId) (places : List Place) → is_some (place_in g places
 not_placed g [] = λ e. refl
 not_placed g (p ∷ rest) = by (same_region p.region g) (not_placed g rest)
   where
-    by : (t : Bool) → (is_some (place_in g rest) ≡ false → place_number g rest ≡ length rest) → is_some (cond t (Some p) (place_in g rest)) ≡ false → cond t 0 (place_number g rest + 1) ≡ length (p ∷ rest)
+    by : (t : Bool) → (is_some (place_in g rest) ≡ false → place_number g rest ≡ length rest)
+        → is_some (cond t (Some p) (place_in g rest)) ≡ false → cond t 0 (place_number g rest + 1) ≡ length (p ∷ rest)
     by true more e = absurd cc
     by false more e = let h = more e in omega (arith, h)
 

@@ -1,16 +1,21 @@
 -- What a step makes, and what the step on a delivery makes.
-use Rattle.std.proofs.Common.{◌≡◌, ◌≤◌, ℕ, Bool, true, false, not, cond, nat_le, nat_lt, List, [], ◌∷◌, ◌++◌, append-nil, append_assoc, Option, None, Some, Result, Ok, Err, IfOk, IsSomeAnd, arith, refl, ap, sym, ◌∙◌, subst}
+use Rattle.std.proofs.Common.{◌≡◌, ◌≤◌, ℕ, Bool, true, false, not, cond, nat_le, nat_lt, List, [], ◌∷◌, ◌++◌}
+use Rattle.std.proofs.Common.{append-nil, append_assoc, Option, None, Some, Result, Ok, Err, IfOk, IsSomeAnd, arith}
+use Rattle.std.proofs.Common.{refl, ap, sym, ◌∙◌, subst}
 use Rattle.std.specs.Prelude.{OnOk}
 use Rattle.std.specs.List.{slice_get}
 use Rattle.std.specs.Option.{option_map}
 use Rattle.std.proofs.lemmas.Bool.{cond-false}
 use Rattle.std.proofs.lemmas.Result.{on_ok_weaker}
-use Rattle.hx_model.specs.Types.{Actor, Config, Deliver, Epoch, Input, Kept, Message, Note, Op, Post, PostId, RegionId, Server, ServerId, Space, Term, Update, Version}
+use Rattle.hx_model.specs.Types.{Actor, Config, Deliver, Epoch, Input, Kept, Message, Note, Op, Post, PostId, RegionId}
+use Rattle.hx_model.specs.Types.{Server, ServerId, Space, Term, Update, Version}
 use Rattle.hx_types.specs.declared.messages.Message.TheVariants as a_message
 use Rattle.hx_types.specs.Words.{provided}
 use Rattle.hx_model.specs.Hearing.{hears_ack, hears_snap, hears_update}
 use Rattle.hx_model.specs.Neighbours.{place_number}
-use Rattle.hx_model.specs.ServerSteps.{Replica, ServerState, ServerStep, SlotStep, acked, acked_of, asked, at_slot, input_step, install_at, meeting, message_step, pending_with, poll_post, server_step, snapped, state_in, unmoved, updated, with_slot}
+use Rattle.hx_model.specs.ServerSteps.{Replica, ServerState, ServerStep, SlotStep, acked, acked_of, asked, at_slot}
+use Rattle.hx_model.specs.ServerSteps.{input_step, install_at, meeting, message_step, pending_with, poll_post}
+use Rattle.hx_model.specs.ServerSteps.{server_step, snapped, state_in, unmoved, updated, with_slot}
 use Rattle.hx_model.specs.Slots.{KeyState, Move, moved_all, top_of}
 use Rattle.hx_store.specs.Stores.{Room}
 use Rattle.hx_law_folds.specs.Folding.{folded, folded_server}
@@ -74,14 +79,17 @@ room_small (Accept u place tail_versions) = omega arith
 room_small (Acknowledge v) = omega arith
 
 -- the slot of a key at the replica with this number, which stands so and makes this
-module _ (v : ServerValue) (number : ℕ) (r : Replica) (there : slice_get v.state.replicas number ≡ Some r) (key : List ℕ) (n place : ℕ) (g : RegionId) (s : KeyState) (made : SlotStep)
-    (change : SlotChange) (step : ServerStep) (bare : folded_server v.state ≡ v.state) (region : g ≡ r.region) (same : s ≡ state_in v.space r key) (so : IsChangeOf g s key made change)
+module _ (v : ServerValue) (number : ℕ) (r : Replica) (there : slice_get v.state.replicas number ≡ Some r)
+    (key : List ℕ) (n place : ℕ) (g : RegionId) (s : KeyState) (made : SlotStep)
+    (change : SlotChange) (step : ServerStep) (bare : folded_server v.state ≡ v.state) (region : g ≡ r.region)
+    (same : s ≡ state_in v.space r key) (so : IsChangeOf g s key made change)
     (room : HasRoomAt number key n v place) (is : step ≡ at_slot v.state r s made) where
   pub changed_so : room_of change ≤ n → IsChange v step.state (Slot number place change)
   changed_so few =
       let here = found-lean v.state number r bare there in
       let fits : IsChangeOf r.region (state_in v.space r key) key made change =
-      subst (λ (h : RegionId). IsChangeOf h (state_in v.space r key) key made change) region (subst (λ (t : KeyState). IsChangeOf g t key made change) same so) in
+      subst (λ (h : RegionId). IsChangeOf h (state_in v.space r key) key made change) region
+      (subst (λ (t : KeyState). IsChangeOf g t key made change) same so) in
       record {
         key = key;
         replica = r;
@@ -130,13 +138,16 @@ module _ (v : ServerValue) (from : Actor) (m n : Message) (is : m ≡ n) where
   step_of = ap (message_step v.space v.state from) (sym is)
 
   module _ {T E : Type 0} (r : Result T E) where
-    pub posts_made : (old new : List Post) → OnOk r (new ≡ old ++ (message_step v.space v.state from n).posts) → OnOk r (new ≡ old ++ (message_step v.space v.state from m).posts)
+    pub posts_made : (old new : List Post) → OnOk r (new ≡ old ++ (message_step v.space v.state from n).posts)
+        → OnOk r (new ≡ old ++ (message_step v.space v.state from m).posts)
     posts_made old new = subst (λ (t : ServerStep). OnOk r (new ≡ old ++ t.posts)) step_of
 
-    pub notes_made : (old new : List Note) → OnOk r (new ≡ old ++ (message_step v.space v.state from n).notes) → OnOk r (new ≡ old ++ (message_step v.space v.state from m).notes)
+    pub notes_made : (old new : List Note) → OnOk r (new ≡ old ++ (message_step v.space v.state from n).notes)
+        → OnOk r (new ≡ old ++ (message_step v.space v.state from m).notes)
     notes_made old new = subst (λ (t : ServerStep). OnOk r (new ≡ old ++ t.notes)) step_of
 
-    pub quiet_made : (notes : List Note) → (message_step v.space v.state from n).notes ≡ [] → OnOk r (notes ≡ notes ++ (message_step v.space v.state from m).notes)
+    pub quiet_made : (notes : List Note) → (message_step v.space v.state from n).notes ≡ []
+        → OnOk r (notes ≡ notes ++ (message_step v.space v.state from m).notes)
     quiet_made notes none = notes_made notes notes (always r (nothing_more notes _ none))
 
     -- the newest configuration is asked for first, where the epoch is higher
@@ -190,9 +201,11 @@ quiet_slot false a b p q = q
 pub updated_quiet : (space : Space) (s : ServerState) (from : Actor) (u : Update) (o : Option Replica) → (updated space s from u o).notes ≡ []
 updated_quiet space s from u None = refl
 updated_quiet space s from u (Some r) =
-    quiet (hears_update s.config u (place_number r.region u.places) s.id from) _ (unmoved s) (quiet_slot (nat_le u.version.0 (top_of (state_in space r u.key))) _ _ refl refl) refl
+    quiet (hears_update s.config u (place_number r.region u.places) s.id from) _ (unmoved s)
+    (quiet_slot (nat_le u.version.0 (top_of (state_in space r u.key))) _ _ refl refl) refl
 
-pub acked_quiet : (space : Space) (s : ServerState) (from : Actor) (key : List ℕ) (v : ℕ) (by : RegionId) (o : Option Replica) → (acked space s from key v by o).notes ≡ []
+pub acked_quiet : (space : Space) (s : ServerState) (from : Actor) (key : List ℕ) (v : ℕ) (by : RegionId)
+    (o : Option Replica) → (acked space s from key v by o).notes ≡ []
 acked_quiet space s from key v by None = refl
 acked_quiet space s from key v by (Some r) = at (pending_with v (state_in space r key))
   where
@@ -200,11 +213,13 @@ acked_quiet space s from key v by (Some r) = at (pending_with v (state_in space 
     at None = refl
     at (Some u) = quiet (hears_ack s.config u (place_number r.region u.places) s.id from by) _ (unmoved s) refl refl
 
-pub asked_quiet : (s : ServerState) (from : Actor) (epoch : Epoch) (number : ℕ) (terms : List Term) (o : Option Replica) → (asked s from epoch number terms o).notes ≡ []
+pub asked_quiet : (s : ServerState) (from : Actor) (epoch : Epoch) (number : ℕ) (terms : List Term)
+    (o : Option Replica) → (asked s from epoch number terms o).notes ≡ []
 asked_quiet s from epoch number terms None = refl
 asked_quiet s from epoch number terms (Some r) = refl
 
-pub snapped_quiet : (space : Space) (s : ServerState) (from : Actor) (snapshot : List Kept) (pending : List Update) (o : Option Replica) → (snapped space s from snapshot pending o).notes ≡ []
+pub snapped_quiet : (space : Space) (s : ServerState) (from : Actor) (snapshot : List Kept) (pending : List Update)
+    (o : Option Replica) → (snapped space s from snapshot pending o).notes ≡ []
 snapped_quiet space s from snapshot pending None = refl
 snapped_quiet space s from snapshot pending (Some r) =
     quiet (not (hears_snap s.config r.region s.id from)) (unmoved s) _ refl (quiet r.installed _ _ refl refl)

@@ -1,5 +1,7 @@
 -- The rooms of a server's replicas.
-use Rattle.std.proofs.Common.{◌≡◌, ℕ, Bool, true, false, cond, Box, Vec, Global, zero, suc, ◌<◌, List, [], ◌∷◌, ◌++◌, get_or, length, map, set, None, Some, append-nil, append_assoc, refl, ap, sym, ◌∙◌, subst, arith}
+use Rattle.std.proofs.Common.{◌≡◌, ℕ, Bool, true, false, cond, Box, Vec, Global, zero, suc, ◌<◌, List, [], ◌∷◌, ◌++◌}
+use Rattle.std.proofs.Common.{get_or, length, map, set, None, Some, append-nil, append_assoc, refl, ap, sym, ◌∙◌}
+use Rattle.std.proofs.Common.{subst, arith}
 use Rattle.std.specs.List.{All, AllByRecursion, slice_get}
 use Rattle.std.proofs.lemmas.Bool.{cond_both, eq-eqb, eqb-true, false≢true, false_from_ne_true, ne_eqb}
 use Rattle.std.proofs.lemmas.List.Elements.{All-head, All-tail}
@@ -26,7 +28,8 @@ all_same a b e = subst (KeepAllRooms a) (sym e) (self a)
     self (r ∷ rs) = (keeps-same r r refl, self rs)
 
 -- one replica whose rooms are kept comes in place of another
-pub set_rooms : (rs : List Replica) (i : ℕ) (y x : Replica) → i < length rs → y ≡ get_or rs i y → KeepsRooms y.store.rooms x.store.rooms → KeepAllRooms (rooms_of rs) (rooms_of (set rs i x))
+pub set_rooms : (rs : List Replica) (i : ℕ) (y x : Replica) → i < length rs → y ≡ get_or rs i y
+    → KeepsRooms y.store.rooms x.store.rooms → KeepAllRooms (rooms_of rs) (rooms_of (set rs i x))
 set_rooms [] i y x l e k = absurd (omega (arith, l))
 set_rooms (r ∷ rs) zero y x l e k = (subst (λ (z : Replica). KeepsRooms z.store.rooms x.store.rooms) e k, all_same (rooms_of rs) (rooms_of rs) refl)
 set_rooms (r ∷ rs) (suc i) y x l e k = (keeps-same r.store.rooms r.store.rooms refl, set_rooms rs i y x (omega (arith, l)) e k)
@@ -42,7 +45,8 @@ pub same_uses : (place : ℕ) (a b : List Room) → b ≡ a → UsesRoom place a
 same_uses place a b e = kept_uses place a b (keeps-same a b e)
 
 -- one replica of which a slot uses room comes in place of another
-pub set_uses : (rs : List Replica) (i place : ℕ) (y x : Replica) → i < length rs → y ≡ get_or rs i y → UsesRoom place y.store.rooms x.store.rooms → UseRoomAt i place (rooms_of rs) (rooms_of (set rs i x))
+pub set_uses : (rs : List Replica) (i place : ℕ) (y x : Replica) → i < length rs → y ≡ get_or rs i y
+    → UsesRoom place y.store.rooms x.store.rooms → UseRoomAt i place (rooms_of rs) (rooms_of (set rs i x))
 set_uses [] i place y x l e k = absurd (omega (arith, l))
 set_uses (r ∷ rs) zero place y x l e k = (subst (λ (z : Replica). UsesRoom place z.store.rooms x.store.rooms) e k, all_same (rooms_of rs) (rooms_of rs) refl)
 set_uses (r ∷ rs) (suc i) place y x l e k = (keeps-same r.store.rooms r.store.rooms refl, set_uses rs i place y x (omega (arith, l)) e k)
@@ -54,13 +58,23 @@ set_other (r ∷ rs) zero x = all_same (rooms_of rs) (rooms_of rs) refl
 set_other (r ∷ rs) (suc i) x = (keeps-same r.store.rooms r.store.rooms refl, set_other rs i x)
 
 -- the rooms after a change of a slot, after a join, and in a configuration that was adopted
-pub slot_rooms : (change : Change) (number place : ℕ) (of : SlotChange) (old new : ServerValue) (before : List (List Room)) → change ≡ a_change.Slot number place of → before ≡ old.rooms → UseRoomAt number place before new.rooms → AreRoomsAfter change old new
-slot_rooms change number place of old new before e b u = subst (λ (x : Change). AreRoomsAfter x old new) (sym e) (subst (λ (rs : List (List Room)). UseRoomAt number place rs new.rooms) b u)
+pub slot_rooms : (change : Change) (number place : ℕ) (of : SlotChange) (old new : ServerValue)
+    (before : List (List Room)) → change ≡ a_change.Slot number place of → before ≡ old.rooms
+    → UseRoomAt number place before new.rooms → AreRoomsAfter change old new
+slot_rooms change number place of old new before e b u =
+    subst (λ (x : Change). AreRoomsAfter x old new) (sym e)
+    (subst (λ (rs : List (List Room)). UseRoomAt number place rs new.rooms) b u)
 
-pub join_rooms : (change : Change) (number : ℕ) (replica : Box Replica Global) (old new : ServerValue) (before : List (List Room)) → change ≡ a_change.Join number replica → before ≡ old.rooms → KeepRoomsBut number before new.rooms → AreRoomsAfter change old new
-join_rooms change number replica old new before e b u = subst (λ (x : Change). AreRoomsAfter x old new) (sym e) (subst (λ (rs : List (List Room)). KeepRoomsBut number rs new.rooms) b u)
+pub join_rooms : (change : Change) (number : ℕ) (replica : Box Replica Global) (old new : ServerValue)
+    (before : List (List Room)) → change ≡ a_change.Join number replica → before ≡ old.rooms
+    → KeepRoomsBut number before new.rooms → AreRoomsAfter change old new
+join_rooms change number replica old new before e b u =
+    subst (λ (x : Change). AreRoomsAfter x old new) (sym e)
+    (subst (λ (rs : List (List Room)). KeepRoomsBut number rs new.rooms) b u)
 
-pub adopt_rooms : (change : Change) (config : Config) (replicas : Vec Replica Global) (old new : ServerValue) → change ≡ a_change.Adopt config replicas → KeepRegionRooms old.state.replicas old.rooms new.state.replicas new.rooms → AreRoomsAfter change old new
+pub adopt_rooms : (change : Change) (config : Config) (replicas : Vec Replica Global) (old new : ServerValue)
+    → change ≡ a_change.Adopt config replicas → KeepRegionRooms old.state.replicas old.rooms new.state.replicas
+    new.rooms → AreRoomsAfter change old new
 adopt_rooms change config replicas old new e k = subst (λ (x : Change). AreRoomsAfter x old new) (sym e) k
 
 -- rooms that are kept twice are kept
@@ -75,18 +89,25 @@ untouched : (r : Replica) (xs : List Replica) → AllByRecursion (λ (x : Replic
 untouched r [] h = tt
 untouched r (x ∷ xs) h = (refl, (λ t. absurd (false≢true (sym h.0 ∙ t))), (λ f. refl), untouched r xs h.1)
 
-above_differs : (r : Replica) (xs : List Replica) → All (λ m. r.region.0 < m) (map (λ (x : Replica). x.region.0) xs) → AllByRecursion (λ (x : Replica). same_region r.region x.region ≡ false) xs
+above_differs : (r : Replica) (xs : List Replica) → All (λ m. r.region.0 < m) (map (λ (x : Replica). x.region.0) xs)
+    → AllByRecursion (λ (x : Replica). same_region r.region x.region ≡ false) xs
 above_differs r [] h = tt
 above_differs r (x ∷ xs) h =
-    let l : r.region.0 < x.region.0 = All-head (λ m. r.region.0 < m) x.region.0 (map (λ (y : Replica). y.region.0) xs) h in
-    (ne_eqb r.region.0 x.region.0 (λ e. omega (arith, l, e)), above_differs r xs (All-tail (λ m. r.region.0 < m) x.region.0 (map (λ (y : Replica). y.region.0) xs) h))
+    let l : r.region.0 < x.region.0 = All-head (λ m. r.region.0 < m) x.region.0 (map (λ (y : Replica). y.region.0) xs) h in (
+      ne_eqb r.region.0 x.region.0 (λ e. omega (arith, l, e)),
+      above_differs r xs (All-tail (λ m. r.region.0 < m) x.region.0 (map (λ (y : Replica). y.region.0) xs) h),
+    )
 
-all_above : (xs : List Replica) (i n : ℕ) (y : ReplicaState) → All (λ m. n < m) (map (λ (x : Replica). x.region.0) xs) → slice_get (views_of xs) i ≡ Some y → n < y.region.0
+all_above : (xs : List Replica) (i n : ℕ) (y : ReplicaState) → All (λ m. n < m) (map (λ (x : Replica). x.region.0) xs)
+    → slice_get (views_of xs) i ≡ Some y → n < y.region.0
 all_above [] i n y h e = absurd cc
-all_above (x ∷ xs) zero n y h e = subst (λ (z : ReplicaState). n < z.region.0) (same_Some (view_of x) y e) (All-head (λ m. n < m) x.region.0 (map (λ (z : Replica). z.region.0) xs) h)
+all_above (x ∷ xs) zero n y h e = subst (λ (z : ReplicaState). n < z.region.0) (same_Some (view_of x) y e)
+    (All-head (λ m. n < m) x.region.0 (map (λ (z : Replica). z.region.0) xs) h)
 all_above (x ∷ xs) (suc i) n y h e = all_above xs i n y (All-tail (λ m. n < m) x.region.0 (map (λ (z : Replica). z.region.0) xs) h) e
 
-pub set_kept : (r : Replica) (xs : List Replica) (i : ℕ) (y : ReplicaState) (w : Replica) → AscendByRegion xs → slice_get (views_of xs) i ≡ Some y → y.region ≡ r.region → w.region ≡ r.region → KeepsRooms r.store.rooms w.store.rooms → HasKeptRooms r xs (set xs i w)
+pub set_kept : (r : Replica) (xs : List Replica) (i : ℕ) (y : ReplicaState) (w : Replica) → AscendByRegion xs
+    → slice_get (views_of xs) i ≡ Some y → y.region ≡ r.region → w.region ≡ r.region
+    → KeepsRooms r.store.rooms w.store.rooms → HasKeptRooms r xs (set xs i w)
 set_kept r [] i y w up at e f k = absurd cc
 set_kept r (x ∷ xs) zero y w up at e f k =
     let same : x.region ≡ r.region = ap (λ (z : ReplicaState). z.region) (same_Some (view_of x) y at) ∙ e in (
@@ -112,9 +133,17 @@ none_kept_rooms r xs e = untouched r xs (by xs e)
     by [] n = tt
     by (y ∷ ys) n = cases (same_region y.region r.region) refl n (by ys)
       where
-        cases : (b : Bool) → same_region y.region r.region ≡ b → cond b (Some (view_of y)) (replica_of r.region (views_of ys)) ≡ None → (replica_of r.region (views_of ys) ≡ None → AllByRecursion (λ (x : Replica). same_region r.region x.region ≡ false) ys) → AllByRecursion (λ (x : Replica). same_region r.region x.region ≡ false) (y ∷ ys)
+        cases : (b : Bool) → same_region y.region r.region ≡ b
+            → cond b (Some (view_of y)) (replica_of r.region (views_of ys)) ≡ None
+            → (replica_of r.region (views_of ys) ≡ None
+            → AllByRecursion (λ (x : Replica). same_region r.region x.region ≡ false) ys)
+            → AllByRecursion (λ (x : Replica). same_region r.region x.region ≡ false) (y ∷ ys)
         cases true t m more = absurd cc
-        cases false f m more = (false_from_ne_true (same_region r.region y.region) (λ t. false≢true (sym f ∙ eq-eqb y.region.0 r.region.0 (sym (eqb-true r.region.0 y.region.0 t)))), more m)
+        cases false f m more = (
+          false_from_ne_true (same_region r.region y.region)
+              (λ t. false≢true (sym f ∙ eq-eqb y.region.0 r.region.0 (sym (eqb-true r.region.0 y.region.0 t)))),
+          more m,
+        )
 
 -- each of the replicas keeps the rooms of those that were kept so far
 abbrev pub rooms_for : RegionId → List Replica → List Room
@@ -149,7 +178,8 @@ pub record AreKeptSoFar (all left next : List Replica) : Type 0 where
 pub kept_first : (all next : List Replica) → AreKeptSoFar all all next
 kept_first all next = record { done = []; split = sym (append-nil all); kept = none_yet next }
 
-pub kept_next : (all left rest next after : List Replica) (r : Replica) → AreKeptSoFar all left next → left ≡ rest ++ r ∷ [] → HasKeptRooms r next after → AreKeptSoFar all rest after
+pub kept_next : (all left rest next after : List Replica) (r : Replica) → AreKeptSoFar all left next
+    → left ≡ rest ++ r ∷ [] → HasKeptRooms r next after → AreKeptSoFar all rest after
 kept_next all left rest next after r h e k = record {
   done = r ∷ h.done;
   split = h.split ∙ ap (λ (l : List Replica). l ++ h.done) e ∙ append_assoc rest (r ∷ []) h.done;

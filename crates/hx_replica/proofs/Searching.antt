@@ -1,5 +1,6 @@
 -- What a server answers to a search in a region, where one of its replicas takes it.
-use Rattle.std.proofs.Common.{◌≡◌, ℕ, zero, suc, ◌<◌, true, false, List, [], ◌∷◌, get_or, length, IfOk, Option, Result, Ok, Err, Some, ap, sym, ◌∙◌, subst, arith}
+use Rattle.std.proofs.Common.{◌≡◌, ℕ, zero, suc, ◌<◌, true, false, List, [], ◌∷◌, get_or, length, IfOk, Option, Result}
+use Rattle.std.proofs.Common.{Ok, Err, Some, ap, sym, ◌∙◌, subst, arith}
 use Rattle.std.specs.List.{slice_get}
 use Rattle.std.specs.Option.{IsSomeAnd, option_map}
 use Rattle.hx_model.specs.Types.{Actor, Epoch, Post, RegionId, Row, Server, Term}
@@ -23,7 +24,8 @@ module _ (i : Inside) (v : ServerValue) (from : Actor) (epoch : Epoch) (number :
   there = found_there v.state.replicas place (if_installed (replica_for v.state g)) at
 
   region : there.replica.region ≡ g
-  region = found_region g v.state.replicas there.replica (replica_for_found v.state g there.replica (installed_some (replica_for v.state g) there.replica there.is))
+  region = found_region g v.state.replicas there.replica
+      (replica_for_found v.state g there.replica (installed_some (replica_for v.state g) there.replica there.is))
 
   abbrev answer : ServerState → RegionId → RegionId → List KeyState → List Post
   answer s h k states = provided (lists_ready s.config h s.id) (post (Server s.id) from (a_message.Found epoch number h (found_in k terms states)) ∷ [])
@@ -39,13 +41,18 @@ module _ (i : Inside) (v : ServerValue) (from : Actor) (epoch : Epoch) (number :
   not_ready out = posts_are ∙ ap (λ t. provided t (post (Server i.id) from (a_message.Found epoch number g (found_in g terms there.replica.states)) ∷ [])) out
 
   -- it is one
-  pub ready : (rows : List Row) → IsSomeAnd (slice_get v.state.replicas place) (λ (r : ReplicaState). rows ≡ found_in r.region terms r.states) → lists_ready i.config g i.id ≡ true
-      → (asked v.state from epoch number terms (if_installed (replica_for v.state g))).posts ≡ post (Server i.id) from (a_message.Found epoch number g rows) ∷ []
+  pub ready : (rows : List Row) → IsSomeAnd (slice_get v.state.replicas place)
+      (λ (r : ReplicaState). rows ≡ found_in r.region terms r.states) → lists_ready i.config g i.id ≡ true
+      → (asked v.state from epoch number terms (if_installed (replica_for v.state g))).posts
+      ≡ post (Server i.id) from (a_message.Found epoch number g rows) ∷ []
   ready rows is listed =
-      let here : rows ≡ found_in there.replica.region terms there.replica.states = subst (λ (o : Option ReplicaState). IsSomeAnd o (λ (r : ReplicaState). rows ≡ found_in r.region terms r.states)) there.at_place is in
+      let here : rows ≡ found_in there.replica.region terms there.replica.states =
+      subst (λ (o : Option ReplicaState). IsSomeAnd o
+      (λ (r : ReplicaState). rows ≡ found_in r.region terms r.states)) there.at_place is in
       posts_are
       ∙ ap (λ t. provided t (post (Server i.id) from (a_message.Found epoch number g (found_in g terms there.replica.states)) ∷ [])) listed
-      ∙ ap (λ (found : List Row). post (Server i.id) from (a_message.Found epoch number g found) ∷ []) (sym (here ∙ ap (λ (x : RegionId). found_in x terms there.replica.states) region))
+      ∙ ap (λ (found : List Row). post (Server i.id) from (a_message.Found epoch number g found) ∷ [])
+      (sym (here ∙ ap (λ (x : RegionId). found_in x terms there.replica.states) region))
 
 -- what holds of what is found
 pub if_found : {A E : Type 0} {P Q : A → Type 0} (r : Result A E) → ((x : A) → P x → Q x) → IfOk r P → IfOk r Q
@@ -58,11 +65,14 @@ view_there (r ∷ rs) zero y l e = ap (λ (x : Replica). Some (view_of x)) (sym 
 view_there (r ∷ rs) (suc place) y l e = view_there rs place y (omega (arith, l)) e
 
 -- what a search finds in a replica
-pub rows_there : (i : Inside) (v : ServerValue) (place : ℕ) (y : Replica) (terms : List Term) (rows : List Row) → value_of i ≡ v → IsServer i → place < length i.replicas.items → y ≡ get_or i.replicas.items place y → rows ≡ found_in y.store.region terms y.store.states
+pub rows_there : (i : Inside) (v : ServerValue) (place : ℕ) (y : Replica) (terms : List Term) (rows : List Row)
+    → value_of i ≡ v → IsServer i → place < length i.replicas.items → y ≡ get_or i.replicas.items place y
+    → rows ≡ found_in y.store.region terms y.store.states
     → IsSomeAnd (slice_get v.state.replicas place) (λ (r : ReplicaState). rows ≡ found_in r.region terms r.states)
 rows_there i v place y terms rows seen is l at found =
     let rs = i.replicas.items in
     let there : slice_get (views_of rs) place ≡ Some (view_of y) = view_there rs place y l at in
     let holds : IsReplicaIn i.space y = subst (IsReplicaIn i.space) (sym at) (replica_at i.space rs place y is.replicas_are.each l) in
-    subst (λ (o : Option ReplicaState). IsSomeAnd o (λ (r : ReplicaState). rows ≡ found_in r.region terms r.states)) (sym there ∙ ap (λ (x : ServerValue). slice_get x.state.replicas place) seen)
+    subst (λ (o : Option ReplicaState). IsSomeAnd o (λ (r : ReplicaState). rows ≡ found_in r.region terms r.states))
+    (sym there ∙ ap (λ (x : ServerValue). slice_get x.state.replicas place) seen)
     (found ∙ ap (λ (x : RegionId). found_in x terms y.store.states) holds.region)

@@ -1,5 +1,6 @@
 -- What a server makes that gets a snapshot.
-use Rattle.std.proofs.Common.{◌≡◌, ℕ, ◌+◌, ◌≤◌, Bool, Box, Global, true, false, not, cond, List, [], ◌∷◌, ◌++◌, map, get_or, Option, None, Some, refl, ap, append_assoc, sym, ◌∙◌, subst}
+use Rattle.std.proofs.Common.{◌≡◌, ℕ, ◌+◌, ◌≤◌, Bool, Box, Global, true, false, not, cond, List, [], ◌∷◌, ◌++◌, map}
+use Rattle.std.proofs.Common.{get_or, Option, None, Some, refl, ap, append_assoc, sym, ◌∙◌, subst}
 use Rattle.std.specs.Prelude.{IsTrue}
 use Rattle.std.specs.List.{AllByRecursion, slice_get}
 use Rattle.std.specs.Option.{option_map}
@@ -11,7 +12,9 @@ use Rattle.hx_types.specs.Posts.{Bounds, IsSoundKept, IsSoundMessage, IsSoundUpd
 use Rattle.hx_types.specs.Spaces.{IsAnswerOf, IsMaybeRowUpTo, IsRegionOf, IsConfigOf}
 use Rattle.hx_types.specs.Subspaces.{is_key_region}
 use Rattle.hx_model.specs.Hearing.{hears_snap}
-use Rattle.hx_model.specs.ServerSteps.{Replica as ReplicaState, ServerState, ServerStep, Slots, context_of, installed_slots, keys_of, ready_post, replica_for, replica_of, saying, snapped, state_from, unmoved, with_replica, with_slots}
+use Rattle.hx_model.specs.ServerSteps.{Replica as ReplicaState, ServerState, ServerStep, Slots, context_of}
+use Rattle.hx_model.specs.ServerSteps.{installed_slots, keys_of, ready_post, replica_for, replica_of, saying, snapped}
+use Rattle.hx_model.specs.ServerSteps.{state_from, unmoved, with_replica, with_slots}
 use Rattle.hx_model.specs.Slots.{KeyState}
 use Rattle.hx_law_folds.specs.Folding.{folded, folded_replica, folded_server}
 use Rattle.hx_law_folds.proofs.Lemmas.{with-replica-folded, keys-pass}
@@ -38,22 +41,31 @@ row_up_to space floor (Some r) h = h.1
 orderly_kept : (b : Bounds) (k : Kept) → IsSoundKept b k → IsOrderly k
 orderly_kept b k h = record {
   row = row_up_to b.space k.floor.0 k.object h.of_space.row;
-  marks = All-weaker (λ (m : Mark). (m.version.0 ≤ k.floor.0) × IsAnswerOf b.space m.answer) (λ (m : Mark). m.version.0 ≤ k.floor.0) (λ m p. p.0) k.marks h.of_space.marks;
-  touches = All-weaker (λ (t : Touch). (t.version.0 ≤ k.floor.0) × IsRegionOf b.space t.region) (λ (t : Touch). t.version.0 ≤ k.floor.0) (λ t p. p.0) k.touches h.of_space.touches;
+  marks = All-weaker (λ (m : Mark). (m.version.0 ≤ k.floor.0) × IsAnswerOf b.space m.answer)
+      (λ (m : Mark). m.version.0 ≤ k.floor.0) (λ m p. p.0) k.marks h.of_space.marks;
+  touches = All-weaker (λ (t : Touch). (t.version.0 ≤ k.floor.0) × IsRegionOf b.space t.region)
+      (λ (t : Touch). t.version.0 ≤ k.floor.0) (λ t p. p.0) k.touches h.of_space.touches;
   sessions_ascend = h.of_space.sessions_ascend;
   regions_ascend = h.of_space.regions_ascend;
 }
 
-sound_snapshot : (b : Bounds) (epoch : Epoch) (g : RegionId) (snapshot : List Kept) (pending : List Update) → IsSoundMessage b (a_message.Snap epoch g snapshot pending) → IsSnapshot g snapshot pending
+sound_snapshot : (b : Bounds) (epoch : Epoch) (g : RegionId) (snapshot : List Kept) (pending : List Update)
+    → IsSoundMessage b (a_message.Snap epoch g snapshot pending) → IsSnapshot g snapshot pending
 sound_snapshot b epoch g snapshot pending h = record {
   ascend = keys-pass snapshot h.3;
   orderly = All-weaker (IsSoundKept b) IsOrderly (orderly_kept b) snapshot h.2;
   coming = All-weaker (λ (u : Update). IsSoundUpdate b u × IsTrue (has_place_in g u.places)) (CanCome g)
-      (λ (u : Update) (p : IsSoundUpdate b u × IsTrue (has_place_in g u.places)). record { placed = placed g u.places p.1; few = p.0.of_space.few; after = p.0.of_space.after }) pending h.4;
+      (λ (u : Update) (p : IsSoundUpdate b u × IsTrue (has_place_in g u.places)). record {
+        placed =
+            placed g u.places p.1;
+        few = p.0.of_space.few;
+        after = p.0.of_space.after;
+      }) pending h.4;
 }
 
 -- a snapshot that a server can take
-pub snapshot_taken : (v : ServerValue) (from : Actor) (m : Message) (epoch : Epoch) (g : RegionId) (snapshot : List Kept) (pending : List Update) → CanHear v.space v.state from m → m ≡ a_message.Snap epoch g snapshot pending
+pub snapshot_taken : (v : ServerValue) (from : Actor) (m : Message) (epoch : Epoch) (g : RegionId)
+    (snapshot : List Kept) (pending : List Update) → CanHear v.space v.state from m → m ≡ a_message.Snap epoch g snapshot pending
     → IsSnapshot g snapshot pending
 snapshot_taken v from m epoch g snapshot pending hears is =
     let sound = hears.can.input_to in
@@ -61,7 +73,8 @@ snapshot_taken v from m epoch g snapshot pending hears is =
     (subst (IsSoundMessage (record { space = v.space; sessions = sound.sessions; most = sound.entry + 1 })) is sound.sound.message)
 
 -- a configuration that a server can adopt
-pub config_taken : (v : ServerValue) (from : Actor) (m : Message) (config : Config) → CanHear v.space v.state from m → m ≡ a_message.Install config → IsConfigOf v.space config
+pub config_taken : (v : ServerValue) (from : Actor) (m : Message) (config : Config) → CanHear v.space v.state from m
+    → m ≡ a_message.Install config → IsConfigOf v.space config
 config_taken v from m config hears is =
     let sound = hears.can.input_to in
     (subst (IsSoundMessage (record { space = v.space; sessions = sound.sessions; most = sound.entry + 1 })) is sound.sound.message).1
@@ -73,7 +86,8 @@ pub record IsTakenBy (v : ServerValue) (g : RegionId) (number : ℕ) (y : Replic
   pub region : y.region ≡ g
 
 pub taken_by : (i : Inside) (g : RegionId) (number : ℕ) (y : Replica) → y ≡ get_or i.replicas.items number y
-    → Some (slice_get (value_of i).state.replicas number) ≡ option_map (λ (r : ReplicaState). Some r) (replica_for (value_of i).state g) → IsTakenBy (value_of i) g number y
+    → Some (slice_get (value_of i).state.replicas number)
+    ≡ option_map (λ (r : ReplicaState). Some r) (replica_for (value_of i).state g) → IsTakenBy (value_of i) g number y
 taken_by i g number y is at =
     let s : ServerState = (value_of i).state in
     let there = found_there s.replicas number (replica_for s g) at in
@@ -84,12 +98,15 @@ taken_by i g number y is at =
       region = ap (λ (r : ReplicaState). r.region) (sym same) ∙ found_region g s.replicas there.replica (replica_for_found s g there.replica there.is);
     }
 
-folded_marked : (g : RegionId) (b : Bool) (states : List KeyState) → AllByRecursion (λ (t : KeyState). t.marks ≡ b) states → AllByRecursion (λ (t : KeyState). t.marks ≡ b) (map (folded g) states)
+folded_marked : (g : RegionId) (b : Bool) (states : List KeyState)
+    → AllByRecursion (λ (t : KeyState). t.marks ≡ b) states
+    → AllByRecursion (λ (t : KeyState). t.marks ≡ b) (map (folded g) states)
 folded_marked g b [] h = tt
 folded_marked g b (s ∷ rest) h = (h.0, folded_marked g b rest h.1)
 
 -- whether the server hears it, by its parts
-pub unheard : (i : Inside) (v : ServerValue) (from : Actor) (g : RegionId) → value_of i ≡ v → hears_snap i.config g i.id from ≡ false → hears_snap v.state.config g v.state.id from ≡ false
+pub unheard : (i : Inside) (v : ServerValue) (from : Actor) (g : RegionId) → value_of i ≡ v
+    → hears_snap i.config g i.id from ≡ false → hears_snap v.state.config g v.state.id from ≡ false
 unheard i v from g seen out = ap (λ (x : ServerValue). hears_snap x.state.config g x.state.id from) (sym seen) ∙ out
 
 module _ (v : ServerValue) (from : Actor) (g : RegionId) (snapshot : List Kept) (pending : List Update) where
@@ -103,7 +120,8 @@ module _ (v : ServerValue) (from : Actor) (g : RegionId) (snapshot : List Kept) 
   pub unheard_step : hears_snap s.config g s.id from ≡ false → step ≡ unmoved s
   unheard_step out = by (replica_for s g) (replica_for_found s g)
     where
-      by : (o : Option ReplicaState) → ((r : ReplicaState) → o ≡ Some r → replica_of g s.replicas ≡ Some r) → snapped v.space s from snapshot pending o ≡ unmoved s
+      by : (o : Option ReplicaState) → ((r : ReplicaState) → o ≡ Some r → replica_of g s.replicas ≡ Some r)
+          → snapped v.space s from snapshot pending o ≡ unmoved s
       by None f = refl
       by (Some r) f =
           cond-true _ (unmoved s) _
@@ -111,7 +129,8 @@ module _ (v : ServerValue) (from : Actor) (g : RegionId) (snapshot : List Kept) 
 
   module _ (number : ℕ) (y : Replica) (taken : IsTakenBy v g number y) (hears : hears_snap s.config g s.id from ≡ true) where
     -- it is heard
-    heard_step : step ≡ cond y.installed (saying s (ready_post s y.region)) (with_slots s (view_of y) (installed_slots (context_of v.space s y.region) snapshot pending))
+    heard_step : step ≡ cond y.installed (saying s (ready_post s y.region))
+        (with_slots s (view_of y) (installed_slots (context_of v.space s y.region) snapshot pending))
     heard_step =
         ap (snapped v.space s from snapshot pending) taken.takes
         ∙ cond-false _ (unmoved s) _ (ap not (ap (λ (h : RegionId). hears_snap s.config h s.id from) taken.region ∙ hears))
@@ -140,7 +159,8 @@ module _ (v : ServerValue) (from : Actor) (g : RegionId) (snapshot : List Kept) 
         → boxed.value ≡ record { region = g; installed = true; store = store } → IsChange v step.state (a_change.Join number boxed)
     join_change store boxed bare out region marks states held =
         let new : ReplicaState = record { region = g; installed = true; states = slots.states } in
-        let view : folded_replica new ≡ record { region = g; installed = true; states = store.states } = ap (λ (l : List KeyState). record { region = g; installed = true; states = l }) (sym states) in
+        let view : folded_replica new ≡ record { region = g; installed = true; states = store.states } =
+        ap (λ (l : List KeyState). record { region = g; installed = true; states = l }) (sym states) in
         subst (λ (r : Replica). IsJoinOn v step.state number r) (sym held)
         (record {
           before = view_of y;
@@ -150,9 +170,13 @@ module _ (v : ServerValue) (from : Actor) (g : RegionId) (snapshot : List Kept) 
             region = region;
             marks = marks;
             marked = subst (AllByRecursion (λ (t : KeyState). t.marks ≡ is_key_region v.space g)) (sym states)
-                (folded_marked g (is_key_region v.space g) slots.states (joined_marked (context_of v.space s g) pending (keys_of pending) (record { states = map (state_from (is_key_region v.space g)) snapshot; posts = [] }) (from_marked (is_key_region v.space g) snapshot)));
+                (folded_marked g (is_key_region v.space g) slots.states
+                (joined_marked (context_of v.space s g) pending (keys_of pending)
+                (record { states = map (state_from (is_key_region v.space g)) snapshot; posts = [] })
+                (from_marked (is_key_region v.space g) snapshot)));
           };
           state = ap (λ (t : ServerStep). folded_server t.state) (join_step out)
               ∙ ap (λ (l : List ReplicaState). record s { replicas = l })
-              (with-replica-folded new s.replicas ∙ ap (with_replica (folded_replica new)) (ap (λ (x : ServerState). x.replicas) bare) ∙ ap (λ (r : ReplicaState). with_replica r s.replicas) view);
+              (with-replica-folded new s.replicas ∙ ap (with_replica (folded_replica new))
+              (ap (λ (x : ServerState). x.replicas) bare) ∙ ap (λ (r : ReplicaState). with_replica r s.replicas) view);
         })

@@ -33,7 +33,9 @@ module _ (space : Space) (sessions n : ℕ) where
     early = λ u i. at g u (h.early u i);
   }
 
-  below : (s : KeyState) (xs : List KeyState) → AllByRecursion (λ (t : KeyState). text_below s.base.key t.base.key ≡ true) xs → (y : KeyState) → IsIn y xs → text_below s.base.key y.base.key ≡ true
+  below : (s : KeyState) (xs : List KeyState) → AllByRecursion
+      (λ (t : KeyState). text_below s.base.key t.base.key ≡ true) xs → (y : KeyState) → IsIn y xs
+      → text_below s.base.key y.base.key ≡ true
   below s [] h y i = absurd i
   below s (x ∷ xs) h y i = elim i [ inl e ↦ ap (λ (t : KeyState). text_below s.base.key t.base.key) e ∙ h.0 | inr j ↦ below s xs h.1 y j ]
 
@@ -47,11 +49,14 @@ module _ (space : Space) (sessions n : ℕ) where
   pub server : (s : ServerState) → IsSoundServer space sessions n s → law_posts.IsSoundServer space sessions n s.id s
   server s h = record { id = refl; config = record { of_space = h.config; epoch = h.epoch }; replicas = λ r i. replica r (h.replicas r i) }
 
-  pub given : (s : ServerState) (input : Input) → IsSoundInput space sessions n s.id input → (id : PostId) (from : Actor) (message : Message) → input ≡ Deliver id from message → (k : ℕ) × (k ≤ n) × IsSoundPost space sessions k (post from (Server s.id) message)
+  pub given : (s : ServerState) (input : Input) → IsSoundInput space sessions n s.id input
+      → (id : PostId) (from : Actor) (message : Message) → input ≡ Deliver id from message → (k : ℕ) × (k ≤ n)
+      × IsSoundPost space sessions k (post from (Server s.id) message)
   given s input h id from message e = (n, omega arith, subst (IsSoundInput space sessions n s.id) e h)
 
   -- the posts of the step
-  pub posts_sound : (s : ServerState) (input : Input) → IsSoundServer space sessions n s → IsSoundInput space sessions n s.id input → All (IsSoundPost space sessions (n + 1)) (server_step space s input).posts
+  pub posts_sound : (s : ServerState) (input : Input) → IsSoundServer space sessions n s
+      → IsSoundInput space sessions n s.id input → All (IsSoundPost space sessions (n + 1)) (server_step space s input).posts
   posts_sound s input h k =
       let now = server s h in
       let later = law_posts.server-up space sessions n (n + 1) (omega arith) s.id s now in
@@ -61,7 +66,8 @@ module _ (space : Space) (sessions n : ℕ) where
 
 -- the entry of a plan
 pub entry_sound : (v : ServerValue) (input : Input) (entry : Entry) → entry ≡ server_entry v.space v.state entry.input → entry.input ≡ input
-    → (sessions n : ℕ) → IsSoundServer v.space sessions n v.state → IsSoundInput v.space sessions n v.state.id input → All (IsSoundPost v.space sessions (n + 1)) entry.outputs
+    → (sessions n : ℕ) → IsSoundServer v.space sessions n v.state → IsSoundInput v.space sessions n v.state.id input
+    → All (IsSoundPost v.space sessions (n + 1)) entry.outputs
 entry_sound v input entry e same sessions n h k =
     subst (All (IsSoundPost v.space sessions (n + 1))) (sym (ap (λ (x : Entry). x.outputs) e ∙ ap (λ (i : Input). (server_step v.space v.state i).posts) same))
     (posts_sound v.space sessions n v.state input h k)

@@ -25,12 +25,14 @@ pub passing_more : (p : RegionId → Bool) (n : ℕ) → passing p (n + 1) ≡ p
 passing_more p n = ap (filter p) (map_below_next numbered n) ∙ filter-append p (map numbered (below n)) (numbered n ∷ [])
 
 -- a region more that passes, or doesn't
-pub with_more : {A : Type 0} (f : RegionId → A) (p : RegionId → Bool) (n : ℕ) (xs : List A) → xs ≡ map f (passing p n) → p (record { 0 = n }) ≡ true → xs ++ f (record { 0 = n }) ∷ [] ≡ map f (passing p (n + 1))
+pub with_more : {A : Type 0} (f : RegionId → A) (p : RegionId → Bool) (n : ℕ) (xs : List A) → xs ≡ map f (passing p n)
+    → p (record { 0 = n }) ≡ true → xs ++ f (record { 0 = n }) ∷ [] ≡ map f (passing p (n + 1))
 with_more f p n xs e t =
     ap (λ (l : List _). l ++ f (numbered n) ∷ []) e ∙ sym (map_push f (passing p n) (numbered n))
     ∙ ap (map f) (ap (λ b. passing p n ++ cond b (numbered n ∷ []) []) (sym t) ∙ sym (passing_more p n))
 
-pub without_more : {A : Type 0} (f : RegionId → A) (p : RegionId → Bool) (n : ℕ) (xs : List A) → xs ≡ map f (passing p n) → p (record { 0 = n }) ≡ false → xs ≡ map f (passing p (n + 1))
+pub without_more : {A : Type 0} (f : RegionId → A) (p : RegionId → Bool) (n : ℕ) (xs : List A)
+    → xs ≡ map f (passing p n) → p (record { 0 = n }) ≡ false → xs ≡ map f (passing p (n + 1))
 without_more f p n xs e t =
     e ∙ ap (map f) (sym (append-nil (passing p n)) ∙ ap (λ b. passing p n ++ cond b (numbered n ∷ []) []) (sym t) ∙ sym (passing_more p n))
 
@@ -83,7 +85,8 @@ first_ones space config s =
     }
 
 -- installed and empty
-pub first_views : (space : Space) (gs : List RegionId) → views_of (map (first_replica space) gs) ≡ map (λ (g : RegionId). record { region = g; installed = true; states = [] }) gs
+pub first_views : (space : Space) (gs : List RegionId)
+    → views_of (map (first_replica space) gs) ≡ map (λ (g : RegionId). record { region = g; installed = true; states = [] }) gs
 first_views space [] = refl
 first_views space (g ∷ gs) = ap (λ (l : List ReplicaState). record { region = g; installed = true; states = [] } ∷ l) (first_views space gs)
 
@@ -96,9 +99,15 @@ pub first_count : (space : Space) → region_count space ≡ length (first_confi
 first_count space = sym (length-map (below (region_count space)) _ ∙ length_below (region_count space))
 
 -- the server's state at the start
-pub first_state : (space : Space) (s : ServerId) (config : Config) (rs : List Replica) → config ≡ first_config space → rs ≡ map (first_replica space) (listed_regions config s)
+pub first_state : (space : Space) (s : ServerId) (config : Config) (rs : List Replica) → config ≡ first_config space
+    → rs ≡ map (first_replica space) (listed_regions config s)
     → record { id = s; config = config; halted = false; replicas = views_of rs } ≡ server_at_start space s
 first_state space s config rs c r =
     let with_views : List ReplicaState → ServerState = λ views. record { id = s; config = config; halted = false; replicas = views } in
-    let at_start : Config → ServerState = λ k. record { id = s; config = k; halted = false; replicas = map (λ (g : RegionId). record { region = g; installed = true; states = [] }) (listed_regions k s) } in
+    let at_start : Config → ServerState = λ k. record {
+      id = s;
+      config = k;
+      halted = false;
+      replicas = map (λ (g : RegionId). record { region = g; installed = true; states = [] }) (listed_regions k s);
+    } in
     ap with_views (ap views_of r ∙ first_views space (listed_regions config s)) ∙ ap at_start c

@@ -53,7 +53,9 @@ module _ (space : Space) (sessions n : ℕ) where
     early = λ u i. at g u (h.early u i);
   }
 
-  each : (g : RegionId) (x : KeyState) (ys : List KeyState) → ((y : KeyState) → IsIn y ys → text_below x.base.key y.base.key ≡ true) → AllByRecursion (λ (t : KeyState). text_below x.base.key t.base.key ≡ true) (map (folded g) ys)
+  each : (g : RegionId) (x : KeyState) (ys : List KeyState)
+      → ((y : KeyState) → IsIn y ys → text_below x.base.key y.base.key ≡ true)
+      → AllByRecursion (λ (t : KeyState). text_below x.base.key t.base.key ≡ true) (map (folded g) ys)
   each g x [] f = tt
   each g x (y ∷ ys) f = (f y (inl refl), each g x ys (λ z i. f z (inr i)))
 
@@ -64,15 +66,20 @@ module _ (space : Space) (sessions n : ℕ) where
   replica : (r : Replica) → law_posts.IsSoundReplica space sessions n r → IsSoundReplica space sessions n (folded_replica r)
   replica r h = record {
     region = h.region;
-    slots = λ t i. (let from = in-map (folded r.region) r.states t i in subst (IsSoundSlot space sessions n r.region) (sym from.2) (slot r.region from.0 (h.slots from.0 from.1)));
+    slots = λ t i. (let from = in-map (folded r.region) r.states t i in
+        subst (IsSoundSlot space sessions n r.region) (sym from.2) (slot r.region from.0 (h.slots from.0 from.1)));
     ascend = ascend r.region r.states h.ascend;
   }
 
-  replicas : (s : ServerState) → ((r : Replica) → IsIn r s.replicas → law_posts.IsSoundReplica space sessions n r) → (r : Replica) → IsIn r (folded_server s).replicas → IsSoundReplica space sessions n r
-  replicas s h r i = (let from = in-map folded_replica s.replicas r i in subst (IsSoundReplica space sessions n) (sym from.2) (replica from.0 (h from.0 from.1)))
+  replicas : (s : ServerState) → ((r : Replica) → IsIn r s.replicas → law_posts.IsSoundReplica space sessions n r)
+      → (r : Replica) → IsIn r (folded_server s).replicas → IsSoundReplica space sessions n r
+  replicas s h r i = (let from = in-map folded_replica s.replicas r i in
+      subst (IsSoundReplica space sessions n) (sym from.2) (replica from.0 (h from.0 from.1)))
 
 -- what the step leaves
-pub stays_sound : (space : Space) (sessions n : ℕ) (s : ServerState) (input : Input) → IsSoundServer space sessions n s → IsSoundInput space sessions n s.id input → IsSoundServer space sessions (n + 1) (folded_server (server_step space s input).state)
+pub stays_sound : (space : Space) (sessions n : ℕ) (s : ServerState) (input : Input)
+    → IsSoundServer space sessions n s → IsSoundInput space sessions n s.id input
+    → IsSoundServer space sessions (n + 1) (folded_server (server_step space s input).state)
 stays_sound space sessions n s input h k =
     let now = server space sessions n s h in
     let later = law_posts.server-up space sessions n (n + 1) (omega arith) s.id s now in
@@ -87,7 +94,8 @@ stays_sound space sessions n s input h k =
     }
 
 -- what it holds at the start
-pub starts_sound : (space : Space) (s : ServerId) → IsSpace space → IsServerOf space s → (sessions : ℕ) → IsSoundServer space sessions 0 (server_at_start space s)
+pub starts_sound : (space : Space) (s : ServerId) → IsSpace space → IsServerOf space s → (sessions : ℕ)
+    → IsSoundServer space sessions 0 (server_at_start space s)
 starts_sound space s valid exists sessions = record {
   valid = valid;
   exists = exists;
@@ -104,6 +112,8 @@ starts_sound space s valid exists sessions = record {
       );
 }
 
-pub server_sound : (space : Space) (s : ServerId) (v : ServerValue) → IsSpace space → IsServerOf space s → v.space ≡ space → v.state ≡ server_at_start space s → (sessions : ℕ) → IsSoundServer v.space sessions 0 v.state
+pub server_sound : (space : Space) (s : ServerId) (v : ServerValue) → IsSpace space → IsServerOf space s
+    → v.space ≡ space → v.state ≡ server_at_start space s → (sessions : ℕ) → IsSoundServer v.space sessions 0 v.state
 server_sound space s v valid exists at is sessions =
-    subst (λ (x : Space). IsSoundServer x sessions 0 v.state) (sym at) (subst (IsSoundServer space sessions 0) (sym is) (starts_sound space s valid exists sessions))
+    subst (λ (x : Space). IsSoundServer x sessions 0 v.state) (sym at)
+    (subst (IsSoundServer space sessions 0) (sym is) (starts_sound space s valid exists sessions))

@@ -6,7 +6,9 @@ use Rattle.hx_model.specs.Types.{Actor, Caller, Coordinator, Note, Op, Post, Reg
 use Rattle.hx_types.specs.Subspaces.{is_key_region}
 use Rattle.hx_model.specs.Hearing.{hears_update}
 use Rattle.hx_model.specs.Neighbours.{place_number}
-use Rattle.hx_model.specs.ServerSteps.{Replica, ServerState, ServerStep, SlotContext, SlotStep, ack_step, acked, at_slot, call_step, called, called_by, context_of, if_installed, pending_with, replica_for, state_in, unmoved, update_step, updated}
+use Rattle.hx_model.specs.ServerSteps.{Replica, ServerState, ServerStep, SlotContext, SlotStep, ack_step, acked}
+use Rattle.hx_model.specs.ServerSteps.{at_slot, call_step, called, called_by, context_of, if_installed, pending_with}
+use Rattle.hx_model.specs.ServerSteps.{replica_for, state_in, unmoved, update_step, updated}
 use Rattle.hx_model.specs.Slots.{KeyState}
 use Rattle.hx_law_folds.specs.Folding.{folded_server}
 use Rattle.hx_replica.specs.declared.outputs.SlotChange.{SlotChange}
@@ -29,7 +31,8 @@ pub record IsTaken (v : ServerValue) (number : ℕ) (found : Option Replica) (ke
 -- room was made, and the server is else as before
 module _ (old new : ServerValue) (space : new.space ≡ old.space) (state : new.state ≡ old.state) where
   pub taken_still : (found : Space → ServerState → Option Replica) (number : ℕ) (key held : List ℕ) (n place : ℕ) (x : SlotContext) (t : KeyState)
-      → Some (slice_get old.state.replicas number) ≡ option_map (λ (r : Replica). Some r) (found old.space old.state) → held ≡ key → HasRoomAt number held n new place
+      → Some (slice_get old.state.replicas number) ≡ option_map (λ (r : Replica). Some r) (found old.space old.state)
+      → held ≡ key → HasRoomAt number held n new place
       → AtReplica new number (λ (r : Replica). x ≡ context_of new.space new.state r.region)
       → ((k : List ℕ) (m : ℕ) → HasRoomAt number k m new place → AtReplica new number (λ (r : Replica). t ≡ state_in new.space r k))
       → IsTaken new number (found new.space new.state) key n place x t
@@ -71,16 +74,19 @@ module _ (old new : ServerValue) (space : new.space ≡ old.space) (state : new.
       made_noted ns ms e = e ∙ ap (λ (x : ServerStep). ns ++ x.notes) (sym is ∙ still)
 
       pub made_changed : (number place n : ℕ) (key : List ℕ) (x : SlotContext) (change : SlotChange) → slice_get new.state.replicas number ≡ Some r
-          → x ≡ context_of new.space new.state r.region → t ≡ state_in new.space r key → IsChangeOf x.region t key made change → room_of change ≤ n → HasRoomAt number key n new place
+          → x ≡ context_of new.space new.state r.region → t ≡ state_in new.space r key
+          → IsChangeOf x.region t key made change → room_of change ≤ n → HasRoomAt number key n new place
           → IsChange new (step old.space old.state).state (Slot number place change)
       made_changed number place n key x change there stands same so few room =
-          changed_so new number r there key n place x.region t made change (step old.space old.state) bare_still (ap (λ (y : SlotContext). y.region) stands) same so room (sym still ∙ is) few
+          changed_so new number r there key n place x.region t made change (step old.space old.state) bare_still
+          (ap (λ (y : SlotContext). y.region) stands) same so room (sym still ∙ is) few
 
 pub within_still : (old new : ServerValue) → new.state ≡ old.state → (number : ℕ) → number < length old.state.replicas → number < length new.state.replicas
 within_still old new state number = subst (λ (s : ServerState). number < length s.replicas) (sym state)
 
 -- only a session calls
-pub only_sessions : (space : Space) (s : ServerState) (from : Actor) (number : ℕ) (op : Op) → ((u : SessionId) → from ≡ Session u → ⊥) → called_by space s from number op ≡ unmoved s
+pub only_sessions : (space : Space) (s : ServerState) (from : Actor) (number : ℕ) (op : Op)
+    → ((u : SessionId) → from ≡ Session u → ⊥) → called_by space s from number op ≡ unmoved s
 only_sessions space s Coordinator number op h = refl
 only_sessions space s (Server x) number op h = refl
 only_sessions space s (Session u) number op h = absurd (h u refl)
@@ -102,7 +108,9 @@ module _ (v : ServerValue) (number n place : ℕ) (x : SlotContext) (t : KeyStat
     pub taken_region : x.region ≡ g
     taken_region =
         ap (λ (y : SlotContext). y.region) taken.stands
-        ∙ found_region g v.state.replicas taken.there.replica (replica_for_found v.state g taken.there.replica (installed_some (replica_for v.state g) taken.there.replica taken.there.is))
+        ∙ found_region g v.state.replicas taken.there.replica
+        (replica_for_found v.state g taken.there.replica
+        (installed_some (replica_for v.state g) taken.there.replica taken.there.is))
 
     pub update_heard : hears_update x.config u (place_number x.region u.places) x.server from ≡ true
         → updated v.space v.state from u (if_installed (replica_for v.state g)) ≡ at_slot v.state taken.there.replica t (update_step x t u)
@@ -116,11 +124,13 @@ module _ (v : ServerValue) (number n place : ℕ) (x : SlotContext) (t : KeyStat
   module _ (from : Actor) (g by : RegionId) (key : List ℕ) (version : ℕ) (taken : IsTaken v number (if_installed (replica_for v.state g)) key n place x t) where
     pub ack_heard : hears_version x from by (pending_with version t) ≡ true
         → acked v.space v.state from key version by (if_installed (replica_for v.state g)) ≡ at_slot v.state taken.there.replica t (ack_step x t version)
-    ack_heard h = ap (acked v.space v.state from key version by) taken.there.is ∙ acked_there v.space v.state taken.there.replica x taken.stands from by key version t taken.same h
+    ack_heard h = ap (acked v.space v.state from key version by) taken.there.is
+        ∙ acked_there v.space v.state taken.there.replica x taken.stands from by key version t taken.same h
 
     pub ack_unheard : hears_version x from by (pending_with version t) ≡ false
         → acked v.space v.state from key version by (if_installed (replica_for v.state g)) ≡ unmoved v.state
-    ack_unheard h = ap (acked v.space v.state from key version by) taken.there.is ∙ acked_nowhere v.space v.state taken.there.replica x taken.stands from by key version t taken.same h
+    ack_unheard h = ap (acked v.space v.state from key version by) taken.there.is
+        ∙ acked_nowhere v.space v.state taken.there.replica x taken.stands from by key version t taken.same h
 
   -- of a call
   pub call_made : (caller : Caller) (op : Op) (key : List ℕ) (taken : IsTaken v number (leading v.space v.state key) key n place x t)

@@ -1,5 +1,6 @@
 -- The early updates whose turns come one after another.
-use Rattle.std.proofs.Common.{◌≡◌, ℕ, ◌+◌, ◌-◌, ◌<◌, zero, suc, List, [], ◌∷◌, ◌++◌, length, take, get_or, None, Some, refl, ap, sym, ◌∙◌, subst, arith, append_assoc, add-one}
+use Rattle.std.proofs.Common.{◌≡◌, ℕ, ◌+◌, ◌-◌, ◌<◌, zero, suc, List, [], ◌∷◌, ◌++◌, length, take, get_or, None, Some}
+use Rattle.std.proofs.Common.{refl, ap, sym, ◌∙◌, subst, arith, append_assoc, add-one}
 use Rattle.std.specs.Prelude.{slice_get}
 use Rattle.std.specs.Borrow.{Bor}
 use Rattle.std.specs.List.{All, find}
@@ -25,7 +26,8 @@ pub record IsTaking (g : RegionId) (floor left top : ℕ) (early : List Update) 
   pub above : floor < top
 
 -- one more turn
-pub one_more : (g : RegionId) (floor left top : ℕ) (early all : List Update) (us : List (Bor Update)) (b : Bor Update) → IsTaking g floor (suc left) top early all us → find (follows g top) early ≡ Some b.now → IsNew g floor b
+pub one_more : (g : RegionId) (floor left top : ℕ) (early all : List Update) (us : List (Bor Update)) (b : Bor Update)
+    → IsTaking g floor (suc left) top early all us → find (follows g top) early ≡ Some b.now → IsNew g floor b
     → IsTaking g floor left b.now.version.0 early all (us ++ b ∷ [])
 one_more g floor left top early all us b so e new = record {
   taken_are =
@@ -38,7 +40,8 @@ one_more g floor left top early all us b so e new = record {
 }
 
 -- no further turn
-pub no_more : (g : RegionId) (floor left top : ℕ) (early all : List Update) (us : List (Bor Update)) → IsTaking g floor left top early all us → find (follows g top) early ≡ None → seen us ≡ all
+pub no_more : (g : RegionId) (floor left top : ℕ) (early all : List Update) (us : List (Bor Update))
+    → IsTaking g floor left top early all us → find (follows g top) early ≡ None → seen us ≡ all
 no_more g floor zero top early all us so e = by so.taken_are
   where
     by : seen us ++ [] ≡ all → seen us ≡ all
@@ -47,7 +50,8 @@ no_more g floor (suc left) top early all us so e =
     sym (append-nil (seen us)) ∙ sym (ap (λ o. seen us ++ taken (when_some o [] (λ (u : Update). Take u ∷ turns g left u.version.0 early))) e) ∙ so.taken_are
 
 -- the turns that are left, of one more
-pub one_left : (g : RegionId) (floor n i top : ℕ) (early all : List Update) (us : List (Bor Update)) → i < n → IsTaking g floor (n - i) top early all us → IsTaking g floor (suc (n - (i + 1))) top early all us
+pub one_left : (g : RegionId) (floor n i top : ℕ) (early all : List Update) (us : List (Bor Update)) → i < n
+    → IsTaking g floor (n - i) top early all us → IsTaking g floor (suc (n - (i + 1))) top early all us
 one_left g floor n i top early all us l so =
     let e : n - i ≡ suc (n - (i + 1)) = omega (arith, l) in
     subst (λ left. IsTaking g floor left top early all us) e so
@@ -61,10 +65,12 @@ take_next xs i x e = ap (λ n. take n xs) (add-one i) ∙ by xs i e
     by (y ∷ ys) zero = λ e. let same : y ≡ x = cc in ap (λ z. z ∷ []) same
     by (y ∷ ys) (suc i) = λ e. ap (λ zs. y ∷ zs) (by ys i e)
 
-pub seen_next : (line : List (Bor Update)) (b : Bor Update) (us : List Update) (i : ℕ) → seen line ≡ take i us → slice_get us i ≡ Some b.now → seen (line ++ b ∷ []) ≡ take (i + 1) us
+pub seen_next : (line : List (Bor Update)) (b : Bor Update) (us : List Update) (i : ℕ) → seen line ≡ take i us
+    → slice_get us i ≡ Some b.now → seen (line ++ b ∷ []) ≡ take (i + 1) us
 seen_next line b us i e at = seen_append line (b ∷ []) ∙ ap (λ xs. xs ++ b.now ∷ []) e ∙ sym (take_next us i b.now at)
 
-pub seen_more : (line : List (Bor Update)) (b : Bor Update) (before : List Update) (bs : List (Bor Update)) (i : ℕ) → seen line ≡ before ++ seen (take i bs) → slice_get bs i ≡ Some b → seen (line ++ b ∷ []) ≡ before ++ seen (take (i + 1) bs)
+pub seen_more : (line : List (Bor Update)) (b : Bor Update) (before : List Update) (bs : List (Bor Update)) (i : ℕ)
+    → seen line ≡ before ++ seen (take i bs) → slice_get bs i ≡ Some b → seen (line ++ b ∷ []) ≡ before ++ seen (take (i + 1) bs)
 seen_more line b before bs i e at =
     seen_append line (b ∷ []) ∙ ap (λ xs. xs ++ b.now ∷ []) e ∙ append_assoc before (seen (take i bs)) (b.now ∷ [])
     ∙ sym (ap (λ xs. before ++ xs) (ap seen (take_next bs i b at) ∙ seen_append (take i bs) (b ∷ [])))

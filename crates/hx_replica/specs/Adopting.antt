@@ -5,7 +5,9 @@ use Rattle.hx_model.specs.Types.{Config, Post, RegionId, Space, Update, Version}
 use Rattle.hx_types.specs.Configs.{leads}
 use Rattle.hx_types.specs.Words.{provided, when_some}
 use Rattle.hx_model.specs.Leading.{StuckAt, stuck_among}
-use Rattle.hx_model.specs.ServerSteps.{Replica as ReplicaState, ServerState, SlotContext as ModelContext, doubt_in, tail_acks, is_active, listed_regions, move_posts, passed_on, replica_or_new, resumed, context_of}
+use Rattle.hx_model.specs.ServerSteps.{Replica as ReplicaState, ServerState, SlotContext as ModelContext, doubt_in}
+use Rattle.hx_model.specs.ServerSteps.{tail_acks, is_active, listed_regions, move_posts, passed_on, replica_or_new}
+use Rattle.hx_model.specs.ServerSteps.{resumed, context_of}
 use Rattle.hx_model.specs.Slots.{Forget, KeyState, is_pending, moved, moved_all, pending_of}
 use Rattle.hx_law_folds.specs.Folding.{folded}
 use Rattle.hx_store.specs.Stores.{ArePending, acknowledging}

@@ -74,8 +74,30 @@ pub record AreReplicas (space : Space) (rs : List Replica) : Type 0 where
 
 -- a replica at the start
 abbrev pub first_replica : Space → RegionId → Replica
-first_replica space g = record { region = g; installed = true; store = record { region = g; keeps_marks = is_key_region space g; attributes = length space.attributes + 1; states = []; rooms = []; ordered = true } }
+first_replica space g = record {
+  region = g;
+  installed = true;
+  store = record {
+    region = g;
+    keeps_marks = is_key_region space g;
+    attributes = length space.attributes + 1;
+    states = [];
+    rooms = [];
+    ordered = true;
+  };
+}
 
 -- a new replica: empty, and not installed
 abbrev pub new_replica : Space → RegionId → Replica
-new_replica space g = record { region = g; installed = false; store = record { region = g; keeps_marks = is_key_region space g; attributes = length space.attributes + 1; states = []; rooms = []; ordered = true } }
+new_replica space g = record {
+  region = g;
+  installed = false;
+  store = record {
+    region = g;
+    keeps_marks = is_key_region space g;
+    attributes = length space.attributes + 1;
+    states = [];
+    rooms = [];
+    ordered = true;
+  };
+}

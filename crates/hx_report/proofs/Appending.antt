@@ -4,7 +4,9 @@ use Rattle.std.proofs.lemmas.List.Folds.{flat_map-map}
 use Rattle.std.proofs.lemmas.List.{flat_map_more, take_more}
 use Rattle.std.specs.List.{flat_map}
 
-pub one_more : {X A : Type 0} (f : X → List A) (out front : List A) (xs : List X) (i : ℕ) (x : X) → out ≡ front ++ flat_map f (take i xs) → i < length xs → x ≡ get_or xs i x → out ++ f x ≡ front ++ flat_map f (take (i + 1) xs)
+pub one_more : {X A : Type 0} (f : X → List A) (out front : List A) (xs : List X) (i : ℕ) (x : X)
+    → out ≡ front ++ flat_map f (take i xs) → i < length xs → x ≡ get_or xs i x
+    → out ++ f x ≡ front ++ flat_map f (take (i + 1) xs)
 one_more f out front xs i x so_far lt is =
     ap (λ o. o ++ f x) so_far ∙ flat_map_more f front (take i xs) x
     ∙ ap (λ ys. front ++ flat_map f ys) (sym (take_more xs i x lt ∙ ap (λ y. take i xs ++ y ∷ []) (sym is)))

@@ -1,5 +1,6 @@
 -- Lines to which another one was appended.
-use Rattle.std.proofs.Common.{◌≡◌, ◌<◌, ◌≤◌, ◌-◌, ℕ, List, ◌++◌, length, get_or, take, drop, ap, sym, subst, ◌∙◌, arith, length-append, length-drop, Result, Ok, Err}
+use Rattle.std.proofs.Common.{◌≡◌, ◌<◌, ◌≤◌, ◌-◌, ℕ, List, ◌++◌, length, get_or, take, drop, ap, sym, subst, ◌∙◌}
+use Rattle.std.proofs.Common.{arith, length-append, length-drop, Result, Ok, Err}
 use Rattle.std.specs.Prelude.{OnOk}
 use Rattle.std.specs.List.{All, slice_range}
 use Rattle.std.proofs.lemmas.List.{take-append-le, drop-append-le, take_all}

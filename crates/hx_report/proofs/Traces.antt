@@ -7,7 +7,8 @@ use Rattle.hx_types.specs.declared.messages.Message.TheVariants as a_message
 use Rattle.hx_types.specs.declared.values.Value.TheVariants as a_value
 use Rattle.hx_model.specs.Schedule.{scheduled}
 use Rattle.hx_print.specs.Printing.{actor_text, post_name}
-use Rattle.hx_report.specs.Tracing.{entries_text, entry_line, field_text, input_text, message_text, post_head, post_line, posts_text, reconfiguration_text, trace_text}
+use Rattle.hx_report.specs.Tracing.{entries_text, entry_line, field_text, input_text, message_text, post_head}
+use Rattle.hx_report.specs.Tracing.{post_line, posts_text, reconfiguration_text, trace_text}
 use Rattle.hx_report.proofs.Reports.{one}
 use Rattle.std.proofs.Common.{refl}
 

@@ -11,7 +11,8 @@ abbrev pub last_from : {A : Type 0} → Option A → List A → Option A
 last_from last [] = last
 last_from last (x ∷ xs) = last_from (Some x) xs
 
-ascends_push : {A : Type 0} (below : A → A → Bool) (last : Option A) (xs : List A) (x : A) → AscendsFrom below last xs → is_after below (last_from last xs) x ≡ true → AscendsFrom below last (xs ++ x ∷ [])
+ascends_push : {A : Type 0} (below : A → A → Bool) (last : Option A) (xs : List A) (x : A) → AscendsFrom below last xs
+    → is_after below (last_from last xs) x ≡ true → AscendsFrom below last (xs ++ x ∷ [])
 ascends_push below last [] x a f = (f, tt)
 ascends_push below last (y ∷ ys) x a f = (a.0, ascends_push below (Some y) ys x a.1 f)
 
@@ -30,7 +31,8 @@ last_mapped f [] = refl
 last_mapped f (x ∷ xs) = last_is f x xs None
 
 -- an item behind the last of a list that ascends
-pub ascends_more : {A B : Type 0} (below : B → B → Bool) (f : A → B) (xs : List A) (x : A) → Ascends below (map f xs) → is_after below (option_map f (last_of xs)) (f x) ≡ true → Ascends below (map f (xs ++ x ∷ []))
+pub ascends_more : {A B : Type 0} (below : B → B → Bool) (f : A → B) (xs : List A) (x : A) → Ascends below (map f xs)
+    → is_after below (option_map f (last_of xs)) (f x) ≡ true → Ascends below (map f (xs ++ x ∷ []))
 ascends_more {A} {B} below f xs x a follows =
     subst (Ascends below) (sym (map-append f xs (x ∷ [])))
     (ascends_push below None (map f xs) (f x) a (subst (λ (o : Option B). is_after below o (f x) ≡ true) (sym (last_mapped f xs)) follows))

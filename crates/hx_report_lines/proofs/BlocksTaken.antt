@@ -1,5 +1,6 @@
 -- Blocks that are printed are read again, list by list.
-use Rattle.std.proofs.Common.{◌≡◌, ◌≢◌, ℕ, zero, suc, ◌+◌, ◌-◌, ◌<◌, Bool, true, false, cond, List, [], ◌∷◌, ◌++◌, map, length, eqb, Option, None, Some, inl, inr, refl, sym, ap, subst, ◌∙◌, arith}
+use Rattle.std.proofs.Common.{◌≡◌, ◌≢◌, ℕ, zero, suc, ◌+◌, ◌-◌, ◌<◌, Bool, true, false, cond, List, [], ◌∷◌, ◌++◌, map}
+use Rattle.std.proofs.Common.{length, eqb, Option, None, Some, inl, inr, refl, sym, ap, subst, ◌∙◌, arith}
 use Rattle.std.specs.Prelude.{◌⊎◌, codes, nat_eq, nat_lt}
 use Rattle.std.specs.List.{All, flat_map, starts_with}
 use Rattle.std.specs.Option.{option_map}
@@ -26,10 +27,15 @@ use Rattle.hx_report_lines.specs.declared.histories.ItemLine.{ItemLine}
 use Rattle.hx_report_lines.specs.declared.kinds.Kind.{Kind}
 use Rattle.hx_report_lines.specs.declared.kinds.Kind.TheVariants as kinds
 use Rattle.hx_report_lines.specs.Calling.{head_lines, row_of}
-use Rattle.hx_report_lines.specs.Drafts.{after_line, begun, block_of, call_after, driver_after, epoch_after, is_none, item_line_in, key_after, kind_of, last_of, line_in, line_of_kind, put_driver, put_epoch, put_head, put_key, put_raw, raw_after, row_line_in, settled, with_call, with_history, with_rows}
-use Rattle.hx_report_lines.specs.Printed.{block_text, call_text, called_text, driver_text, epoch_text, history_text, item_head, item_text, key_text, raw_text, span_text}
+use Rattle.hx_report_lines.specs.Drafts.{after_line, begun, block_of, call_after, driver_after, epoch_after, is_none}
+use Rattle.hx_report_lines.specs.Drafts.{item_line_in, key_after, kind_of, last_of, line_in, line_of_kind, put_driver}
+use Rattle.hx_report_lines.specs.Drafts.{put_epoch, put_head, put_key, put_raw, raw_after, row_line_in, settled}
+use Rattle.hx_report_lines.specs.Drafts.{with_call, with_history, with_rows}
+use Rattle.hx_report_lines.specs.Printed.{block_text, call_text, called_text, driver_text, epoch_text, history_text}
+use Rattle.hx_report_lines.specs.Printed.{item_head, item_text, key_text, raw_text, span_text}
 use Rattle.hx_report_lines.specs.Readers.{on_some}
-use Rattle.hx_report_lines.specs.Values.{AscendsFrom, BeginsWith, IsBlock, IsCallOf, IsDriverLine, IsEpochOf, IsHistoryOf, IsItemOf, IsRawLine, MaybeAnswerOf, caller_below, is_after}
+use Rattle.hx_report_lines.specs.Values.{AscendsFrom, BeginsWith, IsBlock, IsCallOf, IsDriverLine, IsEpochOf}
+use Rattle.hx_report_lines.specs.Values.{IsHistoryOf, IsItemOf, IsRawLine, MaybeAnswerOf, caller_below, is_after}
 use Rattle.hx_report_lines.proofs.Ascending.{last_of_more}
 use Rattle.hx_report_lines.proofs.CallsRead.{IsRow}
 use Rattle.hx_report_lines.proofs.CallsTaken.{answer_printed, bare_answer, call_front, head_for, head_taken, row_front, row_taken, rows_after}
@@ -49,7 +55,8 @@ last_push (y ∷ []) x = last_of_more y x []
 last_push (y ∷ z ∷ zs) x = last_of_more y z (zs ++ x ∷ []) ∙ last_push (z ∷ zs) x
 
 -- where each item leads on, all do
-all_go : {A : Type 0} (f : A → List ℕ) (P : A → Type 0) (state : List A → Draft) → ((done : List A) (x : A) (d : Draft) → Stands d (state done) → P x → Goes d (f x) (state (done ++ x ∷ [])))
+all_go : {A : Type 0} (f : A → List ℕ) (P : A → Type 0) (state : List A → Draft)
+    → ((done : List A) (x : A) (d : Draft) → Stands d (state done) → P x → Goes d (f x) (state (done ++ x ∷ [])))
     → (left done : List A) (d : Draft) → Stands d (state done) → All P left → Goes d (flat_map f left) (state (done ++ left))
 all_go {A} f P state each [] done d stands all = goes_nowhere d (state (done ++ [])) (subst (λ xs. Stands d (state xs)) (sym (append-nil done)) stands)
 all_go {A} f P state each (x ∷ left) done d stands all =
@@ -59,11 +66,15 @@ all_go {A} f P state each (x ∷ left) done d stands all =
 
 -- the same of items that ascend
 up_go : {A B : Type 0} (f : A → List ℕ) (P : A → Type 0) (below : B → B → Bool) (key : A → B) (state : List A → Draft)
-    → ((done : List A) (x : A) (d : Draft) → Stands d (state done) → P x → is_after below (option_map key (last_of done)) (key x) ≡ true → Goes d (f x) (state (done ++ x ∷ [])))
-    → (left done : List A) (d : Draft) → Stands d (state done) → All P left → AscendsFrom below (option_map key (last_of done)) (map key left) → Goes d (flat_map f left) (state (done ++ left))
-up_go {A} {B} f P below key state each [] done d stands all up = goes_nowhere d (state (done ++ [])) (subst (λ xs. Stands d (state xs)) (sym (append-nil done)) stands)
+    → ((done : List A) (x : A) (d : Draft) → Stands d (state done) → P x
+    → is_after below (option_map key (last_of done)) (key x) ≡ true → Goes d (f x) (state (done ++ x ∷ [])))
+    → (left done : List A) (d : Draft) → Stands d (state done) → All P left
+    → AscendsFrom below (option_map key (last_of done)) (map key left) → Goes d (flat_map f left) (state (done ++ left))
+up_go {A} {B} f P below key state each [] done d stands all up =
+    goes_nowhere d (state (done ++ [])) (subst (λ xs. Stands d (state xs)) (sym (append-nil done)) stands)
 up_go {A} {B} f P below key state each (x ∷ left) done d stands all up =
-    let next : AscendsFrom below (option_map key (last_of (done ++ x ∷ []))) (map key left) = subst (λ o. AscendsFrom below (option_map key o) (map key left)) (sym (last_push done x)) up.1 in
+    let next : AscendsFrom below (option_map key (last_of (done ++ x ∷ []))) (map key left) =
+    subst (λ o. AscendsFrom below (option_map key o) (map key left)) (sym (last_push done x)) up.1 in
     subst (λ xs. Goes d (f x ++ flat_map f left) (state xs)) (append_assoc done (x ∷ []) left)
     (goes_then d (state (done ++ x ∷ [])) (state ((done ++ x ∷ []) ++ left)) (f x) (flat_map f left) (each done x d stands (All-head P x left all) up.0)
     (λ m s. up_go f P below key state each left (done ++ x ∷ []) m s (All-tail P x left all) next))
@@ -74,8 +85,10 @@ pub of_kind : (d : Draft) (k : Kind) (line : List ℕ) → d.section ≡ section
 of_kind d k line s h = ap (line_in d line) s ∙ ap (λ o. on_some o (line_of_kind d line)) h
 
 -- a line that comes behind what is settled
-pub settled_step : (d e m : Draft) (k : Kind) (line : List ℕ) (f : Draft → Option Draft) → Stands d e → IsOneLine line → kind_of line ≡ Some k → line_of_kind d line k ≡ on_some (settled d) f → f e ≡ Some m → Steps d (with_newline line) m
-settled_step d e m k line f stands one known is read = one_step d m line one (of_kind d k line stands.section known ∙ is ∙ ap (λ o. on_some o f) stands.settles ∙ read)
+pub settled_step : (d e m : Draft) (k : Kind) (line : List ℕ) (f : Draft → Option Draft) → Stands d e → IsOneLine line
+    → kind_of line ≡ Some k → line_of_kind d line k ≡ on_some (settled d) f → f e ≡ Some m → Steps d (with_newline line) m
+settled_step d e m k line f stands one known is read =
+    one_step d m line one (of_kind d k line stands.section known ∙ is ∙ ap (λ o. on_some o f) stands.settles ∙ read)
 
 if_so : (b : Bool) (o : Option Draft) → b ≡ true → cond b o None ≡ o
 if_so b o h = ap (λ t. cond t o None) h
@@ -90,13 +103,16 @@ driver_cut : (x : DriverLine) → driver_text x ≡ with_newline (driver_front x
 unfolding driver_line
 driver_cut x = refl
 
-driver_goes : (v : ℕ) (bs : List Block) (b : Block) (done : List DriverLine) (x : DriverLine) (d : Draft) → Stands d (body v bs (record b { drivers = done })) → IsDriverLine x → Goes d (driver_text x) (body v bs (record b { drivers = done ++ x ∷ [] }))
+driver_goes : (v : ℕ) (bs : List Block) (b : Block) (done : List DriverLine) (x : DriverLine) (d : Draft)
+    → Stands d (body v bs (record b { drivers = done })) → IsDriverLine x
+    → Goes d (driver_text x) (body v bs (record b { drivers = done ++ x ∷ [] }))
 driver_goes v bs b done x d stands is =
     let e : Draft = body v bs (record b { drivers = done }) in
     let m : Draft = body v bs (record b { drivers = done ++ x ∷ [] }) in
     goes_as d m (with_newline (driver_front x)) (driver_text x) (sym (driver_cut x)) (record {
       to = m;
-      steps = settled_step d e m kinds.Driver (driver_front x) (driver_after (driver_front x)) stands (driver_one x is) refl refl (ap (λ o. on_some o (put_driver e)) (driver_taken x is));
+      steps = settled_step d e m kinds.Driver (driver_front x) (driver_after (driver_front x)) stands
+          (driver_one x is) refl refl (ap (λ o. on_some o (put_driver e)) (driver_taken x is));
       stands = record { section = refl; settles = refl };
     })
 
@@ -111,7 +127,9 @@ raw_kind line is = by is.begins
     by (inl b) = ap kind_of b.1
     by (inr b) = ap kind_of b.1
 
-raw_goes : (v : ℕ) (bs : List Block) (space : Space) (calls : List CallLine) (histories : List HistoryLines) (epochs : List EpochLine) (done : List (List ℕ)) (x : List ℕ) (d : Draft) → Stands d (body v bs (lists space calls histories epochs done [])) → IsRawLine x
+raw_goes : (v : ℕ) (bs : List Block) (space : Space) (calls : List CallLine) (histories : List HistoryLines)
+    (epochs : List EpochLine) (done : List (List ℕ)) (x : List ℕ) (d : Draft)
+    → Stands d (body v bs (lists space calls histories epochs done [])) → IsRawLine x
     → Goes d (raw_text x) (body v bs (lists space calls histories epochs (done ++ x ∷ []) []))
 raw_goes v bs space calls histories epochs done x d stands is =
     let e : Draft = body v bs (lists space calls histories epochs done []) in
@@ -126,15 +144,19 @@ epoch_cut : (x : EpochLine) → epoch_text x ≡ with_newline (epoch_front x)
 unfolding epoch_text
 epoch_cut x = refl
 
-epoch_goes : (v : ℕ) (bs : List Block) (space : Space) (calls : List CallLine) (histories : List HistoryLines) → IsSpace space → (done : List EpochLine) (x : EpochLine) (d : Draft) → Stands d (body v bs (lists space calls histories done [] [])) → IsEpochOf space x
-    → is_after nat_lt (option_map (λ (e : EpochLine). e.epoch.0) (last_of done)) x.epoch.0 ≡ true → Goes d (epoch_text x) (body v bs (lists space calls histories (done ++ x ∷ []) [] []))
+epoch_goes : (v : ℕ) (bs : List Block) (space : Space) (calls : List CallLine) (histories : List HistoryLines)
+    → IsSpace space → (done : List EpochLine) (x : EpochLine) (d : Draft)
+    → Stands d (body v bs (lists space calls histories done [] [])) → IsEpochOf space x
+    → is_after nat_lt (option_map (λ (e : EpochLine). e.epoch.0) (last_of done)) x.epoch.0 ≡ true
+    → Goes d (epoch_text x) (body v bs (lists space calls histories (done ++ x ∷ []) [] []))
 epoch_goes v bs space calls histories valid done x d stands is up =
     let e : Draft = body v bs (lists space calls histories done [] []) in
     let m : Draft = body v bs (lists space calls histories (done ++ x ∷ []) [] []) in
     goes_as d m (with_newline (epoch_front x)) (epoch_text x) (sym (epoch_cut x)) (record {
       to = m;
       steps = settled_step d e m kinds.Epoch (epoch_front x) (epoch_after (epoch_front x)) stands (epoch_one space x valid is) refl refl
-          (ap (λ o. on_some o (put_epoch e)) (epoch_taken space x valid is) ∙ if_so (is_after nat_lt (option_map (λ (e : EpochLine). e.epoch.0) (last_of done)) x.epoch.0) (Some m) up);
+          (ap (λ o. on_some o (put_epoch e)) (epoch_taken space x valid is)
+          ∙ if_so (is_after nat_lt (option_map (λ (e : EpochLine). e.epoch.0) (last_of done)) x.epoch.0) (Some m) up);
       stands = record { section = refl; settles = refl };
     })
 
@@ -159,12 +181,14 @@ item_step v bs b key done x valid is =
     let m : Draft = in_history (body v bs b) key (done ++ x ∷ []) in
     subst (λ t. Steps d t m) (sym (item_cut b.space x))
     (one_step d m (item_line b.space x) (item_one b.space x valid is)
-    (of_kind d kinds.Item (item_line b.space x) refl (item_kind b.space x) ∙ ap (λ o. on_some o (λ y. Some (in_history (body v bs b) key (done ++ y ∷ [])))) (item_taken b.space x valid is)))
+    (of_kind d kinds.Item (item_line b.space x) refl (item_kind b.space x)
+    ∙ ap (λ o. on_some o (λ y. Some (in_history (body v bs b) key (done ++ y ∷ [])))) (item_taken b.space x valid is)))
 
 items_step : (v : ℕ) (bs : List Block) (b : Block) (key : List ℕ) (done left : List ItemLine) → IsSpace b.space → All (IsItemOf b.space) left
     → Steps (in_history (body v bs b) key done) (flat_map (item_text b.space) left) (in_history (body v bs b) key (done ++ left))
 items_step v bs b key done [] valid all =
-    subst (λ xs. Steps (in_history (body v bs b) key done) [] (in_history (body v bs b) key xs)) (sym (append-nil done)) (no_step (in_history (body v bs b) key done))
+    subst (λ xs. Steps (in_history (body v bs b) key done) [] (in_history (body v bs b) key xs))
+    (sym (append-nil done)) (no_step (in_history (body v bs b) key done))
 items_step v bs b key done (x ∷ left) valid all =
     let d : Draft = in_history (body v bs b) key done in
     let m : Draft = in_history (body v bs b) key (done ++ x ∷ []) in
@@ -181,8 +205,11 @@ history_cut : (space : Space) (h : HistoryLines) → history_text space h ≡ wi
 unfolding history_text key_text
 history_cut space h = refl
 
-history_goes : (v : ℕ) (bs : List Block) (space : Space) (calls : List CallLine) → IsSpace space → (done : List HistoryLines) (x : HistoryLines) (d : Draft) → Stands d (body v bs (lists space calls done [] [] [])) → IsHistoryOf space x
-    → is_after text_below (option_map (λ (h : HistoryLines). h.key) (last_of done)) x.key ≡ true → Goes d (history_text space x) (body v bs (lists space calls (done ++ x ∷ []) [] [] []))
+history_goes : (v : ℕ) (bs : List Block) (space : Space) (calls : List CallLine) → IsSpace space
+    → (done : List HistoryLines) (x : HistoryLines) (d : Draft)
+    → Stands d (body v bs (lists space calls done [] [] [])) → IsHistoryOf space x
+    → is_after text_below (option_map (λ (h : HistoryLines). h.key) (last_of done)) x.key ≡ true
+    → Goes d (history_text space x) (body v bs (lists space calls (done ++ x ∷ []) [] [] []))
 history_goes v bs space calls valid done x d stands is up =
     let b : Block = lists space calls done [] [] [] in
     let e : Draft = body v bs b in
@@ -193,7 +220,8 @@ history_goes v bs space calls valid done x d stands is up =
       to = n;
       steps = steps_then d m n (with_newline (key_line x.key)) (flat_map (item_text space) x.items)
           (settled_step d e m kinds.History (key_line x.key) (key_after (key_line x.key)) stands (key_one x.key is.said) refl refl
-          (ap (λ o. on_some o (put_key e)) (key_taken space x.key valid is.key is.said) ∙ if_so (is_after text_below (option_map (λ (h : HistoryLines). h.key) (last_of done)) x.key) (Some m) up))
+          (ap (λ o. on_some o (put_key e)) (key_taken space x.key valid is.key is.said)
+          ∙ if_so (is_after text_below (option_map (λ (h : HistoryLines). h.key) (last_of done)) x.key) (Some m) up))
           (items_step v bs b x.key [] x.items valid is.items);
       stands = record { section = refl; settles = ap (λ t. cond t None (Some f)) (some_items x.items is.some) };
     })
@@ -208,7 +236,9 @@ row_cut space r = refl
 abbrev in_rows : Draft → CallLine → List Row → ℕ → Draft
 in_rows e c rows left = record e { pending = opens.Rows c rows left }
 
-row_step : (v : ℕ) (bs : List Block) (b : Block) (c : CallLine) (done : List Row) (r : Row) (n : ℕ) → IsSpace b.space → IsRow b.space r → Steps (in_rows (body v bs b) c done (suc n)) (row_line b.space r) (in_rows (body v bs b) c (done ++ r ∷ []) n)
+row_step : (v : ℕ) (bs : List Block) (b : Block) (c : CallLine) (done : List Row) (r : Row) (n : ℕ) → IsSpace b.space
+    → IsRow b.space r → Steps (in_rows (body v bs b) c done (suc n)) (row_line b.space r)
+    (in_rows (body v bs b) c (done ++ r ∷ []) n)
 row_step v bs b c done r n valid is =
     let d : Draft = in_rows (body v bs b) c done (suc n) in
     let m : Draft = in_rows (body v bs b) c (done ++ r ∷ []) n in
@@ -222,7 +252,9 @@ row_step v bs b c done r n valid is =
     ∙ ap (λ o. on_some o put) (row_taken b.space r valid is)
     ∙ ap (λ k. Some (in_rows (body v bs b) c (done ++ r ∷ []) k)) less))
 
-rows_step : (v : ℕ) (bs : List Block) (b : Block) (c : CallLine) (done left : List Row) (n : ℕ) → n ≡ length left → IsSpace b.space → All (IsRow b.space) left → Steps (in_rows (body v bs b) c done n) (flat_map (row_line b.space) left) (in_rows (body v bs b) c (done ++ left) 0)
+rows_step : (v : ℕ) (bs : List Block) (b : Block) (c : CallLine) (done left : List Row) (n : ℕ) → n ≡ length left
+    → IsSpace b.space → All (IsRow b.space) left → Steps (in_rows (body v bs b) c done n)
+    (flat_map (row_line b.space) left) (in_rows (body v bs b) c (done ++ left) 0)
 rows_step v bs b c done [] n long valid all =
     let none : n ≡ 0 = long in
     subst (λ k. Steps (in_rows (body v bs b) c done k) [] (in_rows (body v bs b) c (done ++ []) 0)) (sym none)
@@ -233,7 +265,8 @@ rows_step v bs b c done (r ∷ left) n long valid all =
     let m : Draft = in_rows (body v bs b) c (done ++ r ∷ []) k in
     let e : Draft = in_rows (body v bs b) c ((done ++ r ∷ []) ++ left) 0 in
     let more : n ≡ suc k = long in
-    subst (λ j. Steps (in_rows (body v bs b) c done j) (row_line b.space r ++ flat_map (row_line b.space) left) (in_rows (body v bs b) c (done ++ r ∷ left) 0)) (sym more)
+    subst (λ j. Steps (in_rows (body v bs b) c done j) (row_line b.space r ++ flat_map (row_line b.space) left)
+    (in_rows (body v bs b) c (done ++ r ∷ left) 0)) (sym more)
     (subst (λ xs. Steps d (row_line b.space r ++ flat_map (row_line b.space) left) (in_rows (body v bs b) c xs 0)) (append_assoc done (r ∷ []) left)
     (steps_then d m e (row_line b.space r) (flat_map (row_line b.space) left) (row_step v bs b c done r k valid (All-head (IsRow b.space) r left all))
     (rows_step v bs b c (done ++ r ∷ []) left k refl valid (All-tail (IsRow b.space) r left all))))
@@ -243,8 +276,11 @@ unfolding called_text span_text
 call_kind space c = refl
 
 -- the first line of a call
-first_step : (v : ℕ) (bs : List Block) (space : Space) (done : List CallLine) (c : CallLine) (d m : Draft) → IsSpace space → Stands d (body v bs (lists space done [] [] [] [])) → IsCallOf space c
-    → is_after caller_below (option_map (λ (x : CallLine). x.caller) (last_of done)) c.caller ≡ true → begun (body v bs (lists space done [] [] [] [])) (head_for c) (bare_answer c.answer) ≡ m → Steps d (with_newline (call_front space c)) m
+first_step : (v : ℕ) (bs : List Block) (space : Space) (done : List CallLine) (c : CallLine) (d m : Draft)
+    → IsSpace space → Stands d (body v bs (lists space done [] [] [] [])) → IsCallOf space c
+    → is_after caller_below (option_map (λ (x : CallLine). x.caller) (last_of done)) c.caller ≡ true
+    → begun (body v bs (lists space done [] [] [] [])) (head_for c) (bare_answer c.answer) ≡ m
+    → Steps d (with_newline (call_front space c)) m
 first_step v bs space done c d m valid stands is up to =
     let e : Draft = body v bs (lists space done [] [] [] []) in
     settled_step d e m kinds.Call (call_front space c) (call_after (call_front space c)) stands (call_one space c valid is) (call_kind space c) refl
@@ -252,7 +288,8 @@ first_step v bs space done c d m valid stands is up to =
     ∙ if_so (is_after caller_below (option_map (λ (x : CallLine). x.caller) (last_of done)) c.caller) (Some (begun e (head_for c) (bare_answer c.answer))) up
     ∙ ap (λ x. Some x) to)
 
-front_text_is : (space : Space) (c : CallLine) → called_text space c ++ head_lines space c.version (bare_answer c.answer) (rows_after c.answer) ≡ with_newline (call_front space c)
+front_text_is : (space : Space) (c : CallLine) → called_text space c
+    ++ head_lines space c.version (bare_answer c.answer) (rows_after c.answer) ≡ with_newline (call_front space c)
 front_text_is space c = ap (λ t. called_text space c ++ t) (answer_printed space c.version c.answer) ∙ sym (append_assoc (called_text space c) _ (10 ∷ []))
 
 call_is : (space : Space) (c : CallLine) → call_text space c ≡ called_text space c ++ maybe_answer_lines space c.version c.answer
@@ -262,18 +299,22 @@ call_is space c = refl
 same_call : (c : CallLine) (a : Option Answer) → c.answer ≡ a → record c { answer = a } ≡ c
 same_call c a q = ap (λ (x : Option Answer). record c { answer = x }) (sym q)
 
-plain_goes : (v : ℕ) (bs : List Block) (space : Space) (done : List CallLine) (c : CallLine) (d : Draft) → IsSpace space → Stands d (body v bs (lists space done [] [] [] [])) → IsCallOf space c
+plain_goes : (v : ℕ) (bs : List Block) (space : Space) (done : List CallLine) (c : CallLine) (d : Draft)
+    → IsSpace space → Stands d (body v bs (lists space done [] [] [] [])) → IsCallOf space c
     → is_after caller_below (option_map (λ (x : CallLine). x.caller) (last_of done)) c.caller ≡ true → (a : Option Answer) → c.answer ≡ a → bare_answer a ≡ a
     → begun (body v bs (lists space done [] [] [] [])) (head_for c) (bare_answer a) ≡ with_call (body v bs (lists space done [] [] [] [])) (head_for c).call
-    → head_lines space c.version (bare_answer a) (rows_after a) ≡ maybe_answer_lines space c.version a → Goes d (call_text space c) (body v bs (lists space (done ++ c ∷ []) [] [] [] []))
+    → head_lines space c.version (bare_answer a) (rows_after a) ≡ maybe_answer_lines space c.version a
+    → Goes d (call_text space c) (body v bs (lists space (done ++ c ∷ []) [] [] [] []))
 plain_goes v bs space done c d valid stands is up a q bare begins printed =
     let e : Draft = body v bs (lists space done [] [] [] []) in
     let m : Draft = body v bs (lists space (done ++ c ∷ []) [] [] [] []) in
     let call : (head_for c).call ≡ c = same_call c (bare_answer c.answer) (sym (ap bare_answer q ∙ bare ∙ sym q)) in
-    let to : begun e (head_for c) (bare_answer c.answer) ≡ m = ap (λ (x : Option Answer). begun e (head_for c) (bare_answer x)) q ∙ begins ∙ ap (with_call e) call in
+    let to : begun e (head_for c) (bare_answer c.answer) ≡ m =
+    ap (λ (x : Option Answer). begun e (head_for c) (bare_answer x)) q ∙ begins ∙ ap (with_call e) call in
     let text : with_newline (call_front space c) ≡ call_text space c =
     sym (front_text_is space c) ∙ ap (λ (x : Option Answer). called_text space c ++ head_lines space c.version (bare_answer x) (rows_after x)) q
-    ∙ ap (λ t. called_text space c ++ t) printed ∙ ap (λ (x : Option Answer). called_text space c ++ maybe_answer_lines space c.version x) (sym q) ∙ sym (call_is space c) in
+    ∙ ap (λ t. called_text space c ++ t) printed ∙ ap
+    (λ (x : Option Answer). called_text space c ++ maybe_answer_lines space c.version x) (sym q) ∙ sym (call_is space c) in
     goes_as d m (with_newline (call_front space c)) (call_text space c) text (record {
       to = m;
       steps = first_step v bs space done c d m valid stands is up to;
@@ -285,12 +326,17 @@ rows_are space rows c q of =
     let is : MaybeAnswerOf space (Some (an_answer.Rows rows)) = subst (MaybeAnswerOf space) q of in
     λ k d lt. record { of = is.0 k d lt; said = is.1.1 k d lt }
 
-rows_printed : (space : Space) (c : CallLine) (rows : List Row) → maybe_answer_lines space c.version (Some (an_answer.Rows rows)) ≡ head_lines space c.version (Some (an_answer.Rows [])) (length rows) ++ flat_map (row_line space) rows
+rows_printed : (space : Space) (c : CallLine) (rows : List Row)
+    → maybe_answer_lines space c.version (Some (an_answer.Rows rows))
+    ≡ head_lines space c.version (Some (an_answer.Rows [])) (length rows) ++ flat_map (row_line space) rows
 unfolding maybe_answer_lines answer_lines rows_lines
 rows_printed space c rows = refl
 
-rows_go : (v : ℕ) (bs : List Block) (space : Space) (done : List CallLine) (c : CallLine) (d : Draft) → IsSpace space → Stands d (body v bs (lists space done [] [] [] [])) → IsCallOf space c
-    → is_after caller_below (option_map (λ (x : CallLine). x.caller) (last_of done)) c.caller ≡ true → (rows : List Row) → c.answer ≡ Some (an_answer.Rows rows) → Goes d (call_text space c) (body v bs (lists space (done ++ c ∷ []) [] [] [] []))
+rows_go : (v : ℕ) (bs : List Block) (space : Space) (done : List CallLine) (c : CallLine) (d : Draft) → IsSpace space
+    → Stands d (body v bs (lists space done [] [] [] [])) → IsCallOf space c
+    → is_after caller_below (option_map (λ (x : CallLine). x.caller) (last_of done)) c.caller ≡ true
+    → (rows : List Row) → c.answer ≡ Some (an_answer.Rows rows)
+    → Goes d (call_text space c) (body v bs (lists space (done ++ c ∷ []) [] [] [] []))
 rows_go v bs space done c d valid stands is up rows q =
     let b : Block = lists space done [] [] [] [] in
     let e : Draft = body v bs b in
@@ -314,8 +360,10 @@ rows_go v bs space done c d valid stands is up rows q =
       stands = record { section = refl; settles = ap (λ (x : CallLine). Some (with_call n x)) whole };
     })
 
-call_goes : (v : ℕ) (bs : List Block) (space : Space) → IsSpace space → (done : List CallLine) (c : CallLine) (d : Draft) → Stands d (body v bs (lists space done [] [] [] [])) → IsCallOf space c
-    → is_after caller_below (option_map (λ (x : CallLine). x.caller) (last_of done)) c.caller ≡ true → Goes d (call_text space c) (body v bs (lists space (done ++ c ∷ []) [] [] [] []))
+call_goes : (v : ℕ) (bs : List Block) (space : Space) → IsSpace space
+    → (done : List CallLine) (c : CallLine) (d : Draft) → Stands d (body v bs (lists space done [] [] [] [])) → IsCallOf space c
+    → is_after caller_below (option_map (λ (x : CallLine). x.caller) (last_of done)) c.caller ≡ true
+    → Goes d (call_text space c) (body v bs (lists space (done ++ c ∷ []) [] [] [] []))
 call_goes v bs space valid done c d stands is up = by c.answer refl
   where
     by : (a : Option Answer) → c.answer ≡ a → Goes d (call_text space c) (body v bs (lists space (done ++ c ∷ []) [] [] [] []))
@@ -356,12 +404,19 @@ block_goes d v bs b starts is =
     let t5 : List ℕ = flat_map driver_text b.drivers in
     let g0 : Goes d t0 e0 = record { to = e0; steps = space_steps d v bs space is.space starts; stands = record { section = refl; settles = refl } } in
     let g1 : Goes d (t0 ++ t1) e1 = goes_then d e0 e1 t0 t1 g0
-    (λ m s. up_go (call_text space) (IsCallOf space) caller_below (λ (x : CallLine). x.caller) (λ cs. body v bs (lists space cs [] [] [] [])) (call_goes v bs space valid) b.calls [] m s is.calls is.calls_ascend) in
+    (λ m s. up_go (call_text space) (IsCallOf space) caller_below (λ (x : CallLine). x.caller)
+    (λ cs. body v bs (lists space cs [] [] [] [])) (call_goes v bs space valid) b.calls [] m s is.calls is.calls_ascend) in
     let g2 : Goes d (t0 ++ t1 ++ t2) e2 = goes_then d e1 e2 (t0 ++ t1) t2 g1
-    (λ m s. up_go (history_text space) (IsHistoryOf space) text_below (λ (x : HistoryLines). x.key) (λ hs. body v bs (lists space b.calls hs [] [] [])) (history_goes v bs space b.calls valid) b.histories [] m s is.histories is.histories_ascend) in
+    (λ m s. up_go (history_text space) (IsHistoryOf space) text_below (λ (x : HistoryLines). x.key)
+    (λ hs. body v bs (lists space b.calls hs [] [] [])) (history_goes v bs space b.calls valid) b.histories
+    [] m s is.histories is.histories_ascend) in
     let g3 : Goes d (t0 ++ t1 ++ t2 ++ t3) e3 = goes_then d e2 e3 (t0 ++ t1 ++ t2) t3 g2
-    (λ m s. up_go epoch_text (IsEpochOf space) nat_lt (λ (x : EpochLine). x.epoch.0) (λ es. body v bs (lists space b.calls b.histories es [] [])) (epoch_goes v bs space b.calls b.histories valid) b.epochs [] m s is.epochs is.epochs_ascend) in
+    (λ m s. up_go epoch_text (IsEpochOf space) nat_lt (λ (x : EpochLine). x.epoch.0)
+    (λ es. body v bs (lists space b.calls b.histories es [] []))
+    (epoch_goes v bs space b.calls b.histories valid) b.epochs [] m s is.epochs is.epochs_ascend) in
     let g4 : Goes d (t0 ++ t1 ++ t2 ++ t3 ++ t4) e4 = goes_then d e3 e4 (t0 ++ t1 ++ t2 ++ t3) t4 g3
-    (λ m s. all_go raw_text IsRawLine (λ rs. body v bs (lists space b.calls b.histories b.epochs rs [])) (raw_goes v bs space b.calls b.histories b.epochs) b.raw [] m s is.raw) in
+    (λ m s. all_go raw_text IsRawLine (λ rs. body v bs (lists space b.calls b.histories b.epochs rs []))
+    (raw_goes v bs space b.calls b.histories b.epochs) b.raw [] m s is.raw) in
     goes_then d e4 e5 (t0 ++ t1 ++ t2 ++ t3 ++ t4) t5 g4
-    (λ m s. all_go driver_text IsDriverLine (λ ds. body v bs (lists space b.calls b.histories b.epochs b.raw ds)) (driver_goes v bs b) b.drivers [] m s is.drivers)
+    (λ m s. all_go driver_text IsDriverLine (λ ds. body v bs (lists space b.calls b.histories b.epochs b.raw ds))
+    (driver_goes v bs b) b.drivers [] m s is.drivers)

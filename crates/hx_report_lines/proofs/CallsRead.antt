@@ -16,7 +16,10 @@ use Rattle.hx_report_lines.specs.declared.answers.AnswerWord.{AnswerWord}
 use Rattle.hx_report_lines.specs.declared.answers.AnswerWord.TheVariants as answers
 use Rattle.hx_report_lines.specs.declared.call_lines.CallHead.{CallHead}
 use Rattle.hx_report_lines.specs.declared.call_lines.Span.{Span}
-use Rattle.hx_report_lines.specs.Calling.{answer_in, answer_of, answer_word, call_in, call_with, counted, end_in, first_number, head_of, head_text, if_ended, is_found, labeled, names_region, op_before, op_part, region_exists, row_after, row_in, row_of, row_version, second_number, span, with_object, word_and_numbers}
+use Rattle.hx_report_lines.specs.Calling.{answer_in, answer_of, answer_word, call_in, call_with, counted, end_in}
+use Rattle.hx_report_lines.specs.Calling.{first_number, head_of, head_text, if_ended, is_found, labeled, names_region}
+use Rattle.hx_report_lines.specs.Calling.{op_before, op_part, region_exists, row_after, row_in, row_of, row_version}
+use Rattle.hx_report_lines.specs.Calling.{second_number, span, with_object, word_and_numbers}
 use Rattle.hx_report_lines.specs.Parts.{if_same, object_in, text_in}
 use Rattle.hx_report_lines.specs.Readers.{found, number, on_some, piece, up_to, word}
 use Rattle.hx_report_lines.specs.Values.{Is64, IsCaller, IsCallOf, MaybeAnswerOf, MaybeIs64, RowIsSayable, VersionFits, has_end}
@@ -82,7 +85,9 @@ tells_second w = record { at = λ bs x e. by bs x (names_region w) e }
 
 -- an answer of a word and its numbers, but for the object
 abbrev Whole : Space → AnswerWord × Answered → Type 0
-Whole space x = (VersionFits x.1.answer x.1.version × Is64 x.1.rows) × (is_found x.0 ≡ false → MaybeAnswerOf space x.1.answer) × (is_found x.0 ≡ true → (v : List Value) → VersionFits (Some (an_answer.Found v)) x.1.version) × IsBare x.1.answer
+Whole space x = (VersionFits x.1.answer x.1.version × Is64 x.1.rows)
+    × (is_found x.0 ≡ false → MaybeAnswerOf space x.1.answer)
+    × (is_found x.0 ≡ true → (v : List Value) → VersionFits (Some (an_answer.Found v)) x.1.version) × IsBare x.1.answer
 
 whole_of : (space : Space) (w : AnswerWord) (n m : ℕ) → Is64 n → region_exists space w n ≡ true → Is64 m → Whole space (w, answer_of w n m)
 whole_of space answers.Open n m n64 r m64 = ((refl, small), (λ f. tt), (λ f. absurd cc), λ rows q. absurd cc)
@@ -92,7 +97,12 @@ whole_of space answers.CmpFail n m n64 r m64 = ((n64, small), (λ f. (tt, tt)), 
 whole_of space answers.Overflow n m n64 r m64 = ((n64, small), (λ f. (tt, tt)), (λ f. absurd cc), λ rows q. absurd cc)
 whole_of space answers.TooLong n m n64 r m64 = ((n64, small), (λ f. (tt, tt)), (λ f. absurd cc), λ rows q. absurd cc)
 whole_of space answers.Found n m n64 r m64 = ((n64, small), (λ f. absurd cc), (λ f v. n64), λ rows q. absurd cc)
-whole_of space answers.Rows n m n64 r m64 = ((refl, n64), (λ f. (All-nil (IsRowOf space), (small, All-nil RowIsSayable))), (λ f. absurd cc), λ rows q. let e : an_answer.Rows [] ≡ an_answer.Rows rows = cc in cc)
+whole_of space answers.Rows n m n64 r m64 = (
+  (refl, n64),
+  (λ f. (All-nil (IsRowOf space), (small, All-nil RowIsSayable))),
+  (λ f. absurd cc),
+  λ rows q. let e : an_answer.Rows [] ≡ an_answer.Rows rows = cc in cc,
+)
 whole_of space answers.Refused n m n64 r m64 = ((refl, small), (λ f. (ltb-true n (region_count space) r, m64)), (λ f. absurd cc), λ rows q. absurd cc)
 whole_of space answers.Doubt n m n64 r m64 = ((refl, small), (λ f. (ltb-true n (region_count space) r, m64)), (λ f. absurd cc), λ rows q. absurd cc)
 whole_of space answers.Issued n m n64 r m64 = ((refl, small), (λ f. (tt, n64)), (λ f. absurd cc), λ rows q. absurd cc)
@@ -117,7 +127,8 @@ answer_valid space bytes a is e =
     by b.0.0 b.0.1 ((tells_word_and_numbers space).at bytes b.0 b.1) (is_found b.0.0.0) refl b.2
   where
     by : (x : AnswerWord × Answered) (left : List ℕ) → Whole space x → (f : Bool) → is_found x.0 ≡ f
-        → cond f (option_map (λ (o : List Value). record x.1 { answer = Some (an_answer.Found o) }) (object_in space left)) (Some x.1) ≡ Some a → IsAnswered space a
+        → cond f (option_map (λ (o : List Value). record x.1 { answer = Some (an_answer.Found o) })
+        (object_in space left)) (Some x.1) ≡ Some a → IsAnswered space a
     by x left w true f g =
         let m = mapped (object_in space left) (λ (o : List Value). record x.1 { answer = Some (an_answer.Found o) }) a g in
         subst (IsAnswered space) m.2 (record { version = w.2 f m.0; answer = object_valid space left m.0 is m.1; rows = w.0.1; bare = λ rows q. absurd cc })
@@ -133,7 +144,8 @@ record IsSpanned (s : Span) : Type 0 where
 tells_end : Tells end_in MaybeIs64
 tells_end = record { at = λ bs x e. by bs x (starts_with nat_eq bs (codes "-")) e }
   where
-    by : (bs : List ℕ) (x : Option ℕ × List ℕ) (b : Bool) → cond b (Some (None, drop 1 bs)) (on_some (number bs) (λ y. Some (Some y.0, y.1))) ≡ Some x → MaybeIs64 x.0
+    by : (bs : List ℕ) (x : Option ℕ × List ℕ) (b : Bool)
+        → cond b (Some (None, drop 1 bs)) (on_some (number bs) (λ y. Some (Some y.0, y.1))) ≡ Some x → MaybeIs64 x.0
     by bs x true e = subst (λ (y : Option ℕ × List ℕ). MaybeIs64 y.0) (some_is (None, drop 1 bs) x e) tt
     by bs x false e =
         let b = bound (number bs) (λ y. Some (Some y.0, y.1)) x e in
@@ -177,7 +189,8 @@ same_bools false false h o e = (refl, some_is h o e)
 ended : (h o : CallHead) → if_ended h ≡ Some o → (is_some h.call.end ≡ has_end h.call.answer) × (h ≡ o)
 ended h o e = same_bools (is_some h.call.end) (has_end h.call.answer) h o e
 
-pub head_valid : (space : Space) (line : List ℕ) (h : CallHead) → IsSpace space → head_of space line ≡ Some h → IsHead space h × (head_text space h ≡ line ++ 10 ∷ [])
+pub head_valid : (space : Space) (line : List ℕ) (h : CallHead) → IsSpace space → head_of space line ≡ Some h
+    → IsHead space h × (head_text space h ≡ line ++ 10 ∷ [])
 unfolding head_of
 head_valid space line h is e =
     let o = bound (call_in space line) (if_same (head_text space) line) h e in
@@ -216,7 +229,8 @@ row_in_valid space line r is e =
     let b = bound (word (codes "row ") line) (λ x. on_some (up_to 32 x.1) (λ y. on_some (text_in space y.0) (λ key. row_after space key y.1))) r e in
     let u = bound (up_to 32 b.0.1) (λ y. on_some (text_in space y.0) (λ key. row_after space key y.1)) r b.2 in
     let k = bound (text_in space u.0.0) (λ key. row_after space key u.0.1) r u.2 in
-    let v = bound (row_version u.0.1) (λ x. option_map (λ (o : List Value). record { key = k.0; version = record { 0 = x.0 }; object = o }) (object_in space x.1)) r k.2 in
+    let v = bound (row_version u.0.1) (λ x. option_map
+    (λ (o : List Value). record { key = k.0; version = record { 0 = x.0 }; object = o }) (object_in space x.1)) r k.2 in
     let m = mapped (object_in space v.0.1) (λ (o : List Value). record { key = k.0; version = record { 0 = v.0.0 }; object = o }) r v.2 in
     let key = text_valid space u.0.0 k.0 is k.1 in
     let object = object_valid space v.0.1 m.0 is m.1 in

@@ -1,5 +1,6 @@
 -- Where a text is refused, some report begins with the lines before.
-use Rattle.std.proofs.Common.{◌≡◌, ◌≢◌, ℕ, suc, ◌+◌, ◌-◌, ◌≤◌, Bool, true, false, cond, ◌&&◌, eqb, List, [], ◌∷◌, ◌++◌, length, take, Option, None, Some, Ok, Err, Result, refl, sym, ap, subst, ◌∙◌, arith}
+use Rattle.std.proofs.Common.{◌≡◌, ◌≢◌, ℕ, suc, ◌+◌, ◌-◌, ◌≤◌, Bool, true, false, cond, ◌&&◌, eqb, List, [], ◌∷◌, ◌++◌}
+use Rattle.std.proofs.Common.{length, take, Option, None, Some, Ok, Err, Result, refl, sym, ap, subst, ◌∙◌, arith}
 use Rattle.std.specs.List.{All, flat_map}
 use Rattle.std.proofs.lemmas.Bool.{ne_eqb}
 use Rattle.std.proofs.lemmas.List.{append_assoc, append-nil}
@@ -49,7 +50,8 @@ cuts whole n line d (l ∷ ls) one is h = by (after_line d l) refl h (λ m good.
           within = omega (arith, c.within);
           draft = c.draft;
           good = c.good;
-          text = c.text ∙ (ap (λ t. t ++ flat_map with_newline (take c.place ls)) (line_adds d m l is q) ∙ append_assoc (draft_text d) (with_newline l) (flat_map with_newline (take c.place ls)));
+          text = c.text ∙ (ap (λ t. t ++ flat_map with_newline (take c.place ls)) (line_adds d m l is q)
+              ∙ append_assoc (draft_text d) (with_newline l) (flat_map with_newline (take c.place ls)));
         }
 
 -- ---- the lines of a text that is put together of lines
@@ -79,7 +81,15 @@ begun_before text line h =
     let o = opens_text c.draft c.good in
     let before : List (List ℕ) = take c.place ls in
     let place : line - 1 ≡ c.place = omega (arith, c.at) in
-    let begins : Begins before = (o.0, o.1, (lines_of o.2.0, ap lines_of (o.2.1 ∙ ap (λ t. t ++ o.2.0) c.text) ∙ lines_join before o.2.0 (All-take IsOneLine c.place ls (one_lines text)))) in
+    let begins : Begins before = (
+      o.0,
+      o.1,
+      (
+        lines_of o.2.0,
+        ap lines_of (o.2.1 ∙ ap (λ t. t ++ o.2.0) c.text)
+            ∙ lines_join before o.2.0 (All-take IsOneLine c.place ls (one_lines text)),
+      ),
+    ) in
     record {
       within = (omega (arith, c.at), omega (arith, c.at, c.within));
       before = subst (λ n. Begins (take n ls)) (sym place) begins;

@@ -1,5 +1,6 @@
 -- A draft has what a report may have.
-use Rattle.std.proofs.Common.{◌≡◌, ◌≢◌, ℕ, zero, suc, ◌+◌, ◌-◌, ◌^◌, ◌<◌, Bool, true, false, cond, List, [], ◌∷◌, ◌++◌, length, eqb, Option, None, Some, inl, inr, refl, sym, ap, subst, ◌∙◌, arith}
+use Rattle.std.proofs.Common.{◌≡◌, ◌≢◌, ℕ, zero, suc, ◌+◌, ◌-◌, ◌^◌, ◌<◌, Bool, true, false, cond, List, [], ◌∷◌, ◌++◌}
+use Rattle.std.proofs.Common.{length, eqb, Option, None, Some, inl, inr, refl, sym, ap, subst, ◌∙◌, arith}
 use Rattle.std.specs.Prelude.{◌⊎◌, codes, is_some, nat_lt, ⊤}
 use Rattle.std.specs.List.{All}
 use Rattle.std.specs.Option.{option_map}
@@ -29,11 +30,19 @@ use Rattle.hx_report_lines.specs.declared.histories.ItemLine.{ItemLine}
 use Rattle.hx_report_lines.specs.declared.kinds.Kind.{Kind}
 use Rattle.hx_report_lines.specs.declared.kinds.Kind.TheVariants as kinds
 use Rattle.hx_report_lines.specs.Calling.{head_of, row_of}
-use Rattle.hx_report_lines.specs.Drafts.{after_line, begun, block_of, call_after, closed, driver_after, empty_draft, end_after, epoch_after, follows_caller, follows_epoch, follows_key, head_line, head_with, is_none, item_line_in, key_after, kind_of, last_of, line_in, line_of_kind, next_after, no_epochs, no_histories, no_raw, no_drivers, put_driver, put_epoch, put_head, put_key, put_raw, raw_after, row_line_in, settled, settled_from, value_of, version_line, version_of, with_call, with_history, with_rows, with_space}
+use Rattle.hx_report_lines.specs.Drafts.{after_line, begun, block_of, call_after, closed, driver_after, empty_draft}
+use Rattle.hx_report_lines.specs.Drafts.{end_after, epoch_after, follows_caller, follows_epoch, follows_key, head_line}
+use Rattle.hx_report_lines.specs.Drafts.{head_with, is_none, item_line_in, key_after, kind_of, last_of, line_in}
+use Rattle.hx_report_lines.specs.Drafts.{line_of_kind, next_after, no_epochs, no_histories, no_raw, no_drivers}
+use Rattle.hx_report_lines.specs.Drafts.{put_driver, put_epoch, put_head, put_key, put_raw, raw_after, row_line_in}
+use Rattle.hx_report_lines.specs.Drafts.{settled, settled_from, value_of, version_line, version_of, with_call}
+use Rattle.hx_report_lines.specs.Drafts.{with_history, with_rows, with_space}
 use Rattle.hx_report_lines.specs.Parts.{item_of, key_of}
 use Rattle.hx_report_lines.specs.Readers.{on_some}
 use Rattle.hx_report_lines.specs.Tailing.{driver_of, epoch_of, raw_of, rest_of_head, space_of}
-use Rattle.hx_report_lines.specs.Values.{HasBlocks, IsBlock, IsCallOf, IsDriverLine, IsEpochOf, IsHistoryOf, IsItemOf, IsRawLine, IsReportValue, IsSpaceValue, VersionFits, caller_below, has_end, is_after}
+use Rattle.hx_report_lines.specs.Values.{HasBlocks, IsBlock, IsCallOf, IsDriverLine, IsEpochOf, IsHistoryOf, IsItemOf}
+use Rattle.hx_report_lines.specs.Values.{IsRawLine, IsReportValue, IsSpaceValue, VersionFits, caller_below, has_end}
+use Rattle.hx_report_lines.specs.Values.{is_after}
 use Rattle.hx_report_lines.proofs.Ascending.{ascends_more}
 use Rattle.hx_report_lines.proofs.CallsRead.{IsHead, IsRow, head_valid, row_valid}
 use Rattle.hx_report_lines.proofs.ItemsRead.{item_valid, key_valid}
@@ -42,7 +51,9 @@ use Rattle.hx_report_lines.proofs.Taken.{bound, some_is, where_so}
 
 -- ---- blocks, one item more
 
-pub call_more : (b : Block) (c : CallLine) → IsBlock b → IsCallOf b.space c → is_after caller_below (option_map (λ (x : CallLine). x.caller) (last_of b.calls)) c.caller ≡ true → IsBlock (record b { calls = b.calls ++ c ∷ [] })
+pub call_more : (b : Block) (c : CallLine) → IsBlock b → IsCallOf b.space c
+    → is_after caller_below (option_map (λ (x : CallLine). x.caller) (last_of b.calls)) c.caller ≡ true
+    → IsBlock (record b { calls = b.calls ++ c ∷ [] })
 call_more b c is of follows = record {
   space = is.space;
   calls = All-push (IsCallOf b.space) b.calls c is.calls of;
@@ -55,7 +66,9 @@ call_more b c is of follows = record {
   drivers = is.drivers;
 }
 
-pub history_more : (b : Block) (h : HistoryLines) → IsBlock b → IsHistoryOf b.space h → is_after text_below (option_map (λ (x : HistoryLines). x.key) (last_of b.histories)) h.key ≡ true → IsBlock (record b { histories = b.histories ++ h ∷ [] })
+pub history_more : (b : Block) (h : HistoryLines) → IsBlock b → IsHistoryOf b.space h
+    → is_after text_below (option_map (λ (x : HistoryLines). x.key) (last_of b.histories)) h.key ≡ true
+    → IsBlock (record b { histories = b.histories ++ h ∷ [] })
 history_more b h is of follows = record {
   space = is.space;
   calls = is.calls;
@@ -68,7 +81,9 @@ history_more b h is of follows = record {
   drivers = is.drivers;
 }
 
-epoch_more : (b : Block) (e : EpochLine) → IsBlock b → IsEpochOf b.space e → is_after nat_lt (option_map (λ (x : EpochLine). x.epoch.0) (last_of b.epochs)) e.epoch.0 ≡ true → IsBlock (record b { epochs = b.epochs ++ e ∷ [] })
+epoch_more : (b : Block) (e : EpochLine) → IsBlock b → IsEpochOf b.space e
+    → is_after nat_lt (option_map (λ (x : EpochLine). x.epoch.0) (last_of b.epochs)) e.epoch.0 ≡ true
+    → IsBlock (record b { epochs = b.epochs ++ e ∷ [] })
 epoch_more b e is of follows = record {
   space = is.space;
   calls = is.calls;
@@ -179,7 +194,8 @@ pub record IsSettled (d : Draft) : Type 0 where
   pub section : d.section ≡ sections.Body
   pub nothing : d.pending ≡ opens.Nothing
 
-pub rows_called : (space : Space) (c : CallLine) (rows : List Row) → IsCallOf space c → c.answer ≡ Some (an_answer.Rows []) → All (IsRow space) rows → length rows < 2 ^ 64 → IsCallOf space (with_rows c rows)
+pub rows_called : (space : Space) (c : CallLine) (rows : List Row) → IsCallOf space c
+    → c.answer ≡ Some (an_answer.Rows []) → All (IsRow space) rows → length rows < 2 ^ 64 → IsCallOf space (with_rows c rows)
 rows_called space c rows is same all few = record {
   caller = is.caller;
   begin = is.begin;
@@ -196,7 +212,16 @@ some_items key items h e = absurd (let q : is_none items ≡ true = ap is_none e
 
 settled_by : (d e : Draft) (o : Open) → d.section ≡ sections.Body → HasFront d → IsBlock d.block → IsOpen d o → settled_from d o ≡ Some e → IsSettled e
 settled_by d e opens.Nothing body front is pending h =
-    subst IsSettled (some_is (record d { pending = opens.Nothing }) e h) (record { body = record { front = record { version = front.version; blocks = front.blocks }; block = is; pending = tt }; section = body; nothing = refl })
+    subst IsSettled (some_is (record d { pending = opens.Nothing }) e h)
+    (record {
+      body = record {
+        front = record { version = front.version; blocks = front.blocks };
+        block = is;
+        pending = tt;
+      };
+      section = body;
+      nothing = refl;
+    })
 settled_by d e (opens.Rows c rows left) body front is pending h =
     let w = where_so (eqb left 0) (Some (with_call d (with_rows c rows))) e h in
     let none : left ≡ 0 = eqb-true left 0 w.0 in
@@ -217,7 +242,9 @@ settled_by d e (opens.History key items) body front is pending h = by (is_none i
     by false q f = subst IsSettled (some_is (with_history d (record { key = key; items = items })) e f) (record {
       body = record {
         front = record { version = front.version; blocks = front.blocks };
-        block = history_more d.block (record { key = key; items = items }) is (record { key = pending.fits; said = pending.said; some = some_items key items q; items = pending.all }) pending.follows;
+        block = history_more d.block (record { key = key; items = items }) is
+            (record { key = pending.fits; said = pending.said; some = some_items key items q; items = pending.all })
+            pending.follows;
         pending = tt;
       };
       section = body;
@@ -234,7 +261,11 @@ in_body e body is = record { good = subst (IsGoodIn e) (sym body) is }
 
 -- a body whose block is another
 body_with : (d : Draft) (b : Block) → IsSettled d → IsBlock b → HasBody (record d { block = b })
-body_with d b is good = record { front = record { version = is.body.front.version; blocks = is.body.front.blocks }; block = good; pending = subst (IsOpen (record d { block = b })) (sym is.nothing) tt }
+body_with d b is good = record {
+  front = record { version = is.body.front.version; blocks = is.body.front.blocks };
+  block = good;
+  pending = subst (IsOpen (record d { block = b })) (sym is.nothing) tt;
+}
 
 call_good : (d e : Draft) (line : List ℕ) → IsSettled d → call_after line d ≡ Some e → IsGood e
 call_good d e line is h =
@@ -251,15 +282,18 @@ call_good d e line is h =
       pending = tt;
     }))
 
-    waiting : (x : CallHead) → IsHead d.block.space x → follows_caller d x.call.caller ≡ true → no_histories d ≡ true → x.call.answer ≡ Some (an_answer.Rows []) → Some (record d { pending = opens.Rows x.call [] x.rows }) ≡ Some e → IsGood e
+    waiting : (x : CallHead) → IsHead d.block.space x → follows_caller d x.call.caller ≡ true → no_histories d ≡ true
+        → x.call.answer ≡ Some (an_answer.Rows []) → Some (record d { pending = opens.Rows x.call [] x.rows }) ≡ Some e → IsGood e
     waiting x v f none a g =
-        subst IsGood (some_is (record d { pending = opens.Rows x.call [] x.rows }) e g) (in_body (record d { pending = opens.Rows x.call [] x.rows }) is.section (record {
+        subst IsGood (some_is (record d { pending = opens.Rows x.call [] x.rows }) e g)
+        (in_body (record d { pending = opens.Rows x.call [] x.rows }) is.section (record {
           front = record { version = is.body.front.version; blocks = is.body.front.blocks };
           block = is.body.block;
           pending = record { call = v.call; answer = a; all = All-nil (IsRow d.block.space); few = omega (arith, v.rows); follows = f; before = none };
         }))
 
-    by : (x : CallHead) → IsHead d.block.space x → follows_caller d x.call.caller ≡ true → no_histories d ≡ true → (o : Option Answer) → x.call.answer ≡ o → Some (begun d x o) ≡ Some e → IsGood e
+    by : (x : CallHead) → IsHead d.block.space x → follows_caller d x.call.caller ≡ true → no_histories d ≡ true
+        → (o : Option Answer) → x.call.answer ≡ o → Some (begun d x o) ≡ Some e → IsGood e
     by x v f none None q g = plain x v f g
     by x v f none (Some an_answer.Done) q g = plain x v f g
     by x v f none (Some an_answer.NotFound) q g = plain x v f g
@@ -280,12 +314,15 @@ pub not_none : (n : ℕ) → eqb n 0 ≡ false → 0 < n
 not_none zero q = absurd cc
 not_none (suc n) q = omega arith
 
-row_good : (d e : Draft) (line : List ℕ) (o : Open) → d.section ≡ sections.Body → HasFront d → IsBlock d.block → IsOpen d o → row_line_in d line o ≡ Some e → IsGood e
+row_good : (d e : Draft) (line : List ℕ) (o : Open) → d.section ≡ sections.Body → HasFront d → IsBlock d.block
+    → IsOpen d o → row_line_in d line o ≡ Some e → IsGood e
 row_good d e line opens.Nothing body front is pending h = absurd cc
 row_good d e line (opens.History key items) body front is pending h = absurd cc
 row_good d e line (opens.Rows c rows left) body front is pending h = by (eqb left 0) refl h
   where
-    by : (b : Bool) → eqb left 0 ≡ b → cond b None (on_some (row_of d.block.space line) (λ r. Some (record d { pending = opens.Rows c (rows ++ r ∷ []) (left - 1) }))) ≡ Some e → IsGood e
+    by : (b : Bool) → eqb left 0 ≡ b → cond b None
+        (on_some (row_of d.block.space line) (λ r. Some
+        (record d { pending = opens.Rows c (rows ++ r ∷ []) (left - 1) }))) ≡ Some e → IsGood e
     by true q f = absurd cc
     by false q f =
         let b = bound (row_of d.block.space line) (λ r. Some (record d { pending = opens.Rows c (rows ++ r ∷ []) (left - 1) })) e f in
@@ -317,16 +354,24 @@ key_good d e line is h =
       pending = record { fits = v.0.0; said = v.0.1; all = All-nil (IsItemOf d.block.space); follows = f.0; before = w.0 };
     }))
 
-item_good : (d e : Draft) (line : List ℕ) (o : Open) → d.section ≡ sections.Body → HasFront d → IsBlock d.block → IsOpen d o → item_line_in d line o ≡ Some e → IsGood e
+item_good : (d e : Draft) (line : List ℕ) (o : Open) → d.section ≡ sections.Body → HasFront d → IsBlock d.block
+    → IsOpen d o → item_line_in d line o ≡ Some e → IsGood e
 item_good d e line opens.Nothing body front is pending h = absurd cc
 item_good d e line (opens.Rows c rows left) body front is pending h = absurd cc
 item_good d e line (opens.History key items) body front is pending h =
     let b = bound (item_of d.block.space line) (λ x. Some (record d { pending = opens.History key (items ++ x ∷ []) })) e h in
     let v = item_valid d.block.space line b.0 is.space.valid b.1 in
-    subst IsGood (some_is (record d { pending = opens.History key (items ++ b.0 ∷ []) }) e b.2) (in_body (record d { pending = opens.History key (items ++ b.0 ∷ []) }) body (record {
+    subst IsGood (some_is (record d { pending = opens.History key (items ++ b.0 ∷ []) }) e b.2)
+    (in_body (record d { pending = opens.History key (items ++ b.0 ∷ []) }) body (record {
       front = record { version = front.version; blocks = front.blocks };
       block = is;
-      pending = record { fits = pending.fits; said = pending.said; all = All-push (IsItemOf d.block.space) items b.0 pending.all v.0; follows = pending.follows; before = pending.before };
+      pending = record {
+        fits = pending.fits;
+        said = pending.said;
+        all = All-push (IsItemOf d.block.space) items b.0 pending.all v.0;
+        follows = pending.follows;
+        before = pending.before;
+      };
     }))
 
 epoch_good : (d e : Draft) (line : List ℕ) → IsSettled d → epoch_after line d ≡ Some e → IsGood e
@@ -336,7 +381,8 @@ epoch_good d e line is h =
     let v = epoch_valid d.block.space line b.0 b.1 in
     let new : Block = record d.block { epochs = d.block.epochs ++ b.0 ∷ [] } in
     let f = where_so (follows_epoch d b.0.epoch.0) (Some (record d { block = new })) e b.2 in
-    subst IsGood (some_is (record d { block = new }) e f.1) (in_body (record d { block = new }) is.section (body_with d new is (epoch_more d.block b.0 is.body.block v.0 f.0)))
+    subst IsGood (some_is (record d { block = new }) e f.1)
+    (in_body (record d { block = new }) is.section (body_with d new is (epoch_more d.block b.0 is.body.block v.0 f.0)))
 
 -- a line of a text has no newline
 abbrev pub IsOneLine : List ℕ → Type 0
@@ -349,14 +395,16 @@ raw_good d e line one is h =
     let v = raw_valid line b.0 b.1 in
     let new : Block = record d.block { raw = d.block.raw ++ b.0 ∷ [] } in
     let raw : IsRawLine b.0 = record { begins = v.0.begins; one_line = subst IsOneLine (sym v.1) one; utf8 = v.0.utf8 } in
-    subst IsGood (some_is (record d { block = new }) e b.2) (in_body (record d { block = new }) is.section (body_with d new is (raw_more d.block b.0 is.body.block raw)))
+    subst IsGood (some_is (record d { block = new }) e b.2)
+    (in_body (record d { block = new }) is.section (body_with d new is (raw_more d.block b.0 is.body.block raw)))
 
 driver_good : (d e : Draft) (line : List ℕ) → IsSettled d → driver_after line d ≡ Some e → IsGood e
 driver_good d e line is h =
     let b = bound (driver_of line) (put_driver d) e h in
     let v = driver_valid line b.0 b.1 in
     let new : Block = record d.block { drivers = d.block.drivers ++ b.0 ∷ [] } in
-    subst IsGood (some_is (record d { block = new }) e b.2) (in_body (record d { block = new }) is.section (body_with d new is (driver_more d.block b.0 is.body.block v.0)))
+    subst IsGood (some_is (record d { block = new }) e b.2)
+    (in_body (record d { block = new }) is.section (body_with d new is (driver_more d.block b.0 is.body.block v.0)))
 
 -- ---- lines of the space, and between blocks
 
@@ -366,8 +414,17 @@ head_good d e line front h =
     let s = bound (space_of ((d.head ++ line ++ 10 ∷ []) ++ r.0)) (λ space. Some (with_space d (d.head ++ line ++ 10 ∷ []) r.0 space)) e r.2 in
     by r.0 s.0 (space_valid ((d.head ++ line ++ 10 ∷ []) ++ r.0) s.0 s.1) (some_is (with_space d (d.head ++ line ++ 10 ∷ []) r.0 s.0) e s.2)
   where
-    by : (rest : List ℕ) (space : Space) → IsSpaceValue space × (space_text space ≡ (d.head ++ line ++ 10 ∷ []) ++ rest) → with_space d (d.head ++ line ++ 10 ∷ []) rest space ≡ e → IsGood e
-    by [] space v q = subst IsGood q (record { good = record { front = record { version = front.version; blocks = front.blocks }; block = block_begun space v.0; pending = tt } })
+    by : (rest : List ℕ) (space : Space) → IsSpaceValue space
+        × (space_text space ≡ (d.head ++ line ++ 10 ∷ []) ++ rest)
+        → with_space d (d.head ++ line ++ 10 ∷ []) rest space ≡ e → IsGood e
+    by [] space v q = subst IsGood q (record {
+      good =
+          record {
+            front = record { version = front.version; blocks = front.blocks };
+            block = block_begun space v.0;
+            pending = tt;
+          };
+    })
     by (b ∷ rest) space v q = subst IsGood q (record { good = (record { version = front.version; blocks = front.blocks }, (space, v.0, (b ∷ rest, v.1))) })
 
 blocks_more : (d : Draft) → IsSettled d → All IsBlock (d.blocks ++ d.block ∷ [])
@@ -380,7 +437,8 @@ counted version blocks b (inr two) = inr (two, omega (arith, length-append block
 end_good : (d e : Draft) (line : List ℕ) → IsSettled d → end_after line d ≡ Some e → IsGood e
 end_good d e line is h =
     let w = where_so (bytes_eq line (codes "end")) (Some (record (closed d) { section = sections.Over })) e h in
-    subst IsGood (some_is (record (closed d) { section = sections.Over }) e w.1) (record { good = record { count = counted d.version d.blocks d.block is.body.front.version; blocks = blocks_more d is } })
+    subst IsGood (some_is (record (closed d) { section = sections.Over }) e w.1)
+    (record { good = record { count = counted d.version d.blocks d.block is.body.front.version; blocks = blocks_more d is } })
 
 next_good : (d e : Draft) (line : List ℕ) → IsSettled d → next_after line d ≡ Some e → IsGood e
 next_good d e line is h =
@@ -412,7 +470,16 @@ least_fits = record {
 version_good : (d e : Draft) (line : List ℕ) → d.blocks ≡ [] → d.head ≡ [] → version_line d line ≡ Some e → IsGood e
 version_good d e line none empty h =
     let b = bound (version_of line) (λ version. Some (record d { section = sections.Head; version = version })) e h in
-    subst IsGood (some_is (record d { section = sections.Head; version = b.0 }) e b.2) (record { good = (record { version = by (bytes_eq line (codes "report 1")) b.1; blocks = subst (All IsBlock) (sym none) (All-nil IsBlock) }, subst HeadOpens (sym empty) (least_space, least_fits, (space_text least_space, refl))) })
+    subst IsGood (some_is (record d { section = sections.Head; version = b.0 }) e b.2)
+    (record {
+      good = (
+        record {
+          version = by (bytes_eq line (codes "report 1")) b.1;
+          blocks = subst (All IsBlock) (sym none) (All-nil IsBlock);
+        },
+        subst HeadOpens (sym empty) (least_space, least_fits, (space_text least_space, refl)),
+      );
+    })
   where
     two : (b : Bool) (n : ℕ) → cond b (Some 2) None ≡ Some n → MayFollow n d.blocks
     two true n q = inr (sym (some_is 2 n q))

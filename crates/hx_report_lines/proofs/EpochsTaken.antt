@@ -1,5 +1,7 @@
 -- Lines of configurations that are printed are read again.
-use Rattle.std.proofs.Common.{◌≡◌, ℕ, zero, suc, ◌+◌, ◌-◌, ◌^◌, ◌<◌, ◌≤◌, Bool, true, false, cond, not, ◌&&◌, List, [], ◌∷◌, ◌++◌, map, length, take, drop, eqb, leb, ltb, Option, None, Some, refl, sym, ap, subst, ◌∙◌, arith}
+use Rattle.std.proofs.Common.{◌≡◌, ℕ, zero, suc, ◌+◌, ◌-◌, ◌^◌, ◌<◌, ◌≤◌, Bool, true, false, cond, not, ◌&&◌, List, []}
+use Rattle.std.proofs.Common.{◌∷◌, ◌++◌, map, length, take, drop, eqb, leb, ltb, Option, None, Some, refl, sym, ap}
+use Rattle.std.proofs.Common.{subst, ◌∙◌, arith}
 use Rattle.std.specs.Prelude.{codes, nat_eq, nat_lt}
 use Rattle.std.specs.Fmt.{decimal}
 use Rattle.std.specs.List.{All, flat_map, list_all, starts_with}
@@ -47,14 +49,18 @@ long_enough [] rest = omega arith
 long_enough (n ∷ ns) rest =
     let k = long_enough ns rest in
     let s = some_bytes n in
-    let e : length (next_number_text n ++ flat_map next_number_text ns ++ rest) ≡ length (next_number_text n) + length (flat_map next_number_text ns ++ rest) = ap length (append_assoc (next_number_text n) (flat_map next_number_text ns) rest) ∙ length-append (next_number_text n) (flat_map next_number_text ns ++ rest) in
+    let e : length (next_number_text n ++ flat_map next_number_text ns ++ rest)
+    ≡ length (next_number_text n) + length (flat_map next_number_text ns ++ rest) =
+    ap length (append_assoc (next_number_text n) (flat_map next_number_text ns) rest)
+    ∙ length-append (next_number_text n) (flat_map next_number_text ns ++ rest) in
     omega (arith, k, s, e)
 
 next_is : (n : ℕ) (more rest : List ℕ) → (next_number_text n ++ more) ++ rest ≡ codes "," ++ (decimal n ++ (more ++ rest))
 unfolding next_number_text
 next_is n more rest = append_assoc (codes "," ++ decimal n) more rest ∙ append_assoc (codes ",") (decimal n) (more ++ rest)
 
-after_takes : (ns : List ℕ) (most : ℕ) (front rest : List ℕ) → All Is32 ns → length ns ≤ most → Stops rest → numbers_after most front (flat_map next_number_text ns ++ rest) ≡ Some (front ++ ns, rest)
+after_takes : (ns : List ℕ) (most : ℕ) (front rest : List ℕ) → All Is32 ns → length ns ≤ most → Stops rest
+    → numbers_after most front (flat_map next_number_text ns ++ rest) ≡ Some (front ++ ns, rest)
 after_takes [] most front rest all few stop = no_comma most front rest stop.comma ∙ ap (λ f. Some (f, rest)) (sym (append-nil front))
 after_takes (n ∷ ns) most front rest all few stop =
     let more : List ℕ = flat_map next_number_text ns ++ rest in
@@ -62,7 +68,8 @@ after_takes (n ∷ ns) most front rest all few stop =
     let s = short_takes n more (All-head Is32 n ns all) (after_one ns rest stop) in
     let k : length ns ≤ most - 1 = omega (arith, few) in
     ap (numbers_after most front) text
-    ∙ one_number most n front (codes "," ++ (decimal n ++ more)) (decimal n ++ more) more (omega (arith, few)) (starts (codes ",") (decimal n ++ more)) (word_takes (codes ",") (decimal n ++ more)).at s.at
+    ∙ one_number most n front (codes "," ++ (decimal n ++ more)) (decimal n ++ more) more (omega (arith, few))
+    (starts (codes ",") (decimal n ++ more)) (word_takes (codes ",") (decimal n ++ more)).at s.at
     ∙ after_takes ns (most - 1) (front ++ n ∷ []) rest (All-tail Is32 n ns all) k stop
     ∙ ap (λ f. Some (f, rest)) (append_assoc front (n ∷ []) ns)
 
@@ -122,7 +129,9 @@ small_region most n few below = omega (arith, few, below)
 pub few_regions : (space : Space) (gs : List RegionId) → IsSpace space → All (IsRegionOf space) gs → All Is32 (map (λ (g : RegionId). g.0) gs)
 few_regions space [] is all = All-nil Is32
 few_regions space (g ∷ gs) is all =
-    All-cons Is32 g.0 (map (λ (g : RegionId). g.0) gs) (small_region (region_count space) g.0 is.regions (All-head (IsRegionOf space) g gs all)) (few_regions space gs is (All-tail (IsRegionOf space) g gs all))
+    All-cons Is32 g.0 (map (λ (g : RegionId). g.0) gs)
+    (small_region (region_count space) g.0 is.regions (All-head (IsRegionOf space) g gs all))
+    (few_regions space gs is (All-tail (IsRegionOf space) g gs all))
 
 regions_below : (space : Space) (gs : List RegionId) → All (IsRegionOf space) gs → all_below (region_count space) (map (λ (g : RegionId). g.0) gs) ≡ true
 regions_below space [] all = refl
@@ -133,42 +142,60 @@ regions_below space (g ∷ gs) all =
 all_true : (a b c : Bool) → a ≡ true → b ≡ true → c ≡ true → (a && b && c) ≡ true
 all_true a b c p q r = rw (p, q, r) refl
 
-ascend_up : (space : Space) (last : ℕ) (ss : List ServerId) → All (IsServerOf space) ss → AscendsFrom nat_lt (Some last) (map (λ (s : ServerId). s.0) ss) → ascend_to last space.servers (map (λ (s : ServerId). s.0) ss) ≡ true
+ascend_up : (space : Space) (last : ℕ) (ss : List ServerId) → All (IsServerOf space) ss
+    → AscendsFrom nat_lt (Some last) (map (λ (s : ServerId). s.0) ss)
+    → ascend_to last space.servers (map (λ (s : ServerId). s.0) ss) ≡ true
 ascend_up space last [] all a = refl
 ascend_up space last (s ∷ ss) all a =
-    all_true (ltb last s.0) (leb s.0 space.servers) (ascend_to s.0 space.servers (map (λ (s : ServerId). s.0) ss)) a.0 (le-leb s.0 space.servers (All-head (IsServerOf space) s ss all).1) (ascend_up space s.0 ss (All-tail (IsServerOf space) s ss all) a.1)
+    all_true (ltb last s.0) (leb s.0 space.servers) (ascend_to s.0 space.servers (map (λ (s : ServerId). s.0) ss)) a.0
+    (le-leb s.0 space.servers (All-head (IsServerOf space) s ss all).1)
+    (ascend_up space s.0 ss (All-tail (IsServerOf space) s ss all) a.1)
 
-ascend_first : (space : Space) (ss : List ServerId) → All (IsServerOf space) ss → AscendsFrom nat_lt None (map (λ (s : ServerId). s.0) ss) → ascend_to 0 space.servers (map (λ (s : ServerId). s.0) ss) ≡ true
+ascend_first : (space : Space) (ss : List ServerId) → All (IsServerOf space) ss
+    → AscendsFrom nat_lt None (map (λ (s : ServerId). s.0) ss) → ascend_to 0 space.servers (map (λ (s : ServerId). s.0) ss) ≡ true
 ascend_first space [] all a = refl
 ascend_first space (s ∷ ss) all a =
     let here = All-head (IsServerOf space) s ss all in
-    all_true (ltb 0 s.0) (leb s.0 space.servers) (ascend_to s.0 space.servers (map (λ (s : ServerId). s.0) ss)) (lt-ltb 0 s.0 here.0) (le-leb s.0 space.servers here.1) (ascend_up space s.0 ss (All-tail (IsServerOf space) s ss all) a.1)
+    all_true (ltb 0 s.0) (leb s.0 space.servers) (ascend_to s.0 space.servers (map (λ (s : ServerId). s.0) ss))
+    (lt-ltb 0 s.0 here.0) (le-leb s.0 space.servers here.1)
+    (ascend_up space s.0 ss (All-tail (IsServerOf space) s ss all) a.1)
 
 -- the line of a configuration, without its newline
 abbrev pub epoch_front : EpochLine → List ℕ
 epoch_front e = codes "epoch " ++ decimal e.epoch.0 ++ servers_text e ++ lost_text e
 
 epoch_at : (space : Space) (e : EpochLine) → IsSpace space → IsEpochOf space e
-    → Takes (epoch_in space) (codes "epoch " ++ (decimal e.epoch.0 ++ (codes " servers " ++ (numbers_text (server_numbers e) ++ (codes " lost " ++ (numbers_text (lost_numbers e) ++ [])))))) e []
+    → Takes (epoch_in space) (codes "epoch " ++ (decimal e.epoch.0
+    ++ (codes " servers " ++ (numbers_text (server_numbers e) ++ (codes " lost " ++ (numbers_text (lost_numbers e) ++ [])))))) e []
 unfolding epoch_in
 epoch_at space e valid is =
     let lost : List ℕ = numbers_text (lost_numbers e) ++ [] in
     let label : List ℕ = codes " lost " ++ lost in
     let servers : List ℕ = numbers_text (server_numbers e) ++ label in
-    let same : e ≡ record { epoch = record { 0 = e.epoch.0 }; servers = map (λ n. record { 0 = n }) (server_numbers e); lost = map (λ n. record { 0 = n }) (lost_numbers e) } =
+    let same : e ≡ record {
+      epoch = record { 0 = e.epoch.0 };
+      servers = map (λ n. record { 0 = n }) (server_numbers e);
+      lost = map (λ n. record { 0 = n }) (lost_numbers e);
+    } =
     ap (λ (ss : List ServerId). record e { servers = ss }) (sym (servers_again e.servers))
     ∙ ap (λ (gs : List RegionId). record e { servers = map (λ n. record { 0 = n }) (server_numbers e); lost = gs }) (sym (regions_again e.lost)) in
     takes_then _ tt (decimal e.epoch.0 ++ (codes " servers " ++ servers)) (word_takes (codes "epoch ") (decimal e.epoch.0 ++ (codes " servers " ++ servers)))
     (takes_then _ e.epoch.0 (codes " servers " ++ servers) (number_takes e.epoch.0 (codes " servers " ++ servers) is.epoch refl)
     (takes_then _ tt servers (word_takes (codes " servers ") servers)
-    (takes_then _ (server_numbers e) label (numbers_take (server_numbers e) label (few_servers space e.servers valid is.servers) (record { digit = refl; comma = refl }))
+    (takes_then _ (server_numbers e) label (numbers_take (server_numbers e) label
+    (few_servers space e.servers valid is.servers) (record { digit = refl; comma = refl }))
     (takes_then _ tt label (check_takes (ascend_to 0 space.servers (server_numbers e)) label (ascend_first space e.servers is.servers is.ascend))
     (takes_then _ tt lost (word_takes (codes " lost ") lost)
     (takes_then _ (lost_numbers e) [] (numbers_take (lost_numbers e) [] (few_regions space e.lost valid is.lost) (record { digit = refl; comma = refl }))
     (takes_then _ tt [] (check_takes (all_below (region_count space) (lost_numbers e)) [] (regions_below space e.lost is.lost))
-    (subst (λ (x : EpochLine). Takes (give (record { epoch = record { 0 = e.epoch.0 }; servers = map (λ n. record { 0 = n }) (server_numbers e); lost = map (λ n. record { 0 = n }) (lost_numbers e) })) [] x []) (sym same) (takes_give _ [])))))))))
+    (subst (λ (x : EpochLine). Takes (give (record {
+      epoch = record { 0 = e.epoch.0 };
+      servers = map (λ n. record { 0 = n }) (server_numbers e);
+      lost = map (λ n. record { 0 = n }) (lost_numbers e);
+    })) [] x []) (sym same) (takes_give _ [])))))))))
 
-epoch_parts : (e : EpochLine) → epoch_front e ≡ codes "epoch " ++ (decimal e.epoch.0 ++ (codes " servers " ++ (numbers_text (server_numbers e) ++ (codes " lost " ++ (numbers_text (lost_numbers e) ++ [])))))
+epoch_parts : (e : EpochLine) → epoch_front e ≡ codes "epoch "
+    ++ (decimal e.epoch.0 ++ (codes " servers " ++ (numbers_text (server_numbers e) ++ (codes " lost " ++ (numbers_text (lost_numbers e) ++ [])))))
 unfolding servers_text lost_text
 epoch_parts e =
     let ss : List ℕ = numbers_text (server_numbers e) in

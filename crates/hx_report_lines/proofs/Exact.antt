@@ -1,5 +1,6 @@
 -- A report's text is read, and where a text is refused none begins with the lines up to there.
-use Rattle.std.proofs.Common.{◌≡◌, ◌≢◌, ℕ, suc, ◌+◌, ◌-◌, ◌<◌, ◌≤◌, Bool, true, false, cond, ◌&&◌, List, [], ◌∷◌, ◌++◌, length, take, drop, Some, Ok, Err, inl, inr, refl, sym, ap, subst, ◌∙◌, arith}
+use Rattle.std.proofs.Common.{◌≡◌, ◌≢◌, ℕ, suc, ◌+◌, ◌-◌, ◌<◌, ◌≤◌, Bool, true, false, cond, ◌&&◌, List, [], ◌∷◌, ◌++◌}
+use Rattle.std.proofs.Common.{length, take, drop, Some, Ok, Err, inl, inr, refl, sym, ap, subst, ◌∙◌, arith}
 use Rattle.std.specs.Prelude.{◌⊎◌}
 use Rattle.std.proofs.lemmas.Bool.{cases_lt}
 use Rattle.std.proofs.lemmas.List.{append-nil, length-take, take-append-drop}
@@ -43,7 +44,8 @@ none_begins text line h within b =
     let t = all_taken b.0 b.1 in
     let m = taken_front empty_draft t.0 front b.2.0 (ap (taken empty_draft) (sym b.2.1) ∙ t.1) in
     let past : read_lines (ends_whole text) 0 empty_draft ls ≡ read_lines (ends_whole text) (0 + length front) m.0 (drop line ls) =
-    ap (read_lines (ends_whole text) 0 empty_draft) (sym (take-append-drop line ls)) ∙ reads_past (ends_whole text) 0 empty_draft m.0 front (drop line ls) m.1 in
+    ap (read_lines (ends_whole text) 0 empty_draft) (sym (take-append-drop line ls))
+    ∙ reads_past (ends_whole text) 0 empty_draft m.0 front (drop line ls) m.1 in
     let later : 0 + length front < line = errs_later (ends_whole text) (0 + length front) line m.0 (drop line ls) (sym past ∙ h) in
     absurd (omega (arith, later, within, length-take line ls))
 
@@ -57,6 +59,7 @@ unread_at text line h =
       first = by (cases_lt (length (lines_of text)) line) begun.within.1;
     }
   where
-    by : ((length (lines_of text) < line) ⊎ (line ≤ length (lines_of text))) → line ≤ length (lines_of text) + 1 → ((line ≤ length (lines_of text)) × ¬ Begins (take line (lines_of text))) ⊎ (line ≡ length (lines_of text) + 1)
+    by : ((length (lines_of text) < line) ⊎ (line ≤ length (lines_of text))) → line ≤ length (lines_of text) + 1
+        → ((line ≤ length (lines_of text)) × ¬ Begins (take line (lines_of text))) ⊎ (line ≡ length (lines_of text) + 1)
     by (inl past) within = inr (omega (arith, past, within))
     by (inr here) within = inl (here, none_begins text line h here)

@@ -1,5 +1,6 @@
 -- Lines that are all read, one after the other.
-use Rattle.std.proofs.Common.{◌≡◌, ◌≢◌, ℕ, suc, ◌+◌, ◌<◌, Bool, true, false, cond, ◌&&◌, List, [], ◌∷◌, ◌++◌, length, Option, None, Some, Ok, Err, Result, refl, sym, ap, subst, ◌∙◌, arith}
+use Rattle.std.proofs.Common.{◌≡◌, ◌≢◌, ℕ, suc, ◌+◌, ◌<◌, Bool, true, false, cond, ◌&&◌, List, [], ◌∷◌, ◌++◌, length}
+use Rattle.std.proofs.Common.{Option, None, Some, Ok, Err, Result, refl, sym, ap, subst, ◌∙◌, arith}
 use Rattle.std.specs.List.{All, flat_map}
 use Rattle.std.proofs.lemmas.List.{append_assoc, append-nil, length-append}
 use Rattle.std.proofs.lemmas.List.Concat.{flat_map-append}
@@ -22,7 +23,9 @@ pub taken_then : (d m : Draft) (front rest : List (List ℕ)) → taken d front 
 taken_then d m [] rest h = ap (λ (x : Draft). taken x rest) (let q : d ≡ m = cc in q)
 taken_then d m (l ∷ front) rest h = by (after_line d l) h (λ e. taken_then e m front rest)
   where
-    by : (o : Option Draft) → on_some o (λ e. taken e front) ≡ Some m → ((e : Draft) → taken e front ≡ Some m → taken e (front ++ rest) ≡ taken m rest) → on_some o (λ e. taken e (front ++ rest)) ≡ taken m rest
+    by : (o : Option Draft) → on_some o (λ e. taken e front) ≡ Some m
+        → ((e : Draft) → taken e front ≡ Some m → taken e (front ++ rest) ≡ taken m rest)
+        → on_some o (λ e. taken e (front ++ rest)) ≡ taken m rest
     by None f k = absurd cc
     by (Some e) f k = k e f
 
@@ -31,12 +34,15 @@ pub taken_front : (d e : Draft) (front rest : List (List ℕ)) → taken d (fron
 taken_front d e [] rest h = (d, refl)
 taken_front d e (l ∷ front) rest h = by (after_line d l) h (λ m. taken_front m e front rest)
   where
-    by : (o : Option Draft) → on_some o (λ m. taken m (front ++ rest)) ≡ Some e → ((m : Draft) → taken m (front ++ rest) ≡ Some e → (x : Draft) × (taken m front ≡ Some x)) → (x : Draft) × (on_some o (λ m. taken m front) ≡ Some x)
+    by : (o : Option Draft) → on_some o (λ m. taken m (front ++ rest)) ≡ Some e
+        → ((m : Draft) → taken m (front ++ rest) ≡ Some e → (x : Draft) × (taken m front ≡ Some x)) → (x : Draft)
+        × (on_some o (λ m. taken m front) ≡ Some x)
     by None f k = absurd cc
     by (Some m) f k = k m f
 
 -- reading goes on behind them
-pub reads_past : (whole : Bool) (n : ℕ) (d e : Draft) (front rest : List (List ℕ)) → taken d front ≡ Some e → read_lines whole n d (front ++ rest) ≡ read_lines whole (n + length front) e rest
+pub reads_past : (whole : Bool) (n : ℕ) (d e : Draft) (front rest : List (List ℕ)) → taken d front ≡ Some e
+    → read_lines whole n d (front ++ rest) ≡ read_lines whole (n + length front) e rest
 unfolding read_lines
 reads_past whole n d e [] rest h =
     let none : n ≡ n + length {A = List ℕ} [] = omega arith in
@@ -46,7 +52,9 @@ reads_past whole n d e (l ∷ front) rest h = by (after_line d l) h (λ m. reads
     more : n + 1 + length front ≡ n + length (l ∷ front)
     more = omega arith
 
-    by : (o : Option Draft) → on_some o (λ m. taken m front) ≡ Some e → ((m : Draft) → taken m front ≡ Some e → read_lines whole (n + 1) m (front ++ rest) ≡ read_lines whole (n + 1 + length front) e rest)
+    by : (o : Option Draft) → on_some o (λ m. taken m front) ≡ Some e
+        → ((m : Draft) → taken m front ≡ Some e → read_lines whole (n + 1) m (front ++ rest)
+        ≡ read_lines whole (n + 1 + length front) e rest)
         → on_draft o (n + 1) (λ m. read_lines whole (n + 1) m (front ++ rest)) ≡ read_lines whole (n + length (l ∷ front)) e rest
     by None f k = absurd cc
     by (Some m) f k = k m f ∙ ap (λ x. read_lines whole x e rest) more
@@ -61,7 +69,8 @@ errs_later whole n line d [] h = by (is_over d.section && whole) h
     by false f = let q : n + 1 ≡ line = cc in omega (arith, q)
 errs_later whole n line d (l ∷ ls) h = by (after_line d l) h (λ m. errs_later whole (n + 1) line m ls)
   where
-    by : (o : Option Draft) → on_draft o (n + 1) (λ m. read_lines whole (n + 1) m ls) ≡ Err line → ((m : Draft) → read_lines whole (n + 1) m ls ≡ Err line → n + 1 < line) → n < line
+    by : (o : Option Draft) → on_draft o (n + 1) (λ m. read_lines whole (n + 1) m ls) ≡ Err line
+        → ((m : Draft) → read_lines whole (n + 1) m ls ≡ Err line → n + 1 < line) → n < line
     by None f k = let q : n + 1 ≡ line = cc in omega (arith, q)
     by (Some m) f k = let q = k m f in omega (arith, q)
 
@@ -96,7 +105,8 @@ steps_then d m e a b x y = record {
 -- the lines of such a text are read
 pub steps_lines : (d e : Draft) (text : List ℕ) → Steps d text e → taken d (lines_of text) ≡ Some e
 steps_lines d e text s =
-    let same : lines_of text ≡ s.lines = ap lines_of (s.cut ∙ sym (append-nil (flat_map with_newline s.lines))) ∙ lines_join s.lines [] s.one ∙ append-nil s.lines in
+    let same : lines_of text ≡ s.lines = ap lines_of (s.cut ∙ sym (append-nil (flat_map with_newline s.lines)))
+    ∙ lines_join s.lines [] s.one ∙ append-nil s.lines in
     ap (taken d) same ∙ s.read
 
 -- ---- within a block

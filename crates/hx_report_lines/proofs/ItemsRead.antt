@@ -14,7 +14,8 @@ use Rattle.hx_report_lines.specs.Parts.{caller, if_same, item_answer, item_front
 use Rattle.hx_report_lines.specs.Printed.{item_text, key_text}
 use Rattle.hx_report_lines.specs.Readers.{word}
 use Rattle.hx_report_lines.specs.Values.{Is32, Is64, IsCaller, IsItemOf}
-use Rattle.hx_report_lines.proofs.Taken.{Any, Tells, bound, mapped, some_is, tells_any, tells_check, tells_give, tells_number, tells_short, tells_then, where_so}
+use Rattle.hx_report_lines.proofs.Taken.{Any, Tells, bound, mapped, some_is, tells_any, tells_check, tells_give}
+use Rattle.hx_report_lines.proofs.Taken.{tells_number, tells_short, tells_then, where_so}
 use Rattle.hx_report_lines.proofs.ValuesRead.{state_valid, text_valid}
 
 -- what was kept is printed so
@@ -54,7 +55,8 @@ tells_front =
     tells_then Any (tells_any item_answer) (λ w k.
     tells_give {Q = IsFront} (record { version = record { 0 = v }; caller = c; word = w; object = None }) (record { version = v64; caller = is }))))))
 
-pub item_valid : (space : Space) (line : List ℕ) (x : ItemLine) → IsSpace space → item_of space line ≡ Some x → IsItemOf space x × (item_text space x ≡ line ++ 10 ∷ [])
+pub item_valid : (space : Space) (line : List ℕ) (x : ItemLine) → IsSpace space → item_of space line ≡ Some x
+    → IsItemOf space x × (item_text space x ≡ line ++ 10 ∷ [])
 unfolding item_of
 item_valid space line x is e =
     let o = bound (item_in space line) (if_same (item_text space) line) x e in
@@ -65,7 +67,8 @@ item_valid space line x is e =
     let state = state_valid space f.0.1 s.0 is s.1 in
     (subst (IsItemOf space) p.0 (subst (IsItemOf space) s.2 (record { version = front.version; caller = front.caller; object = state.0; said = state.1 })), p.1)
 
-pub key_valid : (space : Space) (line key : List ℕ) → IsSpace space → key_of space line ≡ Some key → (KeyFits key × IsText key) × (key_text key ≡ line ++ 10 ∷ [])
+pub key_valid : (space : Space) (line key : List ℕ) → IsSpace space → key_of space line ≡ Some key
+    → (KeyFits key × IsText key) × (key_text key ≡ line ++ 10 ∷ [])
 unfolding key_of key_in
 key_valid space line key is e =
     let o = bound (key_in space line) (if_same key_text line) key e in

@@ -52,7 +52,8 @@ utf8_no bs never = by (is_utf8 bs) refl
     by false q = refl
 
 -- a list made of another's items, one item more
-pub map_more : {X A : Type 0} (f : X → A) (made : List A) (xs : List X) (i : ℕ) (x : X) → made ≡ map f (take i xs) → i < length xs → x ≡ get_or xs i x → made ++ f x ∷ [] ≡ map f (take (i + 1) xs)
+pub map_more : {X A : Type 0} (f : X → A) (made : List A) (xs : List X) (i : ℕ) (x : X) → made ≡ map f (take i xs)
+    → i < length xs → x ≡ get_or xs i x → made ++ f x ∷ [] ≡ map f (take (i + 1) xs)
 map_more f made xs i x so_far lt is =
     ap (λ m. m ++ f x ∷ []) so_far
     ∙ sym (ap (map f) (take_more xs i x lt ∙ ap (λ y. take i xs ++ y ∷ []) (sym is)) ∙ map-append f (take i xs) (x ∷ []))

@@ -9,11 +9,14 @@ use Rattle.hx_report_lines.specs.declared.drafts.Draft.{Draft}
 use Rattle.hx_report_lines.specs.Drafts.{after_line, finished, is_over, read_lines}
 use Rattle.hx_report_lines.proofs.DraftsRead.{IsOneLine}
 
-pub reads_on : (whole : Bool) (n : ℕ) (d : Draft) (rest line after : List ℕ) (e : Draft) → lines_of rest ≡ line ∷ lines_of after → after_line d line ≡ Some e → read_lines whole n d (lines_of rest) ≡ read_lines whole (n + 1) e (lines_of after)
+pub reads_on : (whole : Bool) (n : ℕ) (d : Draft) (rest line after : List ℕ) (e : Draft)
+    → lines_of rest ≡ line ∷ lines_of after → after_line d line ≡ Some e
+    → read_lines whole n d (lines_of rest) ≡ read_lines whole (n + 1) e (lines_of after)
 unfolding read_lines
 reads_on whole n d rest line after e s h = rw (s, h) refl
 
-pub reads_stop : (whole : Bool) (n : ℕ) (d : Draft) (rest line after : List ℕ) → lines_of rest ≡ line ∷ lines_of after → after_line d line ≡ None → read_lines whole n d (lines_of rest) ≡ Err (n + 1)
+pub reads_stop : (whole : Bool) (n : ℕ) (d : Draft) (rest line after : List ℕ) → lines_of rest ≡ line ∷ lines_of after
+    → after_line d line ≡ None → read_lines whole n d (lines_of rest) ≡ Err (n + 1)
 unfolding read_lines
 reads_stop whole n d rest line after s h = rw (s, h) refl
 

@@ -1,5 +1,7 @@
 -- Lines of histories, of the trace and of drivers that are printed are read again.
-use Rattle.std.proofs.Common.{◌≡◌, ℕ, suc, ◌^◌, ◌<◌, Bool, true, false, cond, not, ◌&&◌, ◌||◌, List, [], ◌∷◌, ◌++◌, length, take, drop, eqb, ltb, Option, None, Some, inl, inr, refl, sym, ap, subst, ◌∙◌, arith}
+use Rattle.std.proofs.Common.{◌≡◌, ℕ, suc, ◌^◌, ◌<◌, Bool, true, false, cond, not, ◌&&◌, ◌||◌, List, [], ◌∷◌, ◌++◌}
+use Rattle.std.proofs.Common.{length, take, drop, eqb, ltb, Option, None, Some, inl, inr, refl, sym, ap, subst, ◌∙◌}
+use Rattle.std.proofs.Common.{arith}
 use Rattle.std.specs.Prelude.{◌⊎◌, codes, nat_eq}
 use Rattle.std.specs.Fmt.{decimal}
 use Rattle.std.specs.List.{list_all, starts_with}
@@ -24,7 +26,8 @@ use Rattle.hx_report_lines.specs.Printed.{driver_text, item_head, item_text, key
 use Rattle.hx_report_lines.specs.Readers.{◌>>=◌, found, give, number, on_some, piece, short_number, word}
 use Rattle.hx_report_lines.specs.Tailing.{driver_in, driver_of, field, raw_of}
 use Rattle.hx_report_lines.specs.Values.{BeginsWith, Is64, IsDriverLine, IsItemOf, IsRawLine}
-use Rattle.hx_report_lines.proofs.Takes.{Takes, assoc5, assoc7, caller_takes, found_takes, kept, number_takes, piece_takes, short_takes, starts, takes_give, takes_then, word_takes}
+use Rattle.hx_report_lines.proofs.Takes.{Takes, assoc5, assoc7, caller_takes, found_takes, kept, number_takes}
+use Rattle.hx_report_lines.proofs.Takes.{piece_takes, short_takes, starts, takes_give, takes_then, word_takes}
 use Rattle.hx_report_lines.proofs.ValuesTaken.{state_taken, text_taken}
 
 -- ---- items
@@ -49,7 +52,8 @@ answer_takes : (w : ItemWord) (rest : List ℕ) → Takes item_answer (codes " "
 unfolding item_answer
 answer_takes w rest =
     takes_then _ tt (word_text w ++ (codes " " ++ rest)) (word_takes (codes " ") (word_text w ++ (codes " " ++ rest)))
-    (takes_then (λ p. found (item_word p) >>= (λ answer. word (codes " ") >>= (λ after. give answer))) (word_text w) (codes " " ++ rest) (piece_takes (word_text w) rest (no_blank w))
+    (takes_then (λ p. found (item_word p) >>= (λ answer. word (codes " ") >>= (λ after. give answer))) (word_text w)
+    (codes " " ++ rest) (piece_takes (word_text w) rest (no_blank w))
     (takes_then _ w (codes " " ++ rest) (found_takes (item_word (word_text w)) w (codes " " ++ rest) (word_again w))
     (takes_then _ tt rest (word_takes (codes " ") rest) (takes_give w rest))))
 
@@ -58,7 +62,8 @@ abbrev bare : ItemLine → ItemLine
 bare x = record { version = x.version; caller = x.caller; word = x.word; object = None }
 
 front_at : (space : Space) (x : ItemLine) (rest : List ℕ) → IsItemOf space x
-    → Takes item_front (codes "item " ++ (decimal x.version.0 ++ (codes " " ++ (caller_text x.caller ++ (codes " " ++ (word_text x.word ++ (codes " " ++ rest))))))) (bare x) rest
+    → Takes item_front (codes "item " ++ (decimal x.version.0
+    ++ (codes " " ++ (caller_text x.caller ++ (codes " " ++ (word_text x.word ++ (codes " " ++ rest))))))) (bare x) rest
 unfolding item_front
 front_at space x rest is =
     let d : List ℕ = codes " " ++ (word_text x.word ++ (codes " " ++ rest)) in
@@ -72,7 +77,9 @@ front_at space x rest is =
 front_takes : (space : Space) (x : ItemLine) (rest : List ℕ) → IsItemOf space x → Takes item_front (item_head x ++ rest) (bare x) rest
 unfolding item_head
 front_takes space x rest is =
-    subst (λ bs. Takes item_front bs (bare x) rest) (sym (assoc7 (codes "item ") (decimal x.version.0) (codes " ") (caller_text x.caller) (codes " ") (word_text x.word) (codes " ") rest)) (front_at space x rest is)
+    subst (λ bs. Takes item_front bs (bare x) rest)
+    (sym (assoc7 (codes "item ") (decimal x.version.0) (codes " ") (caller_text x.caller) (codes " ")
+    (word_text x.word) (codes " ") rest)) (front_at space x rest is)
 
 -- the line of an item, without its newline
 abbrev pub item_line : Space → ItemLine → List ℕ
@@ -104,7 +111,8 @@ key_taken space key valid fits said =
 utf8_is : (line : List ℕ) → IsUtf8 line → is_utf8 line ≡ true
 utf8_is line h = is_utf8-from_IsUtf8 line h
 
-begun : (line : List ℕ) → BeginsWith (codes "entry ") line ⊎ BeginsWith (codes "post ") line → (starts_with nat_eq line (codes "entry ") || starts_with nat_eq line (codes "post ")) ≡ true
+begun : (line : List ℕ) → BeginsWith (codes "entry ") line ⊎ BeginsWith (codes "post ") line
+    → (starts_with nat_eq line (codes "entry ") || starts_with nat_eq line (codes "post ")) ≡ true
 begun line (inl b) = ap (λ t. t || starts_with nat_eq line (codes "post ")) (ap (λ l. starts_with nat_eq l (codes "entry ")) b.1 ∙ starts (codes "entry ") b.0)
 begun line (inr b) = by (starts_with nat_eq line (codes "entry ")) (ap (λ l. starts_with nat_eq l (codes "post ")) b.1 ∙ starts (codes "post ") b.0)
   where
@@ -119,7 +127,8 @@ raw_taken line is =
 
 -- ---- drivers
 
-field_takes : (name : List ℕ) (n : ℕ) (rest : List ℕ) → Is64 n → begins_with is_digit rest ≡ false → Takes (field (codes " " ++ name ++ codes " ")) (field_text name n ++ rest) n rest
+field_takes : (name : List ℕ) (n : ℕ) (rest : List ℕ) → Is64 n → begins_with is_digit rest ≡ false
+    → Takes (field (codes " " ++ name ++ codes " ")) (field_text name n ++ rest) n rest
 unfolding field field_text
 field_takes name n rest n64 stop =
     let label : List ℕ = codes " " ++ name ++ codes " " in
@@ -135,14 +144,20 @@ no_digit : (name : List ℕ) (n : ℕ) (rest : List ℕ) → begins_with is_digi
 unfolding field_text
 no_digit name n rest = refl
 
-totals_at : (t : Totals) → totals_text t ≡ field_text (codes "posts") t.posts ++ (field_text (codes "deliver") t.deliver ++ (field_text (codes "lose") t.lose ++ field_text (codes "twice") t.twice))
+totals_at : (t : Totals) → totals_text t ≡ field_text (codes "posts") t.posts
+    ++ (field_text (codes "deliver") t.deliver ++ (field_text (codes "lose") t.lose ++ field_text (codes "twice") t.twice))
 unfolding totals_text
 totals_at t =
-    append_assoc (field_text (codes "posts") t.posts ++ field_text (codes "deliver") t.deliver) (field_text (codes "lose") t.lose) (field_text (codes "twice") t.twice)
-    ∙ append_assoc (field_text (codes "posts") t.posts) (field_text (codes "deliver") t.deliver) (field_text (codes "lose") t.lose ++ field_text (codes "twice") t.twice)
+    append_assoc (field_text (codes "posts") t.posts ++ field_text (codes "deliver") t.deliver)
+    (field_text (codes "lose") t.lose) (field_text (codes "twice") t.twice)
+    ∙ append_assoc (field_text (codes "posts") t.posts) (field_text (codes "deliver") t.deliver)
+    (field_text (codes "lose") t.lose ++ field_text (codes "twice") t.twice)
 
 driver_at : (d : DriverLine) → IsDriverLine d
-    → Takes driver_in (codes "driver " ++ (decimal d.driver ++ (field_text (codes "posts") d.totals.posts ++ (field_text (codes "deliver") d.totals.deliver ++ (field_text (codes "lose") d.totals.lose ++ (field_text (codes "twice") d.totals.twice ++ [])))))) d []
+    → Takes driver_in (codes "driver " ++ (decimal d.driver
+    ++ (field_text (codes "posts") d.totals.posts
+    ++ (field_text (codes "deliver") d.totals.deliver
+    ++ (field_text (codes "lose") d.totals.lose ++ (field_text (codes "twice") d.totals.twice ++ [])))))) d []
 unfolding driver_in
 driver_at d is =
     let t4 : List ℕ = field_text (codes "twice") d.totals.twice ++ [] in
@@ -160,9 +175,13 @@ pub driver_taken : (d : DriverLine) → IsDriverLine d → driver_of (driver_fro
 unfolding driver_of driver_line
 driver_taken d is =
     let f4 : List ℕ = field_text (codes "twice") d.totals.twice in
-    let parts : driver_front d ≡ codes "driver " ++ (decimal d.driver ++ (field_text (codes "posts") d.totals.posts ++ (field_text (codes "deliver") d.totals.deliver ++ (field_text (codes "lose") d.totals.lose ++ (f4 ++ []))))) =
+    let parts : driver_front d ≡ codes "driver " ++ (decimal d.driver
+    ++ (field_text (codes "posts") d.totals.posts
+    ++ (field_text (codes "deliver") d.totals.deliver ++ (field_text (codes "lose") d.totals.lose ++ (f4 ++ []))))) =
     append_assoc (codes "driver ") (decimal d.driver) (totals_text d.totals)
     ∙ ap (λ t. codes "driver " ++ (decimal d.driver ++ t)) (totals_at d.totals)
-    ∙ ap (λ t. codes "driver " ++ (decimal d.driver ++ (field_text (codes "posts") d.totals.posts ++ (field_text (codes "deliver") d.totals.deliver ++ (field_text (codes "lose") d.totals.lose ++ t))))) (sym (append-nil f4)) in
+    ∙ ap (λ t. codes "driver " ++ (decimal d.driver
+    ++ (field_text (codes "posts") d.totals.posts
+    ++ (field_text (codes "deliver") d.totals.deliver ++ (field_text (codes "lose") d.totals.lose ++ t))))) (sym (append-nil f4)) in
     let read : driver_in (driver_front d) ≡ Some (d, []) = ap driver_in parts ∙ (driver_at d is).at in
     ap (λ o. on_some o (λ x. if_same driver_text (driver_front d) x.0)) read ∙ kept driver_text (driver_front d) d refl

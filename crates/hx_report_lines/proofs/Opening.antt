@@ -27,8 +27,11 @@ use Rattle.hx_report_lines.specs.Drafts.{block_of, value_of, with_rows}
 use Rattle.hx_report_lines.specs.Printed.{block_text, first_text, item_text, key_text, text_of}
 use Rattle.hx_report_lines.specs.Values.{IsBlock, IsItemOf, IsReportValue, IsSpaceValue, ObjectIsSayable, ReportValue}
 use Rattle.hx_report_lines.proofs.CallsRead.{IsRow}
-use Rattle.hx_report_lines.proofs.DraftsRead.{HasAll, HasFront, HeadOpens, IsGood, IsGoodIn, IsOpen, IsOpenCall, IsOpenHistory, block_begun, call_more, counted, history_more, least_fits, least_space, rows_called}
-use Rattle.hx_report_lines.proofs.TextsRead.{begun_text, call_text_more, draft_text, front_text, history_is, history_text_more, open_text, rows_head, text_in, with_rows_text}
+use Rattle.hx_report_lines.proofs.DraftsRead.{HasAll, HasFront, HeadOpens, IsGood, IsGoodIn, IsOpen, IsOpenCall}
+use Rattle.hx_report_lines.proofs.DraftsRead.{IsOpenHistory, block_begun, call_more, counted, history_more, least_fits}
+use Rattle.hx_report_lines.proofs.DraftsRead.{least_space, rows_called}
+use Rattle.hx_report_lines.proofs.TextsRead.{begun_text, call_text_more, draft_text, front_text, history_is}
+use Rattle.hx_report_lines.proofs.TextsRead.{history_text_more, open_text, rows_head, text_in, with_rows_text}
 
 -- some report begins with the text
 abbrev pub BeginsText : List ℕ → Type 0
@@ -44,7 +47,9 @@ default_fits a_kind.Text b = (omega arith, empty_text)
 default_fits (a_kind.Int lo hi) b = (tt, b.0)
 
 defaults_fit : (declared : List Attribute) → All (λ (a : Attribute). BoundsAreSayable a.kind) declared
-    → AllZip (λ (a : Attribute) (v : Value). IsOfKind a.kind v) declared (map (λ (a : Attribute). default_of a.kind) declared) × ObjectIsSayable (map (λ (a : Attribute). default_of a.kind) declared)
+    → AllZip (λ (a : Attribute) (v : Value). IsOfKind a.kind v) declared
+    (map (λ (a : Attribute). default_of a.kind) declared)
+    × ObjectIsSayable (map (λ (a : Attribute). default_of a.kind) declared)
 defaults_fit [] h = (tt, All-nil IsSayable)
 defaults_fit (a ∷ rest) h =
     let d = default_fits a.kind (All-head (λ (x : Attribute). BoundsAreSayable x.kind) a rest h) in
@@ -63,7 +68,12 @@ abbrev some_item : ItemLine
 some_item = record { version = record { 0 = 0 }; caller = record { session = record { 0 = 1 }; number = 1 }; word = words.Done; object = None }
 
 item_fits : (space : Space) → IsItemOf space some_item
-item_fits space = record { version = omega arith; caller = record { session = (omega arith, omega arith); number = (omega arith, omega arith) }; object = tt; said = tt }
+item_fits space = record {
+  version = omega arith;
+  caller = record { session = (omega arith, omega arith); number = (omega arith, omega arith) };
+  object = tt;
+  said = tt;
+}
 
 -- ---- a body that is closed
 
@@ -78,7 +88,8 @@ with_block_text : (d : Draft) (b : Block) → text_of (with_block d b) ≡ (fron
 unfolding text_of
 with_block_text d b =
     ap (λ t. t ++ codes "end\n")
-    (ap (λ t. first_text d.version ++ t) (flat_map-append block_text d.blocks (b ∷ []) ∙ ap (λ t. flat_map block_text d.blocks ++ t) (append-nil (block_text b)))
+    (ap (λ t. first_text d.version ++ t) (flat_map-append block_text d.blocks (b ∷ [])
+    ∙ ap (λ t. flat_map block_text d.blocks ++ t) (append-nil (block_text b)))
     ∙ sym (append_assoc (first_text d.version) (flat_map block_text d.blocks) (block_text b)))
 
 -- a block whose text begins with what was read of it
@@ -95,15 +106,20 @@ closes d b read more front is text = (
   ),
 )
 
-rows_open : (d : Draft) (c : CallLine) (rows : List Row) (left : ℕ) → HasFront d → IsBlock d.block → IsOpenCall d c rows left → BeginsText (front_text d ++ (block_text d.block ++ open_text d.block.space (opens.Rows c rows left)))
+rows_open : (d : Draft) (c : CallLine) (rows : List Row) (left : ℕ) → HasFront d → IsBlock d.block
+    → IsOpenCall d c rows left → BeginsText (front_text d
+    ++ (block_text d.block ++ open_text d.block.space (opens.Rows c rows left)))
 rows_open d c rows left front is o =
     let space : Space = d.block.space in
     let fill : List Row = replicate left (some_row space) in
     let all : CallLine = with_rows c (rows ++ fill) in
     let long : length (rows ++ fill) ≡ length rows + left = omega (arith, length-append rows fill, length-replicate left (some_row space)) in
-    let call = rows_called space c (rows ++ fill) o.call o.answer (All-append (IsRow space) rows fill o.all (All-replicate (IsRow space) left (some_row space) (row_fits space is.space))) (omega (arith, long, o.few)) in
+    let call = rows_called space c (rows ++ fill) o.call o.answer
+    (All-append (IsRow space) rows fill o.all (All-replicate (IsRow space) left (some_row space)
+    (row_fits space is.space))) (omega (arith, long, o.few)) in
     let head : List ℕ = rows_head space c (length rows + left) in
-    closes d (record d.block { calls = d.block.calls ++ all ∷ [] }) (block_text d.block ++ (head ++ flat_map (row_line space) rows)) (flat_map (row_line space) fill) front
+    closes d (record d.block { calls = d.block.calls ++ all ∷ [] })
+    (block_text d.block ++ (head ++ flat_map (row_line space) rows)) (flat_map (row_line space) fill) front
     (call_more d.block all is call o.follows)
     (call_text_more d all o.before
     ∙ ap (λ t. block_text d.block ++ t)
@@ -117,21 +133,31 @@ some_more : (items : List ItemLine) (x : ItemLine) → items ++ x ∷ [] ≢ []
 some_more [] x e = absurd cc
 some_more (y ∷ ys) x e = absurd cc
 
-history_open : (d : Draft) (key : List ℕ) (items : List ItemLine) → HasFront d → IsBlock d.block → IsOpenHistory d key items → BeginsText (front_text d ++ (block_text d.block ++ open_text d.block.space (opens.History key items)))
+history_open : (d : Draft) (key : List ℕ) (items : List ItemLine) → HasFront d → IsBlock d.block
+    → IsOpenHistory d key items → BeginsText (front_text d
+    ++ (block_text d.block ++ open_text d.block.space (opens.History key items)))
 history_open d key items front is o =
     let space : Space = d.block.space in
     let one : HistoryLines = record { key = key; items = items ++ some_item ∷ [] } in
-    closes d (record d.block { histories = d.block.histories ++ one ∷ [] }) (block_text d.block ++ (key_text key ++ flat_map (item_text space) items)) (item_text space some_item) front
-    (history_more d.block one is (record { key = o.fits; said = o.said; some = some_more items some_item; items = All-push (IsItemOf space) items some_item o.all (item_fits space) }) o.follows)
+    closes d (record d.block { histories = d.block.histories ++ one ∷ [] })
+    (block_text d.block ++ (key_text key ++ flat_map (item_text space) items)) (item_text space some_item) front
+    (history_more d.block one is (record {
+      key = o.fits;
+      said = o.said;
+      some = some_more items some_item;
+      items = All-push (IsItemOf space) items some_item o.all (item_fits space);
+    }) o.follows)
     (history_text_more d one o.before
     ∙ ap (λ t. block_text d.block ++ t)
     (history_is space key (items ++ some_item ∷ [])
-    ∙ ap (λ t. key_text key ++ t) (flat_map-append (item_text space) items (some_item ∷ []) ∙ ap (λ t. flat_map (item_text space) items ++ t) (append-nil (item_text space some_item)))
+    ∙ ap (λ t. key_text key ++ t) (flat_map-append (item_text space) items (some_item ∷ [])
+    ∙ ap (λ t. flat_map (item_text space) items ++ t) (append-nil (item_text space some_item)))
     ∙ sym (append_assoc (key_text key) (flat_map (item_text space) items) (item_text space some_item)))
     ∙ sym (append_assoc (block_text d.block) (key_text key ++ flat_map (item_text space) items) (item_text space some_item)))
 
 body_opens : (d : Draft) (o : Open) → HasFront d → IsBlock d.block → IsOpen d o → BeginsText (front_text d ++ (block_text d.block ++ open_text d.block.space o))
-body_opens d opens.Nothing front is o = closes d d.block (block_text d.block ++ []) [] front is (sym (append-nil (block_text d.block)) ∙ sym (append-nil (block_text d.block ++ [])))
+body_opens d opens.Nothing front is o = closes d d.block (block_text d.block ++ []) [] front is
+    (sym (append-nil (block_text d.block)) ∙ sym (append-nil (block_text d.block ++ [])))
 body_opens d (opens.Rows c rows left) front is o = rows_open d c rows left front is o
 body_opens d (opens.History key items) front is o = history_open d key items front is o
 
@@ -143,7 +169,11 @@ unfolding text_of
 whole_text r = refl
 
 all_opens : (d : Draft) → HasAll d → BeginsText (front_text d ++ codes "end\n")
-all_opens d all = (value_of d, record { count = all.count; blocks = all.blocks }, ([], whole_text (value_of d) ∙ sym (append-nil (front_text d ++ codes "end\n"))))
+all_opens d all = (
+  value_of d,
+  record { count = all.count; blocks = all.blocks },
+  ([], whole_text (value_of d) ∙ sym (append-nil (front_text d ++ codes "end\n"))),
+)
 
 -- a report of the least space
 abbrev least : ReportValue

@@ -35,10 +35,18 @@ abbrev found_row : Row
 found_row = record { key = codes "a"; version = record { 0 = 1 }; object = a_value.Text (codes "x") ∷ [] }
 
 abbrev searched : CallLine
-searched = record { caller = caller 1 2; begin = 4; end = Some 6; op = ops.Search []; version = record { 0 = 0 }; answer = Some (an_answer.Rows (found_row ∷ [])) }
+searched = record {
+  caller = caller 1 2;
+  begin = 4;
+  end = Some 6;
+  op = ops.Search [];
+  version = record { 0 = 0 };
+  answer = Some (an_answer.Rows (found_row ∷ []));
+}
 
 search_lines : call_text one searched ≡ codes "call u1.2 begin 4 end 6 search -> rows 1\nrow \"a\" version 1 v=\"x\"\n"
-unfolding call_text called_text span_text caller_text end_text op_text maybe_answer_lines answer_lines rows_lines row_line version_text object_text named_text value_text quoted
+unfolding call_text called_text span_text caller_text end_text op_text maybe_answer_lines answer_lines rows_lines
+    row_line version_text object_text named_text value_text quoted
 search_lines = rw (decimal_digit 1 (omega arith), decimal_digit 2 (omega arith), decimal_digit 4 (omega arith), decimal_digit 6 (omega arith)) refl
 
 abbrev opened : CallLine

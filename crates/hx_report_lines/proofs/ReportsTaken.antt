@@ -1,5 +1,6 @@
 -- The text of each report is read.
-use Rattle.std.proofs.Common.{◌≡◌, ◌≢◌, ℕ, suc, ◌+◌, ◌<◌, true, false, cond, List, [], ◌∷◌, ◌++◌, length, eqb, Option, None, Some, inl, inr, refl, sym, ap, subst, ◌∙◌, arith}
+use Rattle.std.proofs.Common.{◌≡◌, ◌≢◌, ℕ, suc, ◌+◌, ◌<◌, true, false, cond, List, [], ◌∷◌, ◌++◌, length, eqb, Option}
+use Rattle.std.proofs.Common.{None, Some, inl, inr, refl, sym, ap, subst, ◌∙◌, arith}
 use Rattle.std.specs.Prelude.{◌⊎◌, codes}
 use Rattle.std.specs.List.{All, flat_map}
 use Rattle.std.proofs.lemmas.Bool.{eq-eqb}
@@ -38,32 +39,43 @@ record Blocks (d : Draft) (v : ℕ) (text : List ℕ) : Type 0 where
   last : Block
   goes : Goes d text (body v before last)
 
-blocks_go : (d : Draft) (v : ℕ) (bs : List Block) (b : Block) (more : List Block) → Starts d v bs → IsBlock b → All IsBlock more → (v ≡ 2) ⊎ (more ≡ []) → Blocks d v (block_text b ++ flat_map block_text more)
+blocks_go : (d : Draft) (v : ℕ) (bs : List Block) (b : Block) (more : List Block) → Starts d v bs → IsBlock b
+    → All IsBlock more → (v ≡ 2) ⊎ (more ≡ []) → Blocks d v (block_text b ++ flat_map block_text more)
 blocks_go d v bs b [] starts is all two =
     record { before = bs; last = b; goes = subst (λ t. Goes d t (body v bs b)) (sym (append-nil (block_text b))) (block_goes d v bs b starts is) }
 blocks_go d v bs b (c ∷ more) starts is all (inr none) = absurd cc
 blocks_go d v bs b (c ∷ more) starts is all (inl two) =
     let g = block_goes d v bs b starts is in
-    let h = blocks_go g.to v (bs ++ b ∷ []) c more (starts_next g.to v bs b g.stands two) (All-head IsBlock c more all) (All-tail IsBlock c more all) (inl two) in
+    let h = blocks_go g.to v (bs ++ b ∷ []) c more (starts_next g.to v bs b g.stands two)
+    (All-head IsBlock c more all) (All-tail IsBlock c more all) (inl two) in
     record {
       before = h.before;
       last = h.last;
-      goes = record { to = h.goes.to; steps = steps_then d g.to h.goes.to (block_text b) (block_text c ++ flat_map block_text more) g.steps h.goes.steps; stands = h.goes.stands };
+      goes = record {
+        to = h.goes.to;
+        steps = steps_then d g.to h.goes.to (block_text b)
+            (block_text c ++ flat_map block_text more) g.steps h.goes.steps;
+        stands = h.goes.stands;
+      };
     }
 
 -- the last line
-end_step : (d : Draft) (v : ℕ) (bs : List Block) (b : Block) → Stands d (body v bs b) → Steps d (codes "end\n") (record (closed (body v bs b)) { section = sections.Over })
+end_step : (d : Draft) (v : ℕ) (bs : List Block) (b : Block) → Stands d (body v bs b)
+    → Steps d (codes "end\n") (record (closed (body v bs b)) { section = sections.Over })
 end_step d v bs b stands =
-    settled_step d (body v bs b) (record (closed (body v bs b)) { section = sections.Over }) kinds.End (codes "end") (end_after (codes "end")) stands (one_line_of (codes "end") refl) refl refl refl
+    settled_step d (body v bs b) (record (closed (body v bs b)) { section = sections.Over }) kinds.End (codes "end")
+    (end_after (codes "end")) stands (one_line_of (codes "end") refl) refl refl refl
 
 -- the first line
 version_step : (v : ℕ) → (v ≡ 1) ⊎ (v ≡ 2) → Steps empty_draft (first_text v) (head_draft v [] [])
 version_step v (inl one) =
     subst (λ n. Steps empty_draft (first_text n) (head_draft n [] [])) (sym one)
-    (subst (λ t. Steps empty_draft t (head_draft 1 [] [])) (sym first_one) (one_step empty_draft (head_draft 1 [] []) (codes "report 1") (one_line_of (codes "report 1") refl) refl))
+    (subst (λ t. Steps empty_draft t (head_draft 1 [] [])) (sym first_one)
+    (one_step empty_draft (head_draft 1 [] []) (codes "report 1") (one_line_of (codes "report 1") refl) refl))
 version_step v (inr two) =
     subst (λ n. Steps empty_draft (first_text n) (head_draft n [] [])) (sym two)
-    (subst (λ t. Steps empty_draft t (head_draft 2 [] [])) (sym first_two) (one_step empty_draft (head_draft 2 [] []) (codes "report 2") (one_line_of (codes "report 2") refl) refl))
+    (subst (λ t. Steps empty_draft t (head_draft 2 [] [])) (sym first_two)
+    (one_step empty_draft (head_draft 2 [] []) (codes "report 2") (one_line_of (codes "report 2") refl) refl))
 
 version_is : (v : ℕ) (bs : List Block) → HasBlocks v bs → (v ≡ 1) ⊎ (v ≡ 2)
 version_is v bs (inl h) = inl h.0
@@ -94,7 +106,8 @@ over_of v (b ∷ more) has all =
     record {
       to = e;
       steps = steps_then empty_draft g.goes.to e (first_text v ++ text) (codes "end\n")
-          (steps_then empty_draft start g.goes.to (first_text v) text (version_step v (version_is v (b ∷ more) has)) g.goes.steps) (end_step g.goes.to v g.before g.last g.goes.stands);
+          (steps_then empty_draft start g.goes.to (first_text v) text
+          (version_step v (version_is v (b ∷ more) has)) g.goes.steps) (end_step g.goes.to v g.before g.last g.goes.stands);
       over = refl;
     }
 

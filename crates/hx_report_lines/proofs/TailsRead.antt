@@ -1,5 +1,6 @@
 -- The lines of configurations, of the trace, of drivers and of the space that are read are of the space, and are printed so.
-use Rattle.std.proofs.Common.{◌≡◌, ℕ, Bool, true, false, ◌&&◌, ◌||◌, List, [], ◌∷◌, ◌++◌, map, length, take, drop, leb, ltb, inl, inr, Some, Ok, Err, Result, refl, sym, ap, subst, ◌∙◌, arith}
+use Rattle.std.proofs.Common.{◌≡◌, ℕ, Bool, true, false, ◌&&◌, ◌||◌, List, [], ◌∷◌, ◌++◌, map, length, take, drop, leb}
+use Rattle.std.proofs.Common.{ltb, inl, inr, Some, Ok, Err, Result, refl, sym, ap, subst, ◌∙◌, arith}
 use Rattle.std.specs.Prelude.{◌⊎◌, codes, nat_eq, nat_lt}
 use Rattle.std.specs.List.{All, starts_with}
 use Rattle.std.specs.Str.{IsUtf8, bytes_eq, is_utf8}
@@ -35,7 +36,8 @@ servers_of space last (n ∷ ns) h =
     let both = and_left (ltb last n && leb n space.servers) (ascend_to n space.servers ns) h in
     let above = ltb-true last n (and_left (ltb last n) (leb n space.servers) both) in
     let within = leb-true n space.servers (and_right (ltb last n) (leb n space.servers) both) in
-    All-cons (λ n. IsServerOf space (record { 0 = n })) n ns (omega arith, within) (servers_of space n ns (and_right (ltb last n && leb n space.servers) (ascend_to n space.servers ns) h))
+    All-cons (λ n. IsServerOf space (record { 0 = n })) n ns (omega arith, within)
+    (servers_of space n ns (and_right (ltb last n && leb n space.servers) (ascend_to n space.servers ns) h))
 
 ascend_on : (most last : ℕ) (ns : List ℕ) → ascend_to last most ns ≡ true → AscendsFrom nat_lt (Some last) ns
 ascend_on most last [] h = tt
@@ -99,10 +101,12 @@ begins_with w line h =
     let same : w ≡ take (length w) line = (bytes_eq-Decides w (take (length w) line)).0 h in
     (drop (length w) line, sym (take-append-drop (length w) line) ∙ ap (λ t. t ++ drop (length w) line) (sym same))
 
-either : (line : List ℕ) → (starts_with nat_eq line (codes "entry ") || starts_with nat_eq line (codes "post ")) ≡ true → BeginsWith (codes "entry ") line ⊎ BeginsWith (codes "post ") line
+either : (line : List ℕ) → (starts_with nat_eq line (codes "entry ") || starts_with nat_eq line (codes "post "))
+    ≡ true → BeginsWith (codes "entry ") line ⊎ BeginsWith (codes "post ") line
 either line h = by (starts_with nat_eq line (codes "entry ")) refl h
   where
-    by : (b : Bool) → starts_with nat_eq line (codes "entry ") ≡ b → (b || starts_with nat_eq line (codes "post ")) ≡ true → BeginsWith (codes "entry ") line ⊎ BeginsWith (codes "post ") line
+    by : (b : Bool) → starts_with nat_eq line (codes "entry ") ≡ b
+        → (b || starts_with nat_eq line (codes "post ")) ≡ true → BeginsWith (codes "entry ") line ⊎ BeginsWith (codes "post ") line
     by true q f = inl (begins_with (codes "entry ") line q)
     by false q f = inr (begins_with (codes "post ") line f)
 
@@ -111,8 +115,13 @@ unfolding raw_of
 raw_valid line text e =
     let begun : Bool = starts_with nat_eq line (codes "entry ") || starts_with nat_eq line (codes "post ") in
     let w = where_so (begun && is_utf8 line) (Some line) text e in
-    let same = some_is line text w.1 in
-    (subst IsRawText same (record { begins = either line (and_left begun (is_utf8 line) w.0); utf8 = IsUtf8-from_is_utf8 line (and_right begun (is_utf8 line) w.0) }), sym same)
+    let same = some_is line text w.1 in (
+      subst IsRawText same (record {
+        begins = either line (and_left begun (is_utf8 line) w.0);
+        utf8 = IsUtf8-from_is_utf8 line (and_right begun (is_utf8 line) w.0);
+      }),
+      sym same,
+    )
 
 -- ---- drivers
 
@@ -141,11 +150,15 @@ driver_valid line x e =
 
 -- ---- spaces
 
-space_from : (bytes : List ℕ) (space : Space) (r : Result Script ScriptError) → script_of (codes "hx 1\n" ++ bytes) ≡ r → same_space bytes r ≡ Some space → IsSpaceValue space × (space_text space ≡ bytes)
+space_from : (bytes : List ℕ) (space : Space) (r : Result Script ScriptError)
+    → script_of (codes "hx 1\n" ++ bytes) ≡ r → same_space bytes r ≡ Some space → IsSpaceValue space × (space_text space ≡ bytes)
 space_from bytes space (Err x) read e = absurd cc
 space_from bytes space (Ok s) read e =
     let w = where_so (bytes_eq (space_text s.space) bytes) (Some s.space) space e in
-    let valid : IsSpaceValue s.space = record { valid = (text_sound (codes "hx 1\n" ++ bytes) s read).space; bounds = (text_told (codes "hx 1\n" ++ bytes) s read).bounds } in
+    let valid : IsSpaceValue s.space = record {
+      valid = (text_sound (codes "hx 1\n" ++ bytes) s read).space;
+      bounds = (text_told (codes "hx 1\n" ++ bytes) s read).bounds;
+    } in
     subst (λ (x : Space). IsSpaceValue x × (space_text x ≡ bytes)) (some_is s.space space w.1) (valid, (bytes_eq-Decides (space_text s.space) bytes).0 w.0)
 
 pub space_valid : (bytes : List ℕ) (space : Space) → space_of bytes ≡ Some space → IsSpaceValue space × (space_text space ≡ bytes)

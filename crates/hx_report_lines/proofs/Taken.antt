@@ -30,7 +30,8 @@ pub record Tells {A : Type 0} (p : Reader A) (Q : A → Type 0) : Type 0 where
 abbrev pub Any : {A : Type 0} → A → Type 0
 Any x = ⊤
 
-pub tells_then : {A B : Type 0} {p : Reader A} {f : A → Reader B} (P : A → Type 0) {Q : B → Type 0} → Tells p P → ((a : A) → P a → Tells (f a) Q) → Tells (p >>= f) Q
+pub tells_then : {A B : Type 0} {p : Reader A} {f : A → Reader B} (P : A → Type 0) {Q : B → Type 0} → Tells p P
+    → ((a : A) → P a → Tells (f a) Q) → Tells (p >>= f) Q
 tells_then {A} {B} {p} {f} P {Q} tp tf = record {
   at = λ bs x e.
       let o = bound (p bs) (λ y. f y.0 y.1) x e in
@@ -56,4 +57,5 @@ tells_number = record {
 
 pub tells_short : Tells short_number Is32
 unfolding short_number
-tells_short = tells_then Is64 tells_number (λ n big. tells_then (λ u. ltb n (2 ^ 32) ≡ true) (tells_check (ltb n (2 ^ 32))) (λ u short. tells_give {Q = Is32} n (ltb-true n (2 ^ 32) short)))
+tells_short = tells_then Is64 tells_number (λ n big. tells_then (λ u. ltb n (2 ^ 32) ≡ true)
+    (tells_check (ltb n (2 ^ 32))) (λ u short. tells_give {Q = Is32} n (ltb-true n (2 ^ 32) short)))

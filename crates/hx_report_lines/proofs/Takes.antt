@@ -1,5 +1,6 @@
 -- What is printed is taken again: words, numbers, callers.
-use Rattle.std.proofs.Common.{◌≡◌, ℕ, suc, ◌^◌, ◌<◌, Bool, true, false, cond, not, ◌&&◌, List, [], ◌∷◌, ◌++◌, length, take, drop, eqb, ltb, Option, None, Some, refl, sym, ap, subst, ◌∙◌, arith}
+use Rattle.std.proofs.Common.{◌≡◌, ℕ, suc, ◌^◌, ◌<◌, Bool, true, false, cond, not, ◌&&◌, List, [], ◌∷◌, ◌++◌, length}
+use Rattle.std.proofs.Common.{take, drop, eqb, ltb, Option, None, Some, refl, sym, ap, subst, ◌∙◌, arith}
 use Rattle.std.specs.Prelude.{codes, nat_eq}
 use Rattle.std.specs.Fmt.{decimal}
 use Rattle.std.specs.List.{list_all, prefix_len, starts_with}
@@ -39,7 +40,8 @@ assoc7 a b c d e f g r = append_assoc (a ++ b ++ c ++ d ++ e ++ f) g r ∙ assoc
 pub record Takes {A : Type 0} (p : Reader A) (bytes : List ℕ) (a : A) (rest : List ℕ) : Type 0 where
   pub at : p bytes ≡ Some (a, rest)
 
-pub takes_then : {A B : Type 0} {p : Reader A} (f : A → Reader B) {bytes : List ℕ} {b : B} {rest : List ℕ} (a : A) (mid : List ℕ) → Takes p bytes a mid → Takes (f a) mid b rest → Takes (p >>= f) bytes b rest
+pub takes_then : {A B : Type 0} {p : Reader A} (f : A → Reader B) {bytes : List ℕ} {b : B} {rest : List ℕ} (a : A)
+    (mid : List ℕ) → Takes p bytes a mid → Takes (f a) mid b rest → Takes (p >>= f) bytes b rest
 takes_then {A} {B} {p} f a mid t u = record { at = ap (λ o. on_some o (λ x. f x.0 x.1)) t.at ∙ u.at }
 
 pub takes_give : {A : Type 0} (a : A) (rest : List ℕ) → Takes (give a) rest a rest
@@ -56,11 +58,20 @@ pub starts : (w rest : List ℕ) → starts_with nat_eq (w ++ rest) w ≡ true
 starts w rest = ap (λ t. bytes_eq w t) (take_at w rest (length w) refl) ∙ bytes_same w
 
 pub word_takes : (w rest : List ℕ) → Takes (word w) (w ++ rest) tt rest
-word_takes w rest = record { at = ap (λ b. cond b (Some (tt, drop (length w) (w ++ rest))) None) (starts w rest) ∙ ap (λ t. Some (tt, t)) (drop_at w rest (length w) refl) }
+word_takes w rest = record {
+  at = ap (λ b. cond b (Some (tt, drop (length w) (w ++ rest))) None) (starts w rest)
+      ∙ ap (λ t. Some (tt, t)) (drop_at w rest (length w) refl);
+}
 
 pub number_takes : (n : ℕ) (rest : List ℕ) → Is64 n → begins_with is_digit rest ≡ false → Takes number (decimal n ++ rest) n rest
 number_takes n rest n64 stop = record {
-  at = rw (whole_run is_digit (decimal n) rest (decimal_digits n n64) stop, take_at (decimal n) rest (length (decimal n)) refl, drop_at (decimal n) rest (length (decimal n)) refl, decimal_value n n64, lt-ltb n (2 ^ 64) n64) refl;
+  at = rw (
+    whole_run is_digit (decimal n) rest (decimal_digits n n64) stop,
+    take_at (decimal n) rest (length (decimal n)) refl,
+    drop_at (decimal n) rest (length (decimal n)) refl,
+    decimal_value n n64,
+    lt-ltb n (2 ^ 64) n64,
+  ) refl;
 }
 
 pub wide : (n : ℕ) → Is32 n → Is64 n

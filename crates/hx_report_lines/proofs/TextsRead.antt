@@ -1,5 +1,6 @@
 -- What a draft has read is the text of what it has.
-use Rattle.std.proofs.Common.{◌≡◌, ℕ, ◌+◌, ◌-◌, ◌<◌, Bool, true, false, cond, ◌&&◌, eqb, List, [], ◌∷◌, ◌++◌, length, Option, None, Some, Ok, Err, refl, sym, ap, subst, ◌∙◌, arith}
+use Rattle.std.proofs.Common.{◌≡◌, ℕ, ◌+◌, ◌-◌, ◌<◌, Bool, true, false, cond, ◌&&◌, eqb, List, [], ◌∷◌, ◌++◌, length}
+use Rattle.std.proofs.Common.{Option, None, Some, Ok, Err, refl, sym, ap, subst, ◌∙◌, arith}
 use Rattle.std.specs.Prelude.{codes}
 use Rattle.std.specs.Fmt.{decimal}
 use Rattle.std.specs.List.{All, flat_map}
@@ -30,9 +31,17 @@ use Rattle.hx_report_lines.specs.declared.kinds.Kind.TheVariants as kinds
 use Rattle.hx_report_lines.specs.declared.histories.HistoryLines.{HistoryLines}
 use Rattle.hx_report_lines.specs.declared.histories.ItemLine.{ItemLine}
 use Rattle.hx_report_lines.specs.Calling.{head_lines, head_of, head_text, row_of}
-use Rattle.hx_report_lines.specs.Drafts.{after_line, begun, block_of, call_after, closed, draft_of, driver_after, empty_draft, end_after, ends_whole, epoch_after, follows_caller, follows_epoch, follows_key, head_line, head_with, is_newline, is_none, is_over, item_line_in, key_after, kind_of, line_in, line_of_kind, next_after, no_drivers, no_epochs, no_histories, no_raw, on_draft, put_driver, put_epoch, put_head, put_key, put_raw, raw_after, read_lines, row_line_in, settled, settled_from, value_of, version_line, version_of, with_call, with_history, with_rows, with_space}
+use Rattle.hx_report_lines.specs.Drafts.{after_line, begun, block_of, call_after, closed, draft_of, driver_after}
+use Rattle.hx_report_lines.specs.Drafts.{empty_draft, end_after, ends_whole, epoch_after, follows_caller}
+use Rattle.hx_report_lines.specs.Drafts.{follows_epoch, follows_key, head_line, head_with, is_newline, is_none}
+use Rattle.hx_report_lines.specs.Drafts.{is_over, item_line_in, key_after, kind_of, line_in, line_of_kind, next_after}
+use Rattle.hx_report_lines.specs.Drafts.{no_drivers, no_epochs, no_histories, no_raw, on_draft, put_driver, put_epoch}
+use Rattle.hx_report_lines.specs.Drafts.{put_head, put_key, put_raw, raw_after, read_lines, row_line_in, settled}
+use Rattle.hx_report_lines.specs.Drafts.{settled_from, value_of, version_line, version_of, with_call, with_history}
+use Rattle.hx_report_lines.specs.Drafts.{with_rows, with_space}
 use Rattle.hx_report_lines.specs.Parts.{item_of, key_of}
-use Rattle.hx_report_lines.specs.Printed.{block_text, call_text, called_text, driver_text, epoch_text, first_text, history_text, item_text, key_text, raw_text, span_text, text_of}
+use Rattle.hx_report_lines.specs.Printed.{block_text, call_text, called_text, driver_text, epoch_text, first_text}
+use Rattle.hx_report_lines.specs.Printed.{history_text, item_text, key_text, raw_text, span_text, text_of}
 use Rattle.hx_report_lines.specs.Readers.{on_some}
 use Rattle.hx_report_lines.specs.Tailing.{driver_of, epoch_of, raw_of, rest_of_head, space_of}
 use Rattle.hx_report_lines.proofs.CallsRead.{head_valid, row_valid}
@@ -124,13 +133,15 @@ calls_last d h =
 pub behind : {A : Type 0} (f : A → List ℕ) (front : List ℕ) (xs : List A) (x : A) → front ++ flat_map f (xs ++ x ∷ []) ≡ (front ++ flat_map f xs) ++ f x
 behind f front xs x = ap (λ t. front ++ t) (one_more f xs x) ∙ sym (append_assoc front (flat_map f xs) (f x))
 
-pub call_text_more : (d : Draft) (c : CallLine) → no_histories d ≡ true → block_text (record d.block { calls = d.block.calls ++ c ∷ [] }) ≡ block_text d.block ++ call_text d.block.space c
+pub call_text_more : (d : Draft) (c : CallLine) → no_histories d ≡ true
+    → block_text (record d.block { calls = d.block.calls ++ c ∷ [] }) ≡ block_text d.block ++ call_text d.block.space c
 call_text_more d c h =
     calls_last (with_call d c) h
     ∙ behind (call_text d.block.space) (space_text d.block.space) d.block.calls c
     ∙ ap (λ t. t ++ call_text d.block.space c) (sym (calls_last d h))
 
-pub history_text_more : (d : Draft) (x : HistoryLines) → no_epochs d ≡ true → block_text (record d.block { histories = d.block.histories ++ x ∷ [] }) ≡ block_text d.block ++ history_text d.block.space x
+pub history_text_more : (d : Draft) (x : HistoryLines) → no_epochs d ≡ true
+    → block_text (record d.block { histories = d.block.histories ++ x ∷ [] }) ≡ block_text d.block ++ history_text d.block.space x
 history_text_more d x h =
     histories_last (with_history d x) h
     ∙ behind (history_text d.block.space) (upto_calls d.block) d.block.histories x
@@ -138,33 +149,42 @@ history_text_more d x h =
 
 -- ---- what is pending
 
-pub with_rows_text : (space : Space) (c : CallLine) (rows : List Row) → call_text space (with_rows c rows) ≡ rows_head space c (length rows) ++ flat_map (row_line space) rows
+pub with_rows_text : (space : Space) (c : CallLine) (rows : List Row)
+    → call_text space (with_rows c rows) ≡ rows_head space c (length rows) ++ flat_map (row_line space) rows
 unfolding call_text called_text span_text maybe_answer_lines answer_lines rows_lines
 with_rows_text space c rows = sym (append_assoc (called_text space c) (codes "rows " ++ decimal (length rows) ++ codes "\n") (flat_map (row_line space) rows))
 
-pub history_is : (space : Space) (key : List ℕ) (items : List ItemLine) → history_text space (record { key = key; items = items }) ≡ key_text key ++ flat_map (item_text space) items
+pub history_is : (space : Space) (key : List ℕ) (items : List ItemLine)
+    → history_text space (record { key = key; items = items }) ≡ key_text key ++ flat_map (item_text space) items
 unfolding history_text
 history_is space key items = refl
 
-settled_text_by : (d e : Draft) (o : Open) → IsOpen d o → settled_from d o ≡ Some e → body_text e ≡ front_text d ++ (block_text d.block ++ open_text d.block.space o)
-settled_text_by d e opens.Nothing is h = subst (λ (x : Draft). body_text x ≡ front_text d ++ (block_text d.block ++ [])) (some_is (record d { pending = opens.Nothing }) e h) refl
+settled_text_by : (d e : Draft) (o : Open) → IsOpen d o → settled_from d o ≡ Some e
+    → body_text e ≡ front_text d ++ (block_text d.block ++ open_text d.block.space o)
+settled_text_by d e opens.Nothing is h = subst (λ (x : Draft). body_text x ≡ front_text d
+    ++ (block_text d.block ++ [])) (some_is (record d { pending = opens.Nothing }) e h) refl
 settled_text_by d e (opens.Rows c rows left) is h =
     let w = where_so (eqb left 0) (Some (with_call d (with_rows c rows))) e h in
     let all : length rows ≡ length rows + left = omega (arith, eqb-true left 0 w.0) in
-    subst (λ (x : Draft). body_text x ≡ front_text d ++ (block_text d.block ++ open_text d.block.space (opens.Rows c rows left))) (some_is (with_call d (with_rows c rows)) e w.1)
+    subst (λ (x : Draft). body_text x ≡ front_text d
+    ++ (block_text d.block ++ open_text d.block.space (opens.Rows c rows left)))
+    (some_is (with_call d (with_rows c rows)) e w.1)
     (ap (λ t. front_text d ++ t)
     (append-nil (block_text (record d.block { calls = d.block.calls ++ with_rows c rows ∷ [] }))
     ∙ call_text_more d (with_rows c rows) is.before
-    ∙ ap (λ t. block_text d.block ++ t) (with_rows_text d.block.space c rows ∙ ap (λ n. rows_head d.block.space c n ++ flat_map (row_line d.block.space) rows) all)))
+    ∙ ap (λ t. block_text d.block ++ t) (with_rows_text d.block.space c rows
+    ∙ ap (λ n. rows_head d.block.space c n ++ flat_map (row_line d.block.space) rows) all)))
 settled_text_by d e (opens.History key items) is h = by (is_none items) h
   where
     one : HistoryLines
     one = record { key = key; items = items }
 
-    by : (b : Bool) → cond b None (Some (with_history d one)) ≡ Some e → body_text e ≡ front_text d ++ (block_text d.block ++ open_text d.block.space (opens.History key items))
+    by : (b : Bool) → cond b None (Some (with_history d one)) ≡ Some e
+        → body_text e ≡ front_text d ++ (block_text d.block ++ open_text d.block.space (opens.History key items))
     by true f = absurd cc
     by false f =
-        subst (λ (x : Draft). body_text x ≡ front_text d ++ (block_text d.block ++ open_text d.block.space (opens.History key items))) (some_is (with_history d one) e f)
+        subst (λ (x : Draft). body_text x ≡ front_text d
+        ++ (block_text d.block ++ open_text d.block.space (opens.History key items))) (some_is (with_history d one) e f)
         (ap (λ t. front_text d ++ t)
         (append-nil (block_text (record d.block { histories = d.block.histories ++ one ∷ [] }))
         ∙ history_text_more d one is.before ∙ ap (λ t. block_text d.block ++ t) (history_is d.block.space key items)))
@@ -182,10 +202,13 @@ in_body e body = ap (text_in e) body
 
 -- where nothing is pending, what comes stands behind the block
 open_is : (d : Draft) → IsSettled d → body_text d ≡ front_text d ++ block_text d.block
-open_is d is = ap (λ (o : Open). front_text d ++ (block_text d.block ++ open_text d.block.space o)) is.nothing ∙ ap (λ t. front_text d ++ t) (append-nil (block_text d.block))
+open_is d is = ap (λ (o : Open). front_text d ++ (block_text d.block ++ open_text d.block.space o)) is.nothing
+    ∙ ap (λ t. front_text d ++ t) (append-nil (block_text d.block))
 
 -- the draft after the line has the block's text and more
-adds : (d e : Draft) (line more : List ℕ) → IsSettled d → e.section ≡ sections.Body → front_text e ≡ front_text d → block_text e.block ++ open_text e.block.space e.pending ≡ block_text d.block ++ more → more ≡ with_newline line → Adds (body_text d) line e
+adds : (d e : Draft) (line more : List ℕ) → IsSettled d → e.section ≡ sections.Body → front_text e ≡ front_text d
+    → block_text e.block ++ open_text e.block.space e.pending ≡ block_text d.block ++ more → more ≡ with_newline line
+    → Adds (body_text d) line e
 adds d e line more is body front block here =
     in_body e body
     ∙ (ap (λ t. t ++ (block_text e.block ++ open_text e.block.space e.pending)) front ∙ ap (λ t. front_text d ++ t) block)
@@ -193,7 +216,8 @@ adds d e line more is body front block here =
     ∙ (ap (λ t. t ++ more) (sym (open_is d is)) ∙ ap (λ t. body_text d ++ t) here)
 
 -- a block of which a list has one item more, where nothing is pending
-pushed : (d : Draft) (b : Block) (more : List ℕ) → IsSettled d → block_text b ≡ block_text d.block ++ more → block_text b ++ open_text b.space d.pending ≡ block_text d.block ++ more
+pushed : (d : Draft) (b : Block) (more : List ℕ) → IsSettled d → block_text b ≡ block_text d.block ++ more
+    → block_text b ++ open_text b.space d.pending ≡ block_text d.block ++ more
 pushed d b more is h = ap (λ (o : Open). block_text b ++ open_text b.space o) is.nothing ∙ append-nil (block_text b) ∙ h
 
 head_rows : (space : Space) (h : CallHead) (rows : List Row) → h.call.answer ≡ Some (an_answer.Rows rows) → head_text space h ≡ rows_head space h.call h.rows
@@ -201,7 +225,9 @@ unfolding head_text
 head_rows space h rows q = ap (λ (o : Option Answer). called_text space h.call ++ head_lines space h.call.version o h.rows) q
 
 -- the first line of a call without rows is its text
-head_plain : (space : Space) (h : CallHead) (o : Option Answer) → h.call.answer ≡ o → head_lines space h.call.version o h.rows ≡ maybe_answer_lines space h.call.version o → head_text space h ≡ call_text space h.call
+head_plain : (space : Space) (h : CallHead) (o : Option Answer) → h.call.answer ≡ o
+    → head_lines space h.call.version o h.rows ≡ maybe_answer_lines space h.call.version o
+    → head_text space h ≡ call_text space h.call
 unfolding head_text call_text
 head_plain space h o q same =
     ap (λ (x : Option Answer). called_text space h.call ++ head_lines space h.call.version x h.rows) q
@@ -216,26 +242,34 @@ call_adds d e line is h =
     let f = where_so (follows_caller d b.0.call.caller) (Some (begun d b.0 b.0.call.answer)) e b.2 in
     by w.0 b.0 v.1 b.0.call.answer refl f.1
   where
-    plain : no_histories d ≡ true → (x : CallHead) → head_text d.block.space x ≡ with_newline line → head_text d.block.space x ≡ call_text d.block.space x.call → Some (with_call d x.call) ≡ Some e → Adds (body_text d) line e
+    plain : no_histories d ≡ true → (x : CallHead) → head_text d.block.space x ≡ with_newline line
+        → head_text d.block.space x ≡ call_text d.block.space x.call → Some (with_call d x.call) ≡ Some e
+        → Adds (body_text d) line e
     plain none x printed same g =
         subst (Adds (body_text d) line) (some_is (with_call d x.call) e g)
         (adds d (with_call d x.call) line (call_text d.block.space x.call) is is.section refl
         (append-nil (block_text (record d.block { calls = d.block.calls ++ x.call ∷ [] })) ∙ call_text_more d x.call none) (sym same ∙ printed))
 
-    by : no_histories d ≡ true → (x : CallHead) → head_text d.block.space x ≡ with_newline line → (o : Option Answer) → x.call.answer ≡ o → Some (begun d x o) ≡ Some e → Adds (body_text d) line e
+    by : no_histories d ≡ true → (x : CallHead) → head_text d.block.space x ≡ with_newline line → (o : Option Answer)
+        → x.call.answer ≡ o → Some (begun d x o) ≡ Some e → Adds (body_text d) line e
     by none x printed None q g = plain none x printed (head_plain d.block.space x None q refl) g
     by none x printed (Some (an_answer.Rows rows)) q g =
         subst (Adds (body_text d) line) (some_is (record d { pending = opens.Rows x.call [] x.rows }) e g)
         (adds d (record d { pending = opens.Rows x.call [] x.rows }) line (rows_head d.block.space x.call x.rows) is is.section refl
-        (ap (λ n. block_text d.block ++ (rows_head d.block.space x.call n ++ [])) (let z : length {A = Row} [] + x.rows ≡ x.rows = omega arith in z) ∙ ap (λ t. block_text d.block ++ t) (append-nil (rows_head d.block.space x.call x.rows))) (sym (head_rows d.block.space x rows q) ∙ printed))
+        (ap (λ n. block_text d.block ++ (rows_head d.block.space x.call n ++ []))
+        (let z : length {A = Row} [] + x.rows ≡ x.rows = omega arith in z)
+        ∙ ap (λ t. block_text d.block ++ t) (append-nil (rows_head d.block.space x.call x.rows)))
+        (sym (head_rows d.block.space x rows q) ∙ printed))
     by none x printed (Some an_answer.Done) q g = plain none x printed (head_plain d.block.space x (Some an_answer.Done) q refl) g
     by none x printed (Some an_answer.NotFound) q g = plain none x printed (head_plain d.block.space x (Some an_answer.NotFound) q refl) g
     by none x printed (Some an_answer.CmpFail) q g = plain none x printed (head_plain d.block.space x (Some an_answer.CmpFail) q refl) g
     by none x printed (Some an_answer.Overflow) q g = plain none x printed (head_plain d.block.space x (Some an_answer.Overflow) q refl) g
     by none x printed (Some an_answer.TooLong) q g = plain none x printed (head_plain d.block.space x (Some an_answer.TooLong) q refl) g
     by none x printed (Some (an_answer.Found object)) q g = plain none x printed (head_plain d.block.space x (Some (an_answer.Found object)) q refl) g
-    by none x printed (Some (an_answer.Refused region epoch)) q g = plain none x printed (head_plain d.block.space x (Some (an_answer.Refused region epoch)) q refl) g
-    by none x printed (Some (an_answer.Doubt region epoch)) q g = plain none x printed (head_plain d.block.space x (Some (an_answer.Doubt region epoch)) q refl) g
+    by none x printed (Some (an_answer.Refused region epoch)) q g =
+        plain none x printed (head_plain d.block.space x (Some (an_answer.Refused region epoch)) q refl) g
+    by none x printed (Some (an_answer.Doubt region epoch)) q g =
+        plain none x printed (head_plain d.block.space x (Some (an_answer.Doubt region epoch)) q refl) g
     by none x printed (Some (an_answer.Issued epoch)) q g = plain none x printed (head_plain d.block.space x (Some (an_answer.Issued epoch)) q refl) g
     by none x printed (Some (an_answer.Stopped epoch)) q g = plain none x printed (head_plain d.block.space x (Some (an_answer.Stopped epoch)) q refl) g
     by none x printed (Some (an_answer.Member epoch)) q g = plain none x printed (head_plain d.block.space x (Some (an_answer.Member epoch)) q refl) g
@@ -243,7 +277,9 @@ call_adds d e line is h =
     by none x printed (Some (an_answer.Lost epoch)) q g = plain none x printed (head_plain d.block.space x (Some (an_answer.Lost epoch)) q refl) g
 
 -- what is pending has more
-opened : (d : Draft) (o : Open) (line more : List ℕ) → d.section ≡ sections.Body → open_text d.block.space o ≡ open_text d.block.space d.pending ++ more → more ≡ with_newline line → Adds (body_text d) line (record d { pending = o })
+opened : (d : Draft) (o : Open) (line more : List ℕ) → d.section ≡ sections.Body
+    → open_text d.block.space o ≡ open_text d.block.space d.pending ++ more → more ≡ with_newline line
+    → Adds (body_text d) line (record d { pending = o })
 opened d o line more body here printed =
     in_body (record d { pending = o }) body
     ∙ ap (λ t. front_text d ++ (block_text d.block ++ t)) here
@@ -251,24 +287,31 @@ opened d o line more body here printed =
     ∙ sym (append_assoc (front_text d) (block_text d.block ++ open_text d.block.space d.pending) more)
     ∙ ap (λ t. body_text d ++ t) printed
 
-row_adds : (d e : Draft) (line : List ℕ) (o : Open) → d.pending ≡ o → d.section ≡ sections.Body → IsSpace d.block.space → row_line_in d line o ≡ Some e → Adds (body_text d) line e
+row_adds : (d e : Draft) (line : List ℕ) (o : Open) → d.pending ≡ o → d.section ≡ sections.Body
+    → IsSpace d.block.space → row_line_in d line o ≡ Some e → Adds (body_text d) line e
 row_adds d e line opens.Nothing pending body space h = absurd cc
 row_adds d e line (opens.History key items) pending body space h = absurd cc
 row_adds d e line (opens.Rows c rows left) pending body space h = by (eqb left 0) refl h
   where
-    by : (b : Bool) → eqb left 0 ≡ b → cond b None (on_some (row_of d.block.space line) (λ r. Some (record d { pending = opens.Rows c (rows ++ r ∷ []) (left - 1) }))) ≡ Some e → Adds (body_text d) line e
+    by : (b : Bool) → eqb left 0 ≡ b → cond b None
+        (on_some (row_of d.block.space line) (λ r. Some
+        (record d { pending = opens.Rows c (rows ++ r ∷ []) (left - 1) }))) ≡ Some e → Adds (body_text d) line e
     by true q f = absurd cc
     by false q f =
         let b = bound (row_of d.block.space line) (λ r. Some (record d { pending = opens.Rows c (rows ++ r ∷ []) (left - 1) })) e f in
         let v = row_valid d.block.space line b.0 space b.1 in
         let some : 0 < left = not_none left q in
         let all : length (rows ++ b.0 ∷ []) + (left - 1) ≡ length rows + left = omega (arith, length-append rows (b.0 ∷ []), some) in
-        let here : open_text d.block.space (opens.Rows c (rows ++ b.0 ∷ []) (left - 1)) ≡ open_text d.block.space (opens.Rows c rows left) ++ row_line d.block.space b.0 =
-        ap (λ n. rows_head d.block.space c n ++ flat_map (row_line d.block.space) (rows ++ b.0 ∷ [])) all ∙ behind (row_line d.block.space) (rows_head d.block.space c (length rows + left)) rows b.0 in
+        let here : open_text d.block.space (opens.Rows c (rows ++ b.0 ∷ []) (left - 1))
+        ≡ open_text d.block.space (opens.Rows c rows left) ++ row_line d.block.space b.0 =
+        ap (λ n. rows_head d.block.space c n ++ flat_map (row_line d.block.space) (rows ++ b.0 ∷ [])) all
+        ∙ behind (row_line d.block.space) (rows_head d.block.space c (length rows + left)) rows b.0 in
         subst (Adds (body_text d) line) (some_is (record d { pending = opens.Rows c (rows ++ b.0 ∷ []) (left - 1) }) e b.2)
-        (opened d (opens.Rows c (rows ++ b.0 ∷ []) (left - 1)) line (row_line d.block.space b.0) body (here ∙ ap (λ (o : Open). open_text d.block.space o ++ row_line d.block.space b.0) (sym pending)) v.1)
+        (opened d (opens.Rows c (rows ++ b.0 ∷ []) (left - 1)) line (row_line d.block.space b.0) body
+        (here ∙ ap (λ (o : Open). open_text d.block.space o ++ row_line d.block.space b.0) (sym pending)) v.1)
 
-item_adds : (d e : Draft) (line : List ℕ) (o : Open) → d.pending ≡ o → d.section ≡ sections.Body → IsSpace d.block.space → item_line_in d line o ≡ Some e → Adds (body_text d) line e
+item_adds : (d e : Draft) (line : List ℕ) (o : Open) → d.pending ≡ o → d.section ≡ sections.Body
+    → IsSpace d.block.space → item_line_in d line o ≡ Some e → Adds (body_text d) line e
 item_adds d e line opens.Nothing pending body space h = absurd cc
 item_adds d e line (opens.Rows c rows left) pending body space h = absurd cc
 item_adds d e line (opens.History key items) pending body space h =
@@ -285,7 +328,8 @@ key_adds d e line is h =
     let v = key_valid d.block.space line b.0 is.body.block.space.valid b.1 in
     let f = where_so (follows_key d b.0) (Some (record d { pending = opens.History b.0 [] })) e b.2 in
     subst (Adds (body_text d) line) (some_is (record d { pending = opens.History b.0 [] }) e f.1)
-    (adds d (record d { pending = opens.History b.0 [] }) line (key_text b.0) is is.section refl (ap (λ t. block_text d.block ++ t) (append-nil (key_text b.0))) v.1)
+    (adds d (record d { pending = opens.History b.0 [] }) line (key_text b.0) is is.section refl
+    (ap (λ t. block_text d.block ++ t) (append-nil (key_text b.0))) v.1)
 
 epoch_adds : (d e : Draft) (line : List ℕ) → IsSettled d → epoch_after line d ≡ Some e → Adds (body_text d) line e
 epoch_adds d e line is h =
@@ -295,7 +339,8 @@ epoch_adds d e line is h =
     let new : Block = record d.block { epochs = d.block.epochs ++ b.0 ∷ [] } in
     let f = where_so (follows_epoch d b.0.epoch.0) (Some (record d { block = new })) e b.2 in
     let text : block_text new ≡ block_text d.block ++ epoch_text b.0 =
-    epochs_last (record d { block = new }) w.0 ∙ behind epoch_text (upto_histories d.block) d.block.epochs b.0 ∙ ap (λ t. t ++ epoch_text b.0) (sym (epochs_last d w.0)) in
+    epochs_last (record d { block = new }) w.0 ∙ behind epoch_text (upto_histories d.block) d.block.epochs b.0
+    ∙ ap (λ t. t ++ epoch_text b.0) (sym (epochs_last d w.0)) in
     subst (Adds (body_text d) line) (some_is (record d { block = new }) e f.1)
     (adds d (record d { block = new }) line (epoch_text b.0) is is.section refl (pushed d new (epoch_text b.0) is text) v.1)
 
@@ -331,7 +376,8 @@ unfolding block_text
 begun_text space = shut (space_text space)
   where
     shut : (t : List ℕ) → ((((t ++ []) ++ []) ++ []) ++ []) ++ [] ≡ t
-    shut t = append-nil ((((t ++ []) ++ []) ++ []) ++ []) ∙ append-nil (((t ++ []) ++ []) ++ []) ∙ append-nil ((t ++ []) ++ []) ∙ append-nil (t ++ []) ∙ append-nil t
+    shut t = append-nil ((((t ++ []) ++ []) ++ []) ++ []) ∙ append-nil (((t ++ []) ++ []) ++ [])
+        ∙ append-nil ((t ++ []) ++ []) ∙ append-nil (t ++ []) ∙ append-nil t
 
 head_adds : (d e : Draft) (line : List ℕ) → head_line d line ≡ Some e → Adds (front_text d ++ d.head) line e
 head_adds d e line h =
@@ -343,7 +389,8 @@ head_adds d e line h =
     joined : front_text d ++ (d.head ++ line ++ 10 ∷ []) ≡ (front_text d ++ d.head) ++ with_newline line
     joined = ap (λ t. front_text d ++ t) (append_assoc d.head line (10 ∷ [])) ∙ sym (append_assoc (front_text d) d.head (with_newline line))
 
-    by : (rest : List ℕ) (space : Space) → space_text space ≡ (d.head ++ line ++ 10 ∷ []) ++ rest → with_space d (d.head ++ line ++ 10 ∷ []) rest space ≡ e → Adds (front_text d ++ d.head) line e
+    by : (rest : List ℕ) (space : Space) → space_text space ≡ (d.head ++ line ++ 10 ∷ []) ++ rest
+        → with_space d (d.head ++ line ++ 10 ∷ []) rest space ≡ e → Adds (front_text d ++ d.head) line e
     by [] space text q =
         subst (Adds (front_text d ++ d.head) line) q
         (ap (λ t. front_text d ++ t) (append-nil (block_text (block_of space)) ∙ begun_text space ∙ text ∙ append-nil (d.head ++ line ++ 10 ∷ [])) ∙ joined)
@@ -385,7 +432,8 @@ version_adds d e line none empty h =
     by_two n true q f = ap first_text (sym (some_is 2 n f)) ∙ first_two ∙ ap with_newline (sym ((bytes_eq-Decides line (codes "report 2")).0 q))
     by_two n false q f = absurd cc
 
-    by : (n : ℕ) (b : Bool) → bytes_eq line (codes "report 1") ≡ b → cond b (Some 1) (cond (bytes_eq line (codes "report 2")) (Some 2) None) ≡ Some n → first_text n ≡ with_newline line
+    by : (n : ℕ) (b : Bool) → bytes_eq line (codes "report 1") ≡ b
+        → cond b (Some 1) (cond (bytes_eq line (codes "report 2")) (Some 2) None) ≡ Some n → first_text n ≡ with_newline line
     by n true q f = ap first_text (sym (some_is 1 n f)) ∙ first_one ∙ ap with_newline (sym ((bytes_eq-Decides line (codes "report 1")).0 q))
     by n false q f = by_two n (bytes_eq line (codes "report 2")) refl f
 
@@ -437,7 +485,8 @@ over_text d over = by d.section refl over
     by sections.Over q h = ap (text_in d) q
 
 -- lines that are read to the end are those of a report
-reads_lines : (whole : Bool) (n : ℕ) (d e : Draft) (ls : List (List ℕ)) → All IsOneLine ls → IsGood d → read_lines whole n d ls ≡ Ok e → text_of (value_of e) ≡ draft_text d ++ flat_map with_newline ls
+reads_lines : (whole : Bool) (n : ℕ) (d e : Draft) (ls : List (List ℕ)) → All IsOneLine ls → IsGood d
+    → read_lines whole n d ls ≡ Ok e → text_of (value_of e) ≡ draft_text d ++ flat_map with_newline ls
 unfolding read_lines
 reads_lines whole n d e [] one is h =
     let f = finished_over whole (n + 1) d e h in
@@ -461,7 +510,8 @@ whole_is whole n d e [] h = by (is_over d.section && whole) refl h
     by false q f = absurd cc
 whole_is whole n d e (l ∷ ls) h = by (after_line d l) h (λ m. whole_is whole (n + 1) m e ls)
   where
-    by : (o : Option Draft) → on_draft o (n + 1) (λ m. read_lines whole (n + 1) m ls) ≡ Ok e → ((m : Draft) → read_lines whole (n + 1) m ls ≡ Ok e → whole ≡ true) → whole ≡ true
+    by : (o : Option Draft) → on_draft o (n + 1) (λ m. read_lines whole (n + 1) m ls) ≡ Ok e
+        → ((m : Draft) → read_lines whole (n + 1) m ls ≡ Ok e → whole ≡ true) → whole ≡ true
     by None f k = absurd cc
     by (Some m) f k = k m f
 
@@ -495,7 +545,8 @@ lines_again (b ∷ []) h = by (eqb b 10) refl h
     by false q f = absurd cc
 lines_again (a ∷ b ∷ bs) h = by (eqb a 10) refl (lines_again (b ∷ bs) (sym (last_more a b bs) ∙ h))
   where
-    by : (t : Bool) → eqb a 10 ≡ t → flat_map with_newline (lines_of (b ∷ bs)) ≡ b ∷ bs → flat_map with_newline (cond t ([] ∷ lines_of (b ∷ bs)) (onto_first a (lines_of (b ∷ bs)))) ≡ a ∷ b ∷ bs
+    by : (t : Bool) → eqb a 10 ≡ t → flat_map with_newline (lines_of (b ∷ bs)) ≡ b ∷ bs
+        → flat_map with_newline (cond t ([] ∷ lines_of (b ∷ bs)) (onto_first a (lines_of (b ∷ bs)))) ≡ a ∷ b ∷ bs
     by true q k = ap (λ c. c ∷ flat_map with_newline (lines_of (b ∷ bs))) (sym (eqb-true a 10 q)) ∙ ap (λ t. a ∷ t) k
     by false q k = onto_text a (lines_of (b ∷ bs)) (some_lines b bs) ∙ ap (λ t. a ∷ t) k
 

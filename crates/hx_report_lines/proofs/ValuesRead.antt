@@ -1,5 +1,6 @@
 -- Texts and objects that are read are of the space, and can be said.
-use Rattle.std.proofs.Common.{◌≡◌, ℕ, suc, ◌+◌, ◌-◌, ◌<◌, Bool, true, false, cond, ◌&&◌, List, [], ◌∷◌, ◌++◌, map, length, eqb, Option, None, Some, Ok, Err, Result, refl, sym, ap, subst, arith}
+use Rattle.std.proofs.Common.{◌≡◌, ℕ, suc, ◌+◌, ◌-◌, ◌<◌, Bool, true, false, cond, ◌&&◌, List, [], ◌∷◌, ◌++◌, map}
+use Rattle.std.proofs.Common.{length, eqb, Option, None, Some, Ok, Err, Result, refl, sym, ap, subst, arith}
 use Rattle.std.specs.Prelude.{codes, slice_get, IsSomeAnd}
 use Rattle.std.specs.List.{All, AllZip}
 use Rattle.std.specs.Option.{option_map}
@@ -60,7 +61,8 @@ at_front front more a n e = subst (λ (m : ℕ). slice_get (front ++ a ∷ more)
     here (x ∷ xs) = here xs
 
 -- assignments to each attribute in order are of their kinds
-in_turn : (front left : List Attribute) (sets : List Assign) → in_order (suc (length front)) sets ≡ true → length sets ≡ length left → All (DeclaredAt (front ++ left)) sets
+in_turn : (front left : List Attribute) (sets : List Assign) → in_order (suc (length front)) sets ≡ true
+    → length sets ≡ length left → All (DeclaredAt (front ++ left)) sets
     → AllZip (λ (a : Attribute) (v : Value). IsOfKind a.kind v) left (map (λ (s : Assign). s.value) sets)
 in_turn front [] [] o l h = tt
 in_turn front [] (s ∷ sets) o l h = absurd (omega arith)
@@ -72,18 +74,25 @@ in_turn front (a ∷ left) (s ∷ sets) o l h =
     let q : slice_get (front ++ a ∷ left) (s.attribute - 1) ≡ Some a = at_front front left a s.attribute here in
     let longer : suc (length (front ++ a ∷ [])) ≡ n + 1 = omega (arith, length-append front (a ∷ [])) in (
       subst (λ (o : Option Attribute). IsSomeAnd o (λ (x : Attribute). IsOfKind x.kind s.value)) q p,
-      in_turn (front ++ a ∷ []) left sets (subst (λ (m : ℕ). in_order m sets ≡ true) (sym longer) (and_right (eqb s.attribute n) (in_order (n + 1) sets) o)) (omega arith)
-          (subst (λ (ds : List Attribute). All (DeclaredAt ds) sets) (sym (append_assoc front (a ∷ []) left)) (All-tail (DeclaredAt (front ++ a ∷ left)) s sets h)),
+      in_turn (front ++ a ∷ []) left sets (subst (λ (m : ℕ). in_order m sets ≡ true) (sym longer)
+          (and_right (eqb s.attribute n) (in_order (n + 1) sets) o)) (omega arith)
+          (subst (λ (ds : List Attribute). All (DeclaredAt ds) sets) (sym (append_assoc front (a ∷ []) left))
+          (All-tail (DeclaredAt (front ++ a ∷ left)) s sets h)),
     )
 
-sets_valid : (space : Space) (sets : List Assign) (o : List Value) → AssignsFit space sets → ValuesAreSayable sets → values_in space sets ≡ Some o → IsObjectOf space o × ObjectIsSayable o
+sets_valid : (space : Space) (sets : List Assign) (o : List Value) → AssignsFit space sets → ValuesAreSayable sets
+    → values_in space sets ≡ Some o → IsObjectOf space o × ObjectIsSayable o
 sets_valid space sets o fit said e =
     let w = where_so (in_order 1 sets && eqb (length sets) (length space.attributes)) (Some (map (λ (a : Assign). a.value) sets)) o e in
     let long = eqb-true (length sets) (length space.attributes) (and_right (in_order 1 sets) (eqb (length sets) (length space.attributes)) w.0) in
-    subst (λ (vs : List Value). IsObjectOf space vs × ObjectIsSayable vs) (some_is (map (λ (a : Assign). a.value) sets) o w.1)
-    (in_turn [] space.attributes sets (and_left (in_order 1 sets) (eqb (length sets) (length space.attributes)) w.0) long fit.each, All-map IsSayable (λ (a : Assign). a.value) sets said)
+    subst (λ (vs : List Value). IsObjectOf space vs × ObjectIsSayable vs) (some_is (map (λ (a : Assign). a.value) sets) o w.1) (
+      in_turn [] space.attributes sets (and_left (in_order 1 sets) (eqb (length sets) (length space.attributes)) w.0)
+          long fit.each,
+      All-map IsSayable (λ (a : Assign). a.value) sets said,
+    )
 
-put_valid : (space : Space) (op : Op) (o : List Value) → put_values space op ≡ Some o → Fits space op × CallIsSayable op → IsObjectOf space o × ObjectIsSayable o
+put_valid : (space : Space) (op : Op) (o : List Value) → put_values space op ≡ Some o → Fits space op
+    × CallIsSayable op → IsObjectOf space o × ObjectIsSayable o
 put_valid space (ops.Put k s) o e v = sets_valid space s o v.0.1 v.1.1 e
 put_valid space (ops.Get k) o e v = absurd cc
 put_valid space (ops.Del k) o e v = absurd cc
@@ -98,14 +107,18 @@ object_valid space bytes o is e =
     let b = bound (op_in space (codes "put \"\"" ++ bytes)) (put_values space) o e in
     put_valid space b.0 o b.2 (op_valid space (codes "put \"\"" ++ bytes) b.0 is b.1)
 
-pub state_valid : (space : Space) (bytes : List ℕ) (o : Option (List Value)) → IsSpace space → state_in space bytes ≡ Some o → IsMaybeObjectOf space o × MaybeObjectIsSayable o
+pub state_valid : (space : Space) (bytes : List ℕ) (o : Option (List Value)) → IsSpace space
+    → state_in space bytes ≡ Some o → IsMaybeObjectOf space o × MaybeObjectIsSayable o
 state_valid space bytes o is e = by (bytes_eq bytes (codes "absent")) e
   where
-    present : (x : Unit {0} × List ℕ) → option_map (λ (v : List Value). Some v) (object_in space x.1) ≡ Some o → IsMaybeObjectOf space o × MaybeObjectIsSayable o
+    present : (x : Unit {0} × List ℕ) → option_map (λ (v : List Value). Some v) (object_in space x.1) ≡ Some o
+        → IsMaybeObjectOf space o × MaybeObjectIsSayable o
     present x f =
         let m = mapped (object_in space x.1) (λ (v : List Value). Some v) o f in
         subst (λ (v : Option (List Value)). IsMaybeObjectOf space v × MaybeObjectIsSayable v) m.2 (object_valid space x.1 m.0 is m.1)
 
-    by : (b : Bool) → cond b (Some None) (on_some (word (codes "present") bytes) (λ x. option_map (λ (v : List Value). Some v) (object_in space x.1))) ≡ Some o → IsMaybeObjectOf space o × MaybeObjectIsSayable o
+    by : (b : Bool) → cond b (Some None) (on_some (word (codes "present") bytes)
+        (λ x. option_map (λ (v : List Value). Some v) (object_in space x.1))) ≡ Some o → IsMaybeObjectOf space o
+        × MaybeObjectIsSayable o
     by true f = subst (λ (v : Option (List Value)). IsMaybeObjectOf space v × MaybeObjectIsSayable v) (some_is None o f) (tt, tt)
     by false f = let b = bound (word (codes "present") bytes) (λ x. option_map (λ (v : List Value). Some v) (object_in space x.1)) o f in present b.0 b.2

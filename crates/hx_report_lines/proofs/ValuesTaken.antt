@@ -1,5 +1,6 @@
 -- Texts and objects that are printed are read again.
-use Rattle.std.proofs.Common.{◌≡◌, ℕ, zero, suc, ◌+◌, ◌-◌, ◌<◌, ◌≤◌, Bool, true, false, cond, ◌&&◌, List, [], ◌∷◌, ◌++◌, map, length, eqb, Option, None, Some, Ok, refl, sym, ap, subst, ◌∙◌, arith}
+use Rattle.std.proofs.Common.{◌≡◌, ℕ, zero, suc, ◌+◌, ◌-◌, ◌<◌, ◌≤◌, Bool, true, false, cond, ◌&&◌, List, [], ◌∷◌}
+use Rattle.std.proofs.Common.{◌++◌, map, length, eqb, Option, None, Some, Ok, refl, sym, ap, subst, ◌∙◌, arith}
 use Rattle.std.specs.Prelude.{◌≢◌, codes, slice_get, IsSomeAnd, ⊤}
 use Rattle.std.specs.List.{All, AllZip, flat_map}
 use Rattle.std.specs.Option.{option_map}
@@ -54,7 +55,8 @@ sets_long : (n : ℕ) (vs : List Value) → length (sets_from n vs) ≡ length v
 sets_long n [] = refl
 sets_long n (v ∷ vs) = ap (λ m. suc m) (sets_long (n + 1) vs)
 
-object_long : (declared : List Attribute) (vs : List Value) → AllZip (λ (a : Attribute) (v : Value). IsOfKind a.kind v) declared vs → length vs ≡ length declared
+object_long : (declared : List Attribute) (vs : List Value)
+    → AllZip (λ (a : Attribute) (v : Value). IsOfKind a.kind v) declared vs → length vs ≡ length declared
 object_long [] [] h = refl
 object_long [] (v ∷ vs) h = absurd h
 object_long (a ∷ more) [] h = absurd h
@@ -63,15 +65,19 @@ object_long (a ∷ more) (v ∷ vs) h = ap (λ m. suc m) (object_long more vs h.
 -- all that come later are of higher numbers
 above : (m n : ℕ) (vs : List Value) → m < n → All (λ k. k ≢ m) (map (λ (a : Assign). a.attribute) (sets_from n vs))
 above m n [] lt = All-nil (λ k. k ≢ m)
-above m n (v ∷ vs) lt = All-cons (λ k. k ≢ m) n (map (λ (a : Assign). a.attribute) (sets_from (n + 1) vs)) (λ e. absurd (omega (arith, e, lt))) (above m (n + 1) vs (omega arith))
+above m n (v ∷ vs) lt = All-cons (λ k. k ≢ m) n (map (λ (a : Assign). a.attribute) (sets_from (n + 1) vs))
+    (λ e. absurd (omega (arith, e, lt))) (above m (n + 1) vs (omega arith))
 
 differ : (n : ℕ) (vs : List Value) → AllDiffer (map (λ (a : Assign). a.attribute) (sets_from n vs))
 differ n [] = tt
 differ n (v ∷ vs) = (above n (n + 1) vs (omega arith), differ (n + 1) vs)
 
 -- assignments to each attribute in order fit, and are printed as the object
-fit_from : (space : Space) (front left : List Attribute) (vs : List Value) → space.attributes ≡ front ++ left → AllZip (λ (a : Attribute) (v : Value). IsOfKind a.kind v) left vs
-    → All (AssignFits space) (sets_from (suc (length front)) vs) × (flat_map (λ (a : Assign). named_text (name_of space a.attribute) a.value) (sets_from (suc (length front)) vs) ≡ object_text left vs)
+fit_from : (space : Space) (front left : List Attribute) (vs : List Value) → space.attributes ≡ front ++ left
+    → AllZip (λ (a : Attribute) (v : Value). IsOfKind a.kind v) left vs
+    → All (AssignFits space) (sets_from (suc (length front)) vs)
+    × (flat_map (λ (a : Assign). named_text (name_of space a.attribute) a.value)
+    (sets_from (suc (length front)) vs) ≡ object_text left vs)
 unfolding object_text
 fit_from space front [] [] e h = (All-nil (AssignFits space), refl)
 fit_from space front [] (v ∷ vs) e h = absurd h
@@ -81,16 +87,21 @@ fit_from space front (a ∷ left) (v ∷ vs) e h =
     let here : slice_get space.attributes (n - 1) ≡ Some a = ap (λ xs. slice_get xs (n - 1)) e ∙ at_front front left a n refl in
     let longer : suc (length (front ++ a ∷ [])) ≡ n + 1 = omega (arith, length-append front (a ∷ [])) in
     let more = fit_from space (front ++ a ∷ []) left vs (e ∙ sym (append_assoc front (a ∷ []) left)) h.1 in
-    let rest = subst (λ m. All (AssignFits space) (sets_from m vs) × (flat_map (λ (a : Assign). named_text (name_of space a.attribute) a.value) (sets_from m vs) ≡ object_text left vs)) longer more in
+    let rest = subst (λ m. All (AssignFits space) (sets_from m vs)
+    × (flat_map (λ (a : Assign). named_text (name_of space a.attribute) a.value) (sets_from m vs)
+    ≡ object_text left vs)) longer more in
     let name : name_of space n ≡ a.name = named n (omega arith) here in (
-      All-cons (AssignFits space) (record { attribute = n; value = v }) (sets_from (n + 1) vs) (omega arith, subst (λ o. IsSomeAnd o (λ (x : Attribute). IsOfKind x.kind v)) (sym here) h.0) rest.0,
-      ap (λ w. named_text w v ++ flat_map (λ (a : Assign). named_text (name_of space a.attribute) a.value) (sets_from (n + 1) vs)) name ∙ ap (λ t. named_text a.name v ++ t) rest.1,
+      All-cons (AssignFits space) (record { attribute = n; value = v }) (sets_from (n + 1) vs)
+          (omega arith, subst (λ o. IsSomeAnd o (λ (x : Attribute). IsOfKind x.kind v)) (sym here) h.0) rest.0,
+      ap (λ w. named_text w v ++ flat_map (λ (a : Assign). named_text (name_of space a.attribute) a.value)
+          (sets_from (n + 1) vs)) name ∙ ap (λ t. named_text a.name v ++ t) rest.1,
     )
   where
     named : (n : ℕ) → 0 < n → slice_get space.attributes (n - 1) ≡ Some a → name_of space n ≡ a.name
     named n lt q =
         let other : eqb n 0 ≡ false = ne_eqb n 0 (λ e. absurd (omega (arith, e, lt))) in
-        ap (λ b. cond b space.key_name (when_some (slice_get space.attributes (n - 1)) [] (λ (x : Attribute). x.name))) other ∙ ap (λ o. when_some o [] (λ (x : Attribute). x.name)) q
+        ap (λ b. cond b space.key_name (when_some (slice_get space.attributes (n - 1)) []
+        (λ (x : Attribute). x.name))) other ∙ ap (λ o. when_some o [] (λ (x : Attribute). x.name)) q
 
 put_text_is : (space : Space) (sets : List Assign) → op_text space (ops.Put [] sets) ≡ codes "put \"\"" ++ assigns_text space sets
 unfolding op_text quoted
@@ -98,16 +109,24 @@ put_text_is space sets = refl
 
 values_taken : (space : Space) (vs : List Value) → IsObjectOf space vs → values_in space (sets_from 1 vs) ≡ Some vs
 values_taken space vs is =
-    rw (sets_in_order 1 vs, sets_long 1 vs, object_long space.attributes vs is, eq-eqb (length space.attributes) (length space.attributes) refl, sets_values 1 vs) refl
+    rw (
+      sets_in_order 1 vs,
+      sets_long 1 vs,
+      object_long space.attributes vs is,
+      eq-eqb (length space.attributes) (length space.attributes) refl,
+      sets_values 1 vs,
+    ) refl
 
 said_from : (n : ℕ) (vs : List Value) → ObjectIsSayable vs → All (λ (a : Assign). IsSayable a.value) (sets_from n vs)
 said_from n [] h = All-nil (λ (a : Assign). IsSayable a.value)
-said_from n (v ∷ vs) h = All-cons (λ (a : Assign). IsSayable a.value) (record { attribute = n; value = v }) (sets_from (n + 1) vs) (All-head IsSayable v vs h) (said_from (n + 1) vs (All-tail IsSayable v vs h))
+said_from n (v ∷ vs) h = All-cons (λ (a : Assign). IsSayable a.value) (record { attribute = n; value = v })
+    (sets_from (n + 1) vs) (All-head IsSayable v vs h) (said_from (n + 1) vs (All-tail IsSayable v vs h))
 
 empty_text : IsText []
 empty_text = record { utf8 = IsUtf8-nil; plain = refl }
 
-pub object_taken : (space : Space) (vs : List Value) → IsSpace space → IsObjectOf space vs → ObjectIsSayable vs → object_in space (object_text space.attributes vs) ≡ Some vs
+pub object_taken : (space : Space) (vs : List Value) → IsSpace space → IsObjectOf space vs → ObjectIsSayable vs
+    → object_in space (object_text space.attributes vs) ≡ Some vs
 object_taken space vs is of said =
     let f = fit_from space [] space.attributes vs refl of in
     let sets : List Assign = sets_from 1 vs in
@@ -116,7 +135,8 @@ object_taken space vs is of said =
     let read = op_taken space op is (omega arith, record { each = f.0; once = differ 1 vs }) (empty_text, said_from 1 vs said) in
     ap (λ o. on_some o (put_values space)) (ap (op_in space) line ∙ read) ∙ values_taken space vs of
 
-pub state_taken : (space : Space) (o : Option (List Value)) → IsSpace space → IsMaybeObjectOf space o → MaybeObjectIsSayable o → state_in space (state_text space o) ≡ Some o
+pub state_taken : (space : Space) (o : Option (List Value)) → IsSpace space → IsMaybeObjectOf space o
+    → MaybeObjectIsSayable o → state_in space (state_text space o) ≡ Some o
 unfolding state_text
 state_taken space None is of said = refl
 state_taken space (Some vs) is of said =

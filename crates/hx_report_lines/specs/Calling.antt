@@ -1,5 +1,6 @@
 -- How the lines of calls and of rows are read.
-use Rattle.std.specs.Prelude.{ℕ, ◌-◌, Bool, true, false, not, List, [], ◌++◌, length, codes, take, drop, nat_eq, nat_lt, nat_le, is_some, if◌then◌else◌, Option, None, Some}
+use Rattle.std.specs.Prelude.{ℕ, ◌-◌, Bool, true, false, not, List, [], ◌++◌, length, codes, take, drop, nat_eq}
+use Rattle.std.specs.Prelude.{nat_lt, nat_le, is_some, if◌then◌else◌, Option, None, Some}
 use Rattle.std.specs.List.{starts_with}
 use Rattle.std.specs.Option.{option_map}
 use Rattle.std.specs.Fmt.{decimal}

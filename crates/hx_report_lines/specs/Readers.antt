@@ -1,5 +1,6 @@
 -- Reading the bytes of a line from left to right.
-use Rattle.std.specs.Prelude.{ℕ, suc, ◌^◌, Bool, true, false, not, List, [], ◌∷◌, ◌≡◌, length, take, drop, nat_eq, nat_lt, ◌==◌, ◌&&◌, Option, None, Some, Result, Ok, Err, if◌then◌else◌}
+use Rattle.std.specs.Prelude.{ℕ, suc, ◌^◌, Bool, true, false, not, List, [], ◌∷◌, ◌≡◌, length, take, drop, nat_eq}
+use Rattle.std.specs.Prelude.{nat_lt, ◌==◌, ◌&&◌, Option, None, Some, Result, Ok, Err, if◌then◌else◌}
 use Rattle.std.specs.List.{prefix_len, starts_with}
 use Rattle.hx_lex.specs.Numbers.{digits_len, value}
 use Rattle.hx_report_lines.specs.declared.errors.Stop.{Stop}

@@ -1,5 +1,6 @@
 -- How the lines of configurations, of the trace, of drivers and of the space are read.
-use Rattle.std.specs.Prelude.{ℕ, zero, suc, Bool, true, ◌&&◌, ◌||◌, List, [], ◌∷◌, ◌++◌, map, length, drop, codes, nat_eq, nat_le, nat_lt, if◌then◌else◌, Option, None, Some, Result, Ok, Err}
+use Rattle.std.specs.Prelude.{ℕ, zero, suc, Bool, true, ◌&&◌, ◌||◌, List, [], ◌∷◌, ◌++◌, map, length, drop, codes}
+use Rattle.std.specs.Prelude.{nat_eq, nat_le, nat_lt, if◌then◌else◌, Option, None, Some, Result, Ok, Err}
 use Rattle.std.specs.List.{list_all, starts_with}
 use Rattle.std.specs.Str.{bytes_eq, is_utf8}
 use Rattle.hx_model.specs.Types.{Script, Space}
@@ -98,7 +99,9 @@ space_of bytes = same_space bytes (script_of (codes "hx 1\n" ++ bytes))
 abbrev pub rest_of_head : List ℕ → Option (List ℕ)
 rest_of_head line =
     if starts_with nat_eq line (codes "space ") then Some (codes "key k 1\nservers 1\ntolerate 0\n")
-    else (if starts_with nat_eq line (codes "key ") || (starts_with nat_eq line (codes "string ") || (starts_with nat_eq line (codes "int ") || starts_with nat_eq line (codes "subspace "))) then Some (codes "servers 1\ntolerate 0\n")
+    else (if starts_with nat_eq line (codes "key ")
+    || (starts_with nat_eq line (codes "string ")
+    || (starts_with nat_eq line (codes "int ") || starts_with nat_eq line (codes "subspace "))) then Some (codes "servers 1\ntolerate 0\n")
     else (if starts_with nat_eq line (codes "servers ") then Some (codes "tolerate 0\n")
     else (if starts_with nat_eq line (codes "tolerate ") then Some []
     else None)))

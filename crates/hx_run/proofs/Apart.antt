@@ -16,8 +16,10 @@ pub more-crews : {D X : Type 0} (g : D → Crew) (f : Crew → X) (xs : List D) 
 more-crews g f [] d = refl
 more-crews g f (x ∷ xs) d = ap (λ l. f (g x) ∷ l) (more-crews g f xs d)
 
-pub more-desks : {D X : Type 0} (g : D → Crew) (f : Desk → X) (xs : List D) (d : D) → map f (desks_of (map g xs)) ++ map f (g d).desks.items ≡ map f (desks_of (map g (xs ++ d ∷ [])))
+pub more-desks : {D X : Type 0} (g : D → Crew) (f : Desk → X) (xs : List D) (d : D)
+    → map f (desks_of (map g xs)) ++ map f (g d).desks.items ≡ map f (desks_of (map g (xs ++ d ∷ [])))
 more-desks g f [] d = ap (map f) (sym (append-nil (g d).desks.items))
 more-desks g f (x ∷ xs) d =
-    ap (λ l. l ++ map f (g d).desks.items) (map_append f (g x).desks.items (desks_of (map g xs))) ∙ append_assoc (map f (g x).desks.items) (map f (desks_of (map g xs))) (map f (g d).desks.items)
+    ap (λ l. l ++ map f (g d).desks.items) (map_append f (g x).desks.items (desks_of (map g xs)))
+    ∙ append_assoc (map f (g x).desks.items) (map f (desks_of (map g xs))) (map f (g d).desks.items)
     ∙ ap (λ l. map f (g x).desks.items ++ l) (more-desks g f xs d) ∙ sym (map_append f (g x).desks.items (desks_of (map g (xs ++ d ∷ []))))

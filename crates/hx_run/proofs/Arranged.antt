@@ -1,5 +1,6 @@
 -- Actors in the order of their boxes.
-use Rattle.std.proofs.Common.{◌≡◌, ℕ, zero, suc, ◌+◌, ◌-◌, ◌<◌, ◌≤◌, ⊎_elim, inl, inr, true, false, List, [], ◌∷◌, map, length, slice_index_or, ltb, leb, refl, ap, sym, subst, ◌∙◌, arith}
+use Rattle.std.proofs.Common.{◌≡◌, ℕ, zero, suc, ◌+◌, ◌-◌, ◌<◌, ◌≤◌, ⊎_elim, inl, inr, true, false, List, [], ◌∷◌, map}
+use Rattle.std.proofs.Common.{length, slice_index_or, ltb, leb, refl, ap, sym, subst, ◌∙◌, arith}
 use Rattle.std.specs.List.{AllByRecursion, IsDistinct}
 use Rattle.std.specs.List.Sorted.{IsNonDecreasingBy}
 use Rattle.std.specs.Prelude.{⊤}
@@ -21,7 +22,8 @@ use Rattle.hx_run.proofs.Courses.{below-or-not}
 pub actor-exists : (script : Script) (a : Actor) → is_actor script a ≡ true → Exists script a
 actor-exists script Coordinator e = tt
 actor-exists script (Server s) e = let a = and_parts (ltb 0 s.0) (leb s.0 script.space.servers) e in (ltb-true 0 s.0 a.0, leb-true s.0 script.space.servers a.1)
-actor-exists script (Session u) e = let a = and_parts (ltb 0 u.0) (leb u.0 (length script.sessions)) e in (ltb-true 0 u.0 a.0, leb-true u.0 (length script.sessions) a.1)
+actor-exists script (Session u) e = let a = and_parts (ltb 0 u.0) (leb u.0 (length script.sessions)) e in
+    (ltb-true 0 u.0 a.0, leb-true u.0 (length script.sessions) a.1)
 
 pub is-actor : (script : Script) (a : Actor) → Exists script a → is_actor script a ≡ true
 is-actor script Coordinator h = refl
@@ -69,14 +71,17 @@ module _ (script : Script) where
   above k (t ∷ ts) u r (inr i) = omega (arith, r.0, above (suc (place_at script t)) ts u r.1 i)
 
   -- rising places that leave none out below n are all of these
-  pub filled : (n k : ℕ) (ts : List OwnedPort) → k ≤ n → AreRising k ts → ((t : OwnedPort) → IsIn t ts → place_at script t < n) → ((j : ℕ) → k ≤ j → j < n → (t : OwnedPort) × IsIn t ts × (place_at script t ≡ j))
+  pub filled : (n k : ℕ) (ts : List OwnedPort) → k ≤ n → AreRising k ts
+      → ((t : OwnedPort) → IsIn t ts → place_at script t < n)
+      → ((j : ℕ) → k ≤ j → j < n → (t : OwnedPort) × IsIn t ts × (place_at script t ≡ j))
       → AreInPlaces script k ts × (k + length ts ≡ n)
   filled n k [] le r lt has = (tt, ⊎_elim (λ (h : k < n). absurd (has k (omega arith) h).1) (λ (h : n ≤ k). omega (arith, h, le)) (below-or-not k n))
   filled n k (t ∷ ts) le r lt has =
       let p = lt t (inl refl) in
       let h = has k (omega arith) (omega (arith, p, r.0)) in
       let here : place_at script t ≡ k =
-      ⊎_elim (λ (e : h.0 ≡ t). ap (place_at script) (sym e) ∙ h.2) (λ (i : IsIn h.0 ts). absurd (omega (arith, above (suc (place_at script t)) ts h.0 r.1 i, r.0, h.2))) h.1 in
+      ⊎_elim (λ (e : h.0 ≡ t). ap (place_at script) (sym e) ∙ h.2)
+      (λ (i : IsIn h.0 ts). absurd (omega (arith, above (suc (place_at script t)) ts h.0 r.1 i, r.0, h.2))) h.1 in
       let rest =
       filled n (suc k) ts (omega (arith, p, here)) (subst (λ j. AreRising (suc j) ts) here r.1) (λ u i. lt u (inr i))
       (λ j kj jn.
@@ -85,7 +90,8 @@ module _ (script : Script) where
       ((here, rest.0), omega (arith, rest.1))
 
   -- places that don't fall, of actors that differ, rise
-  pub rises : (k : ℕ) (ts : List OwnedPort) → ((d : OwnedPort) → 0 < length ts → k ≤ place_at script (slice_index_or ts 0 d)) → IsNonDecreasingBy (place_at script) ts
+  pub rises : (k : ℕ) (ts : List OwnedPort) → ((d : OwnedPort) → 0 < length ts
+      → k ≤ place_at script (slice_index_or ts 0 d)) → IsNonDecreasingBy (place_at script) ts
       → AllByRecursion (λ (t : OwnedPort). Exists script t.actor) ts → IsDistinct same_actor (map (λ (t : OwnedPort). t.actor) ts) → AreRising k ts
   rises k [] low up real apart = tt
   rises k (t ∷ []) low up real apart = (low t (omega arith), tt)
@@ -100,5 +106,6 @@ module _ (script : Script) where
             let same : t.actor ≡ u.actor = place-apart script t.actor u.actor real.0 real.1.0 (omega (arith, le, h)) in
             absurd (true≢false (sym (same_as_itself t.actor) ∙ ap (same_actor t.actor) same ∙ differ)))
             (below-or-not (place_at script t) (place_at script u)))
-            (λ i j d ij lt. up (suc i) (suc j) d (omega (arith, ij)) (omega (arith, lt))) real.1 (IsDistinct-tail same_actor t.actor (u.actor ∷ map (λ (x : OwnedPort). x.actor) ts) apart),
+            (λ i j d ij lt. up (suc i) (suc j) d (omega (arith, ij)) (omega (arith, lt))) real.1
+            (IsDistinct-tail same_actor t.actor (u.actor ∷ map (λ (x : OwnedPort). x.actor) ts) apart),
       )

@@ -22,7 +22,8 @@ use Rattle.hx_run.specs.Joined.{place_at, AreInPlaces, HaveIndexes, IsJoined, Is
 use Rattle.hx_run.proofs.Leaving.{are-in-order, are-once, have-indexes, is-left, outboxes, sorted-places, sorted-ready}
 
 module _ (script : Script) (clock : TableId) (boxes : List Boxed) (w : ℕ) where
-  pub joins-need : (crews : List Crew) → 1 ≤ w → AreNumbered w crews → AllByRecursion (IsCrew script clock boxes w) crews → (outs : List Outbox) → outs ≡ map (λ (c : Crew). c.out) crews
+  pub joins-need : (crews : List Crew) → 1 ≤ w → AreNumbered w crews
+      → AllByRecursion (IsCrew script clock boxes w) crews → (outs : List Outbox) → outs ≡ map (λ (c : Crew). c.out) crews
       → AllByRecursion (IsOutbox boxes) outs × HaveIndexes (length outs) outs × (0 < length outs)
   joins-need crews some numbered h outs e =
       let i = have-indexes w crews numbered in
@@ -32,22 +33,36 @@ module _ (script : Script) (clock : TableId) (boxes : List Boxed) (w : ℕ) wher
         omega (arith, n, some),
       )
 
-  perm-of : (crews : List Crew) (owned_ports sorted : List OwnedPort) → owned_ports ≡ map owned_port_of (desks_of crews) → IsPermutation owned_ports sorted → IsPermutation (map owned_port_of (desks_of crews)) sorted
+  perm-of : (crews : List Crew) (owned_ports sorted : List OwnedPort)
+      → owned_ports ≡ map owned_port_of (desks_of crews) → IsPermutation owned_ports sorted
+      → IsPermutation (map owned_port_of (desks_of crews)) sorted
   perm-of crews owned_ports sorted e p = subst (λ l. IsPermutation l sorted) e p
 
-  pub places-need : AreBoxes script clock boxes → (crews : List Crew) → AllByRecursion (IsCrew script clock boxes w) crews → HaveAllActors script crews → (owned_ports sorted : List OwnedPort) → owned_ports ≡ map owned_port_of (desks_of crews) → IsPermutation owned_ports sorted
+  pub places-need : AreBoxes script clock boxes → (crews : List Crew)
+      → AllByRecursion (IsCrew script clock boxes w) crews → HaveAllActors script crews
+      → (owned_ports sorted : List OwnedPort) → owned_ports ≡ map owned_port_of (desks_of crews)
+      → IsPermutation owned_ports sorted
       → IsNonDecreasingBy (place_at script) sorted → AreInPlaces script 0 sorted × (length sorted ≡ length boxes)
   places-need are crews h all owned_ports sorted e p up = sorted-places script clock boxes w are crews h all sorted (perm-of crews owned_ports sorted e p) up
 
-  pub ports-need : AreBoxes script clock boxes → (crews : List Crew) → AreNumbered w crews → AllByRecursion (IsCrew script clock boxes w) crews → (owned_ports sorted : List OwnedPort) → owned_ports ≡ map owned_port_of (desks_of crews) → IsPermutation owned_ports sorted
+  pub ports-need : AreBoxes script clock boxes → (crews : List Crew) → AreNumbered w crews
+      → AllByRecursion (IsCrew script clock boxes w) crews → (owned_ports sorted : List OwnedPort)
+      → owned_ports ≡ map owned_port_of (desks_of crews) → IsPermutation owned_ports sorted
       → (outs : List Outbox) → outs ≡ map (λ (c : Crew). c.out) crews → AllByRecursion (IsJoined script (length outs) boxes []) sorted
   ports-need are crews numbered h owned_ports sorted e p outs eo =
       let n : length outs ≡ w = ap length eo ∙ (have-indexes w crews numbered).0 in
-      subst (λ k. AllByRecursion (IsJoined script k boxes []) sorted) (sym n) (sorted-ready script clock boxes w are crews h sorted (perm-of crews owned_ports sorted e p))
+      subst (λ k. AllByRecursion (IsJoined script k boxes []) sorted) (sym n)
+      (sorted-ready script clock boxes w are crews h sorted (perm-of crews owned_ports sorted e p))
 
-  pub left-of : AreBoxes script clock boxes → (crews : List Crew) → 1 ≤ w → AreNumbered w crews → AllByRecursion (IsCrew script clock boxes w) crews → HaveAllActors script crews → (actors : List SeatedPart) → actors ≡ map seated_of (desks_of crews)
-      → (totals : List Totals) → totals ≡ map (λ (c : Crew). c.totals) crews → (owned_ports sorted joined : List OwnedPort) → owned_ports ≡ map owned_port_of (desks_of crews) → IsPermutation owned_ports sorted → IsNonDecreasingBy (place_at script) sorted
-      → (outs : List Outbox) → outs ≡ map (λ (c : Crew). c.out) crews → Both IsKeptPort sorted joined → AllByRecursion (IsJoined script (length outs) boxes outs) joined → (ports : List Ported) → ports ≡ map (λ (t : OwnedPort). t.inbox) joined
+  pub left-of : AreBoxes script clock boxes → (crews : List Crew) → 1 ≤ w → AreNumbered w crews
+      → AllByRecursion (IsCrew script clock boxes w) crews → HaveAllActors script crews → (actors : List SeatedPart)
+      → actors ≡ map seated_of (desks_of crews)
+      → (totals : List Totals) → totals ≡ map (λ (c : Crew). c.totals) crews
+      → (owned_ports sorted joined : List OwnedPort) → owned_ports ≡ map owned_port_of (desks_of crews)
+      → IsPermutation owned_ports sorted → IsNonDecreasingBy (place_at script) sorted
+      → (outs : List Outbox) → outs ≡ map (λ (c : Crew). c.out) crews → Both IsKeptPort sorted joined
+      → AllByRecursion (IsJoined script (length outs) boxes outs) joined → (ports : List Ported)
+      → ports ≡ map (λ (t : OwnedPort). t.inbox) joined
       → IsLeft script clock crews actors totals ports
   left-of are crews some numbered h all actors ea totals et owned_ports sorted joined e p up outs eo kept joins ports ep =
       let q = perm-of crews owned_ports sorted e p in
@@ -57,10 +72,16 @@ module _ (script : Script) (clock : TableId) (boxes : List Boxed) (w : ℕ) wher
       subst (λ l. AllByRecursion (IsJoined script w boxes l) joined) eo (subst (λ k. AllByRecursion (IsJoined script k boxes outs) joined) n joins) in
       is-left script clock boxes w are crews h all some numbered actors ea totals et sorted joined q pl.0 pl.1 kept j ports ep
 
-  pub order-of : (crews : List Crew) (owned_ports sorted : List OwnedPort) → owned_ports ≡ map owned_port_of (desks_of crews) → IsPermutation owned_ports sorted → (outs : List Outbox) → outs ≡ map (λ (c : Crew). c.out) crews → AllByRecursion (TookInOrder script outs) sorted
+  pub order-of : (crews : List Crew) (owned_ports sorted : List OwnedPort)
+      → owned_ports ≡ map owned_port_of (desks_of crews) → IsPermutation owned_ports sorted → (outs : List Outbox)
+      → outs ≡ map (λ (c : Crew). c.out) crews → AllByRecursion (TookInOrder script outs) sorted
       → AreInOrder script crews
-  order-of crews owned_ports sorted e p outs eo h = are-in-order script clock boxes w crews sorted (perm-of crews owned_ports sorted e p) (subst (λ l. AllByRecursion (TookInOrder script l) sorted) eo h)
+  order-of crews owned_ports sorted e p outs eo h =
+      are-in-order script clock boxes w crews sorted (perm-of crews owned_ports sorted e p)
+      (subst (λ l. AllByRecursion (TookInOrder script l) sorted) eo h)
 
-  pub once-of : (crews : List Crew) (owned_ports sorted : List OwnedPort) → owned_ports ≡ map owned_port_of (desks_of crews) → IsPermutation owned_ports sorted → (outs : List Outbox) → outs ≡ map (λ (c : Crew). c.out) crews → TookOnce outs sorted → AreOnce crews
+  pub once-of : (crews : List Crew) (owned_ports sorted : List OwnedPort)
+      → owned_ports ≡ map owned_port_of (desks_of crews) → IsPermutation owned_ports sorted → (outs : List Outbox)
+      → outs ≡ map (λ (c : Crew). c.out) crews → TookOnce outs sorted → AreOnce crews
   once-of crews owned_ports sorted e p outs eo h =
       are-once script clock boxes w crews sorted (perm-of crews owned_ports sorted e p) (subst (λ l. TookOnce l sorted) eo h)

@@ -1,5 +1,6 @@
 -- What each driver's actors posted, counted in the merged trace.
-use Rattle.std.proofs.Common.{◌≡◌, ◌≢◌, ℕ, zero, suc, ◌+◌, ◌%◌, ◌<◌, inl, inr, Bool, true, false, cond, List, [], ◌∷◌, map, slice_get, Some, refl, ap, sym, subst, ◌∙◌, arith}
+use Rattle.std.proofs.Common.{◌≡◌, ◌≢◌, ℕ, zero, suc, ◌+◌, ◌%◌, ◌<◌, inl, inr, Bool, true, false, cond, List, [], ◌∷◌}
+use Rattle.std.proofs.Common.{map, slice_get, Some, refl, ap, sym, subst, ◌∙◌, arith}
 use Rattle.std.specs.Prelude.{reverse}
 use Rattle.std.specs.List.{AllByRecursion}
 use Rattle.std.proofs.lemmas.Bool.{eq-eqb}
@@ -77,14 +78,20 @@ module _ (script : Script) (w : ℕ) where
 
     none-later : (n : ℕ) (crews : List Crew) → i < n → AreDealtFrom n crews → total (λ (c : Crew). total counted_one c.desks.items) crews ≡ 0
     none-later n [] lt h = refl
-    none-later n (c ∷ crews) lt h = omega (arith, none-one n c.desks.items (λ e. absurd (omega (arith, e, lt))) h.0, none-later (suc n) crews (omega (arith, lt)) h.1)
+    none-later n (c ∷ crews) lt h = omega (
+      arith,
+      none-one n c.desks.items (λ e. absurd (omega (arith, e, lt))) h.0,
+      none-later (suc n) crews (omega (arith, lt)) h.1,
+    )
 
-    pick : (k n : ℕ) (crews : List Crew) (c : Crew) → n + k ≡ i → AreDealtFrom n crews → slice_get crews k ≡ Some c → total (λ (c : Crew). total counted_one c.desks.items) crews ≡ total f c.desks.items
+    pick : (k n : ℕ) (crews : List Crew) (c : Crew) → n + k ≡ i → AreDealtFrom n crews → slice_get crews k ≡ Some c
+        → total (λ (c : Crew). total counted_one c.desks.items) crews ≡ total f c.desks.items
     pick k n [] c e h g = absurd cc
     pick zero n (x ∷ crews) c e h g =
         let same : x ≡ c = some-same x c g in
         let n-i : n ≡ i = omega (arith, e) in
-        let here : total counted_one x.desks.items ≡ total f x.desks.items = all-one x.desks.items (subst (λ m. AllByRecursion (λ (d : Desk). residue d ≡ m) x.desks.items) n-i h.0) in
+        let here : total counted_one x.desks.items ≡ total f x.desks.items =
+        all-one x.desks.items (subst (λ m. AllByRecursion (λ (d : Desk). residue d ≡ m) x.desks.items) n-i h.0) in
         omega (arith, here, none-later (suc n) crews (omega (arith, n-i)) h.1, ap (λ (y : Crew). total f y.desks.items) same)
     pick (suc k) n (x ∷ crews) c e h g =
         omega (arith, none-one n x.desks.items (λ z. absurd (omega (arith, z, e))) h.0, pick k (suc n) crews c (omega (arith, e)) h.1 g)
@@ -97,37 +104,52 @@ module _ (script : Script) (w : ℕ) where
   IsOwnDesk d = IsOwn script d.actor (entries_before d.part.items)
 
   desk-worth : (test : Post → Bool) (i : ℕ) (d : Desk) → IsOwnDesk d
-      → total (λ (x : Stamped). cond (is_dealt script w i x.entry.actor) (total (λ (p : Post). one (test p)) x.entry.outputs) 0) d.part.items ≡ counted_one i (worth test) d
+      → total (λ (x : Stamped). cond (is_dealt script w i x.entry.actor)
+      (total (λ (p : Post). one (test p)) x.entry.outputs) 0) d.part.items ≡ counted_one i (worth test) d
   desk-worth test i d o = by (is_dealt script w i d.actor) d.part.items (λ z j. ap (is_dealt script w i) (part-actor script d.actor d.part.items z o j))
     where
       by : (b : Bool) (xs : List Stamped) → ((z : Stamped) → IsIn z xs → is_dealt script w i z.entry.actor ≡ b)
-          → total (λ (x : Stamped). cond (is_dealt script w i x.entry.actor) (total (λ (p : Post). one (test p)) x.entry.outputs) 0) xs ≡ cond b (total (λ (x : Stamped). total (λ (p : Post). one (test p)) x.entry.outputs) xs) 0
+          → total (λ (x : Stamped). cond (is_dealt script w i x.entry.actor)
+          (total (λ (p : Post). one (test p)) x.entry.outputs) 0) xs
+          ≡ cond b (total (λ (x : Stamped). total (λ (p : Post). one (test p)) x.entry.outputs) xs) 0
       by true xs h = total_same _ _ xs (λ z j. ap (λ b. cond b (total (λ (p : Post). one (test p)) z.entry.outputs) 0) (h z j))
       by false xs h = zero-total _ xs (λ z j. ap (λ b. cond b (total (λ (p : Post). one (test p)) z.entry.outputs) 0) (h z j))
 
   desks-worth : (test : Post → Bool) (i : ℕ) (ds : List Desk) → AllByRecursion IsOwnDesk ds
-      → total (λ (d : Desk). total (λ (x : Stamped). cond (is_dealt script w i x.entry.actor) (total (λ (p : Post). one (test p)) x.entry.outputs) 0) d.part.items) ds ≡ total (counted_one i (worth test)) ds
+      → total (λ (d : Desk). total (λ (x : Stamped). cond (is_dealt script w i x.entry.actor)
+      (total (λ (p : Post). one (test p)) x.entry.outputs) 0) d.part.items) ds ≡ total (counted_one i (worth test)) ds
   desks-worth test i [] h = refl
   desks-worth test i (d ∷ ds) h = omega (arith, desk-worth test i d h.0, desks-worth test i ds h.1)
 
   -- the posts of driver i's actors in the trace are those of its crew
-  pub posts-of-crew : (test : Post → Bool) (crews : List Crew) (merged : List Stamped) (trace : List Entry) → IsMerged (parts_in (parts_of crews)) merged → trace ≡ map (λ (x : Stamped). x.entry) merged
+  pub posts-of-crew : (test : Post → Bool) (crews : List Crew) (merged : List Stamped) (trace : List Entry)
+      → IsMerged (parts_in (parts_of crews)) merged → trace ≡ map (λ (x : Stamped). x.entry) merged
       → AllByRecursion IsOwnDesk (desks_of crews) → AreDealtFrom 0 crews → (i : ℕ) (c : Crew) → slice_get crews i ≡ Some c
       → posts_by test script w i trace ≡ total (worth test) c.desks.items
   posts-of-crew test crews merged trace is e own dealt i c g =
       let f = λ (x : Entry). cond (is_dealt script w i x.actor) (total (λ (p : Post). one (test p)) x.outputs) 0 in
       let h = λ (x : Stamped). f x.entry in
-      ap (total f) e ∙ total-map f (λ (x : Stamped). x.entry) merged ∙ total-perm h (all_of (parts_in (parts_of crews))) merged is.all ∙ all-total h (desks_of crews)
+      ap (total f) e ∙ total-map f (λ (x : Stamped). x.entry) merged
+      ∙ total-perm h (all_of (parts_in (parts_of crews))) merged is.all ∙ all-total h (desks_of crews)
       ∙ desks-worth test i (desks_of crews) own ∙ flat-total (counted_one i (worth test)) crews ∙ pick i (worth test) i 0 crews c (omega arith) dealt g
 
-  named-worth : (test : Post → Bool) (entry place : ℕ) (ps : List Post) → total (λ (m : Mailed). one (test m.post)) (named entry place ps) ≡ total (λ (p : Post). one (test p)) ps
+  named-worth : (test : Post → Bool) (entry place : ℕ) (ps : List Post)
+      → total (λ (m : Mailed). one (test m.post)) (named entry place ps) ≡ total (λ (p : Post). one (test p)) ps
   named-worth test entry place [] = refl
   named-worth test entry place (p ∷ ps) = omega (arith, named-worth test entry (suc place) ps)
 
-  part-worth : (test : Post → Bool) (xs : List Stamped) → total (λ (m : Mailed). one (test m.post)) (made_by xs) ≡ total (λ (x : Stamped). total (λ (p : Post). one (test p)) x.entry.outputs) xs
+  part-worth : (test : Post → Bool) (xs : List Stamped)
+      → total (λ (m : Mailed). one (test m.post)) (made_by xs)
+      ≡ total (λ (x : Stamped). total (λ (p : Post). one (test p)) x.entry.outputs) xs
   part-worth test [] = refl
   part-worth test (x ∷ xs) =
-      omega (arith, total-append (λ (m : Mailed). one (test m.post)) (named (x.stamp.0 + 1) 0 x.entry.outputs) (made_by xs), named-worth test (x.stamp.0 + 1) 0 x.entry.outputs, part-worth test xs)
+      omega (
+        arith,
+        total-append (λ (m : Mailed). one (test m.post)) (named (x.stamp.0 + 1) 0 x.entry.outputs)
+            (made_by xs),
+        named-worth test (x.stamp.0 + 1) 0 x.entry.outputs,
+        part-worth test xs,
+      )
 
   -- what a crew made
   pub made-worth : (test : Post → Bool) (ds : List Desk) → made_weight (λ (m : Mailed). one (test m.post)) ds ≡ total (worth test) ds
@@ -151,12 +173,15 @@ module _ (script : Script) (w : ℕ) where
   asked-total (o ∷ os) = omega (arith, asked-total os)
 
   -- a fate's counts rose by what its crew posted
-  pub posted-risen : (trace : List Entry) (i : ℕ) (c : Crew) (f f' : FateState) → posts_by is_asked script w i trace ≡ total (worth is_asked) c.desks.items → HasPosted c f f' → HasRisen script w trace i c.totals f f'
+  pub posted-risen : (trace : List Entry) (i : ℕ) (c : Crew) (f f' : FateState)
+      → posts_by is_asked script w i trace ≡ total (worth is_asked) c.desks.items → HasPosted c f f'
+      → HasRisen script w trace i c.totals f f'
   posted-risen trace i c f f' e h =
       let k = h.posted in
       let o = k.offered in
       let lose : c.totals.lose ≡ count_of 0 o.offers = o.lose ∙ ap (λ (t : Totals). t.lose + count_of 0 o.offers) h.new.totals ∙ zeros (count_of 0 o.offers) in
-      let twice : c.totals.twice ≡ count_of 2 o.offers = o.twice ∙ ap (λ (t : Totals). t.twice + count_of 2 o.offers) h.new.totals ∙ zeros (count_of 2 o.offers) in
+      let twice : c.totals.twice ≡ count_of 2 o.offers =
+      o.twice ∙ ap (λ (t : Totals). t.twice + count_of 2 o.offers) h.new.totals ∙ zeros (count_of 2 o.offers) in
       let g = λ (m : Mailed). one (is_asked m.post) in
       let asked : asked_of o.offers ≡ posts_by is_asked script w i trace =
       omega (arith, asked-total o.offers, ap (total g) o.are, k.made g, new-made g h.start.desks.items h.new.desks, made-worth is_asked c.desks.items, e) in

@@ -1,5 +1,7 @@
 -- What the rounds keep: the course so far, and what each driver posted.
-use Rattle.std.proofs.Common.{◌≡◌, ℕ, zero, suc, ◌+◌, ◌<◌, ◌≤◌, ◌⊎◌, ⊎_elim, inl, inr, true, false, List, [], ◌∷◌, ◌++◌, map, length, slice_get, slice_index_or, slice_set, Option, Some, None, refl, ap, sym, subst, ◌∙◌, arith}
+use Rattle.std.proofs.Common.{◌≡◌, ℕ, zero, suc, ◌+◌, ◌<◌, ◌≤◌, ◌⊎◌, ⊎_elim, inl, inr, true, false, List, [], ◌∷◌}
+use Rattle.std.proofs.Common.{◌++◌, map, length, slice_get, slice_index_or, slice_set, Option, Some, None, refl, ap}
+use Rattle.std.proofs.Common.{sym, subst, ◌∙◌, arith}
 use Rattle.std.specs.List.{AllByRecursion}
 use Rattle.std.specs.Option.{is_some}
 use Rattle.std.proofs.lemmas.Bool.{true≢false}
@@ -138,7 +140,8 @@ posted-refl c f = record { posts = []; offered = offered-none _ _ c.totals f (λ
 pub posted-trans : (c d e : Crew) (f g h : FateState) → IsPosted c d f g → IsPosted d e g h → IsPosted c e f h
 posted-trans c d e f g h a b = record {
   posts = a.posts ++ b.posts;
-  offered = offered-both (λ k. weight_in k c.out c.desks.items) (λ k. weight_in k d.out d.desks.items) (λ k. weight_in k e.out e.desks.items) c.totals d.totals e.totals f g h a.posts b.posts a.offered b.offered;
+  offered = offered-both (λ k. weight_in k c.out c.desks.items) (λ k. weight_in k d.out d.desks.items)
+      (λ k. weight_in k e.out e.desks.items) c.totals d.totals e.totals f g h a.posts b.posts a.offered b.offered;
   made = λ k. omega (arith, a.made k, b.made k, total-append k a.posts b.posts);
 }
 
@@ -146,12 +149,14 @@ posted-trans c d e f g h a b = record {
 pub stay-refl : (script : Script) (clock : TableId) (boxes : List Boxed) (crews : List Crew) → StayCrews script clock boxes crews crews
 stay-refl script clock boxes crews = both-refl (StaysCrew script clock boxes) (λ c w h. h) crews
 
-pub stay-trans : (script : Script) (clock : TableId) (boxes : List Boxed) (xs ys zs : List Crew) → StayCrews script clock boxes xs ys → StayCrews script clock boxes ys zs → StayCrews script clock boxes xs zs
+pub stay-trans : (script : Script) (clock : TableId) (boxes : List Boxed) (xs ys zs : List Crew)
+    → StayCrews script clock boxes xs ys → StayCrews script clock boxes ys zs → StayCrews script clock boxes xs zs
 stay-trans script clock boxes xs ys zs h k = both-trans (StaysCrew script clock boxes) (λ x y z a b w i. b w (a w i)) xs ys zs h k
 
 pub stay-each : (script : Script) (clock : TableId) (boxes : List Boxed) (w : ℕ) (xs ys : List Crew) → StayCrews script clock boxes xs ys
     → AllByRecursion (IsCrew script clock boxes w) xs → AllByRecursion (IsCrew script clock boxes w) ys
-stay-each script clock boxes w xs ys h e = both-each (StaysCrew script clock boxes) (IsCrew script clock boxes w) (IsCrew script clock boxes w) (λ x y s i. s w i) xs ys h e
+stay-each script clock boxes w xs ys h e = both-each (StaysCrew script clock boxes) (IsCrew script clock boxes w)
+    (IsCrew script clock boxes w) (λ x y s i. s w i) xs ys h e
 
 -- the actors of crews have the states of their entries
 crew-machines : (script : Script) (clock : TableId) (boxes : List Boxed) (w : ℕ) (c : Crew) → IsCrew script clock boxes w c → HaveMachines script c
@@ -161,17 +166,20 @@ crew-machines script clock boxes w c h = each-desk c.desks.items h.desks
     each-desk [] k = tt
     each-desk (d ∷ ds) k = (k.0.broken.desk.machine, each-desk ds k.1)
 
-pub have-machines : (script : Script) (clock : TableId) (boxes : List Boxed) (w : ℕ) (crews : List Crew) → AllByRecursion (IsCrew script clock boxes w) crews → AllByRecursion (HaveMachines script) crews
+pub have-machines : (script : Script) (clock : TableId) (boxes : List Boxed) (w : ℕ) (crews : List Crew)
+    → AllByRecursion (IsCrew script clock boxes w) crews → AllByRecursion (HaveMachines script) crews
 have-machines script clock boxes w [] h = tt
 have-machines script clock boxes w (c ∷ crews) h = (crew-machines script clock boxes w c h.0, have-machines script clock boxes w crews h.1)
 
 module _ (script : Script) (clock : TableId) (boxes : List Boxed) (w : ℕ) where
-  pub course-slice : (start : List Crew) (cuts : List (List Crew)) (now later : List Crew) → IsCourse script clock boxes w start cuts now → AreSliced script now later → IsCourse script clock boxes w start cuts later
+  pub course-slice : (start : List Crew) (cuts : List (List Crew)) (now later : List Crew)
+      → IsCourse script clock boxes w start cuts now → AreSliced script now later → IsCourse script clock boxes w start cuts later
   course-slice start [] now later h k = are-sliced-trans script start now later h k
   course-slice start (cut ∷ cuts) now later h k = (h.0, h.1, (h.2.0, h.2.1, are-sliced-trans script h.2.0 now later h.2.2 k))
 
   -- one more round
-  pub course-on : (start now later : List Crew) → AllByRecursion (IsCrew script clock boxes w) now → ((cuts : List (List Crew)) × IsCourse script clock boxes w start cuts now) → Advance script now later
+  pub course-on : (start now later : List Crew) → AllByRecursion (IsCrew script clock boxes w) now
+      → ((cuts : List (List Crew)) × IsCourse script clock boxes w start cuts now) → Advance script now later
       → (cuts : List (List Crew)) × IsCourse script clock boxes w start cuts later
   course-on start now later crews h k =
       ⊎_elim (λ (a : AreSliced script now later). (h.0, course-slice start h.0 now later h.1 a))
@@ -197,7 +205,8 @@ retried-none script (c ∷ cs) = (refl, retried-none script cs)
 
 -- one more driver retried
 retried-suc : {D : Type 0} (f : D → Crew) (script : Script) (k : ℕ) (cs : List Crew) (ds : List D) (d y : D) → RetriedTo script k cs (map f ds) → k < length ds
-    → IsLaterCrew (f (slice_index_or ds k d)) (f y) → HaveRetried script (f (slice_index_or ds k d)) (f y) → (f y).fault ≡ None → RetriedTo script (suc k) cs (map f (slice_set ds k y))
+    → IsLaterCrew (f (slice_index_or ds k d)) (f y) → HaveRetried script (f (slice_index_or ds k d)) (f y)
+    → (f y).fault ≡ None → RetriedTo script (suc k) cs (map f (slice_set ds k y))
 retried-suc f script k [] [] d y h lt l r g = absurd (omega (arith, lt))
 retried-suc f script k [] (x ∷ ds) d y h lt l r g = absurd h
 retried-suc f script k (x ∷ cs) [] d y h lt l r g = absurd h
@@ -205,8 +214,10 @@ retried-suc f script zero (x ∷ cs) (u ∷ ds) d y h lt l r g =
     (record { later = subst (λ v. IsLaterCrew v (f y)) h.0 l; retried = subst (λ v. HaveRetried script v (f y)) h.0 r; calm = g }, h.1)
 retried-suc f script (suc k) (x ∷ cs) (u ∷ ds) d y h lt l r g = (h.0, retried-suc f script k cs ds d y h.1 (omega (arith, lt)) l r g)
 
-pub retried-next : {D : Type 0} (f : D → Crew) (script : Script) (k : ℕ) (cs : List Crew) (ds : List D) (d y : D) → RetriedTo script k cs (map f ds) → k < length ds
-    → IsLaterCrew (f (slice_index_or ds k d)) (f y) → HaveRetried script (f (slice_index_or ds k d)) (f y) → (f y).fault ≡ None → RetriedTo script (k + 1) cs (map f (slice_set ds k y))
+pub retried-next : {D : Type 0} (f : D → Crew) (script : Script) (k : ℕ) (cs : List Crew) (ds : List D) (d y : D)
+    → RetriedTo script k cs (map f ds) → k < length ds
+    → IsLaterCrew (f (slice_index_or ds k d)) (f y) → HaveRetried script (f (slice_index_or ds k d)) (f y)
+    → (f y).fault ≡ None → RetriedTo script (k + 1) cs (map f (slice_set ds k y))
 retried-next f script k cs ds d y h lt l r g =
     let e : suc k ≡ k + 1 = omega arith in
     subst (λ n. RetriedTo script n cs (map f (slice_set ds k y))) e (retried-suc f script k cs ds d y h lt l r g)
@@ -225,21 +236,24 @@ all-retried script k cs ds le h = record { later = later k cs ds le h; calm = λ
     later zero (c ∷ cs) (d ∷ ds) le h = absurd (omega (arith, le))
     later (suc k) (c ∷ cs) (d ∷ ds) le h = (h.0.later, later k cs ds (omega (arith, le)) h.1)
 
-    calm : (k : ℕ) (cs ds : List Crew) → length ds ≤ k → RetriedTo script k cs ds → Both (λ (c c' : Crew). Both (HasRetried script) c.desks.items c'.desks.items) cs ds
+    calm : (k : ℕ) (cs ds : List Crew) → length ds ≤ k → RetriedTo script k cs ds
+        → Both (λ (c c' : Crew). Both (HasRetried script) c.desks.items c'.desks.items) cs ds
     calm k [] [] le h = tt
     calm k [] (d ∷ ds) le h = absurd h
     calm k (c ∷ cs) [] le h = absurd h
     calm zero (c ∷ cs) (d ∷ ds) le h = absurd (omega (arith, le))
     calm (suc k) (c ∷ cs) (d ∷ ds) le h = (h.0.retried.calm h.0.calm, calm k cs ds (omega (arith, le)) h.1)
 
-    some : (k : ℕ) (cs ds : List Crew) → length ds ≤ k → RetriedTo script k cs ds → Both (λ (c c' : Crew). Both (MayHaveRetried script) c.desks.items c'.desks.items) cs ds
+    some : (k : ℕ) (cs ds : List Crew) → length ds ≤ k → RetriedTo script k cs ds
+        → Both (λ (c c' : Crew). Both (MayHaveRetried script) c.desks.items c'.desks.items) cs ds
     some k [] [] le h = tt
     some k [] (d ∷ ds) le h = absurd h
     some k (c ∷ cs) [] le h = absurd h
     some zero (c ∷ cs) (d ∷ ds) le h = absurd (omega (arith, le))
     some (suc k) (c ∷ cs) (d ∷ ds) le h = (h.0.retried.some, some k cs ds (omega (arith, le)) h.1)
 
-    fault : (k : ℕ) (cs ds : List Crew) → length ds ≤ k → RetriedTo script k cs ds → Both (λ (c c' : Crew). c.fault ≡ None → HasFaultSince script c.desks.items c') cs ds
+    fault : (k : ℕ) (cs ds : List Crew) → length ds ≤ k → RetriedTo script k cs ds
+        → Both (λ (c c' : Crew). c.fault ≡ None → HasFaultSince script c.desks.items c') cs ds
     fault k [] [] le h = tt
     fault k [] (d ∷ ds) le h = absurd h
     fault k (c ∷ cs) [] le h = absurd h
@@ -247,9 +261,17 @@ all-retried script k cs ds le h = record { later = later k cs ds le h; calm = λ
     fault (suc k) (c ∷ cs) (d ∷ ds) le h = (h.0.retried.fault, fault k cs ds (omega (arith, le)) h.1)
 
 -- the driver of number k met a fault
-pub retried-part : {D : Type 0} (f : D → Crew) (script : Script) (k : ℕ) (cs : List Crew) (ds : List D) (d y : D) → RetriedTo script k cs (map f ds) → k < length ds
-    → IsLaterCrew (f (slice_index_or ds k d)) (f y) → HaveRetried script (f (slice_index_or ds k d)) (f y) → ((f y).fault ≡ None → ⊥) → AreRetried script cs (map f (slice_set ds k y))
-retried-part {D} f script k cs ds d y h lt l r g = record { later = later k cs ds h lt l; calm = λ a. absurd (faulty k ds lt a); some = some k cs ds h lt r.some; fault = fault k cs ds h lt r.fault }
+pub retried-part : {D : Type 0} (f : D → Crew) (script : Script) (k : ℕ) (cs : List Crew) (ds : List D) (d y : D)
+    → RetriedTo script k cs (map f ds) → k < length ds
+    → IsLaterCrew (f (slice_index_or ds k d)) (f y) → HaveRetried script (f (slice_index_or ds k d)) (f y)
+    → ((f y).fault ≡ None → ⊥) → AreRetried script cs (map f (slice_set ds k y))
+retried-part {D} f script k cs ds d y h lt l r g =
+    record {
+      later = later k cs ds h lt l;
+      calm = λ a. absurd (faulty k ds lt a);
+      some = some k cs ds h lt r.some;
+      fault = fault k cs ds h lt r.fault;
+    }
   where
     faulty : (k : ℕ) (ds : List D) → k < length ds → AllByRecursion (λ (x : Crew). x.fault ≡ None) (map f (slice_set ds k y)) → ⊥
     faulty k [] lt a = omega (arith, lt)
@@ -262,21 +284,27 @@ retried-part {D} f script k cs ds d y h lt l r g = record { later = later k cs d
     same-later (x ∷ cs) [] h = absurd h
     same-later (x ∷ cs) (u ∷ ds) h = (subst (λ v. IsLaterCrew x v) (sym h.0) (crew-refl x), same-later cs ds h.1)
 
-    later : (k : ℕ) (cs : List Crew) (ds : List D) → RetriedTo script k cs (map f ds) → k < length ds → IsLaterCrew (f (slice_index_or ds k d)) (f y) → Both IsLaterCrew cs (map f (slice_set ds k y))
+    later : (k : ℕ) (cs : List Crew) (ds : List D) → RetriedTo script k cs (map f ds) → k < length ds
+        → IsLaterCrew (f (slice_index_or ds k d)) (f y) → Both IsLaterCrew cs (map f (slice_set ds k y))
     later k [] [] h lt l = absurd (omega (arith, lt))
     later k [] (u ∷ ds) h lt l = absurd h
     later k (x ∷ cs) [] h lt l = absurd h
     later zero (x ∷ cs) (u ∷ ds) h lt l = (subst (λ v. IsLaterCrew v (f y)) h.0 l, same-later cs ds h.1)
     later (suc k) (x ∷ cs) (u ∷ ds) h lt l = (h.0.later, later k cs ds h.1 (omega (arith, lt)) l)
 
-    same-some : (cs : List Crew) (ds : List D) → RetriedTo script 0 cs (map f ds) → Both (λ (u v : Crew). Both (MayHaveRetried script) u.desks.items v.desks.items) cs (map f ds)
+    same-some : (cs : List Crew) (ds : List D) → RetriedTo script 0 cs (map f ds)
+        → Both (λ (u v : Crew). Both (MayHaveRetried script) u.desks.items v.desks.items) cs (map f ds)
     same-some [] [] h = tt
     same-some [] (u ∷ ds) h = absurd h
     same-some (x ∷ cs) [] h = absurd h
-    same-some (x ∷ cs) (u ∷ ds) h =
-        (subst (λ (v : Crew). Both (MayHaveRetried script) x.desks.items v.desks.items) (sym h.0) (both-refl (MayHaveRetried script) (may-retry script) x.desks.items), same-some cs ds h.1)
+    same-some (x ∷ cs) (u ∷ ds) h = (
+      subst (λ (v : Crew). Both (MayHaveRetried script) x.desks.items v.desks.items) (sym h.0)
+          (both-refl (MayHaveRetried script) (may-retry script) x.desks.items),
+      same-some cs ds h.1,
+    )
 
-    some : (k : ℕ) (cs : List Crew) (ds : List D) → RetriedTo script k cs (map f ds) → k < length ds → Both (MayHaveRetried script) (f (slice_index_or ds k d)).desks.items (f y).desks.items
+    some : (k : ℕ) (cs : List Crew) (ds : List D) → RetriedTo script k cs (map f ds) → k < length ds
+        → Both (MayHaveRetried script) (f (slice_index_or ds k d)).desks.items (f y).desks.items
         → Both (λ (u v : Crew). Both (MayHaveRetried script) u.desks.items v.desks.items) cs (map f (slice_set ds k y))
     some k [] [] h lt m = absurd (omega (arith, lt))
     some k [] (u ∷ ds) h lt m = absurd h
@@ -284,7 +312,8 @@ retried-part {D} f script k cs ds d y h lt l r g = record { later = later k cs d
     some zero (x ∷ cs) (u ∷ ds) h lt m = (subst (λ (v : Crew). Both (MayHaveRetried script) v.desks.items (f y).desks.items) h.0 m, same-some cs ds h.1)
     some (suc k) (x ∷ cs) (u ∷ ds) h lt m = (h.0.retried.some, some k cs ds h.1 (omega (arith, lt)) m)
 
-    same-fault : (cs : List Crew) (ds : List D) → RetriedTo script 0 cs (map f ds) → Both (λ (u v : Crew). u.fault ≡ None → HasFaultSince script u.desks.items v) cs (map f ds)
+    same-fault : (cs : List Crew) (ds : List D) → RetriedTo script 0 cs (map f ds)
+        → Both (λ (u v : Crew). u.fault ≡ None → HasFaultSince script u.desks.items v) cs (map f ds)
     same-fault [] [] h = tt
     same-fault [] (u ∷ ds) h = absurd h
     same-fault (x ∷ cs) [] h = absurd h
@@ -300,7 +329,8 @@ retried-part {D} f script k cs ds d y h lt l r g = record { later = later k cs d
     fault (suc k) (x ∷ cs) (u ∷ ds) h lt m = (h.0.retried.fault, fault k cs ds h.1 (omega (arith, lt)) m)
 
 -- the crews after a retry of one of them stay crews
-pub stay-next : {D : Type 0} (f : D → Crew) (script : Script) (clock : TableId) (boxes : List Boxed) (cs : List Crew) (ds : List D) (k : ℕ) (d y : D) → StayCrews script clock boxes cs (map f ds)
+pub stay-next : {D : Type 0} (f : D → Crew) (script : Script) (clock : TableId) (boxes : List Boxed) (cs : List Crew)
+    (ds : List D) (k : ℕ) (d y : D) → StayCrews script clock boxes cs (map f ds)
     → StaysCrew script clock boxes (f (slice_index_or ds k d)) (f y) → StayCrews script clock boxes cs (map f (slice_set ds k y))
 stay-next f script clock boxes cs ds k d y h s =
     stay-trans script clock boxes cs (map f ds) (map f (slice_set ds k y)) h (both-put-map f (StaysCrew script clock boxes) (λ c w i. i) ds k d y s)
@@ -316,5 +346,6 @@ some-fault (Some f) e n = cc
 
 -- drivers that didn't change kept their course
 pub course-same : {D : Type 0} (f : D → Crew) (script : Script) (clock : TableId) (boxes : List Boxed) (w : ℕ) (start : List Crew) (xs ys : List D) → ys ≡ xs
-    → ((cuts : List (List Crew)) × IsCourse script clock boxes w start cuts (map f xs)) → (cuts : List (List Crew)) × IsCourse script clock boxes w start cuts (map f ys)
+    → ((cuts : List (List Crew)) × IsCourse script clock boxes w start cuts (map f xs)) → (cuts : List (List Crew))
+    × IsCourse script clock boxes w start cuts (map f ys)
 course-same f script clock boxes w start xs ys e k = subst (λ l. (cuts : List (List Crew)) × IsCourse script clock boxes w start cuts (map f l)) (sym e) k

@@ -1,5 +1,7 @@
 -- A port that takes in the drivers' ports of its box.
-use Rattle.std.proofs.Common.{◌≡◌, ℕ, zero, suc, ◌+◌, ◌<◌, ◌≤◌, ⊎_elim, inl, inr, List, [], ◌∷◌, ◌++◌, length, slice_index_or, slice_set, Option, Some, refl, ap, sym, subst, ◌∙◌, arith, append_assoc, length-append}
+use Rattle.std.proofs.Common.{◌≡◌, ℕ, zero, suc, ◌+◌, ◌<◌, ◌≤◌, ⊎_elim, inl, inr, List, [], ◌∷◌, ◌++◌, length}
+use Rattle.std.proofs.Common.{slice_index_or, slice_set, Option, Some, refl, ap, sym, subst, ◌∙◌, arith, append_assoc}
+use Rattle.std.proofs.Common.{length-append}
 use Rattle.std.specs.List.{AllByRecursion}
 use mathlib.Core.List.{IsPrefix}
 use Rattle.hx_types.specs.declared.traces.Script.{Script}
@@ -36,7 +38,8 @@ list-took n (o ∷ outs) b i =
     (in_append (joined_lists n outs) (lists_of (o.index + 1) (outs_at n o.ports.items) [] ∷ []) b i)
 
 -- they are those of one of the drivers
-pub list-of : (n : ℕ) (outs : List Outbox) (b : PortLists) → IsIn b (joined_lists n outs) → (o : Outbox) × IsIn o outs × (b ≡ lists_of (o.index + 1) (outs_at n o.ports.items) [])
+pub list-of : (n : ℕ) (outs : List Outbox) (b : PortLists) → IsIn b (joined_lists n outs) → (o : Outbox) × IsIn o outs
+    × (b ≡ lists_of (o.index + 1) (outs_at n o.ports.items) [])
 list-of n [] b i = absurd i
 list-of n (o ∷ outs) b i =
     ⊎_elim (λ (j : IsIn b (joined_lists n outs)). let r = list-of n outs b j in (r.0, inr r.1, r.2))
@@ -50,27 +53,32 @@ times-in k (x ∷ lists) b (inl s) e = omega (arith, one-same k x.name (sym e �
 times-in k (x ∷ lists) b (inr i) e = omega (arith, times-in k lists b i e)
 
 -- the joined port has all names
-pub joined-has : (w : ℕ) (names : Option BoxNames) (n : ℕ) (ins : List Sent) (outs : List Outbox) → HaveIndexes w outs → CarriesAll (port 0 names (lists_of 0 [] ins ∷ joined_lists n outs) (Some w))
+pub joined-has : (w : ℕ) (names : Option BoxNames) (n : ℕ) (ins : List Sent) (outs : List Outbox) → HaveIndexes w outs
+    → CarriesAll (port 0 names (lists_of 0 [] ins ∷ joined_lists n outs) (Some w))
 joined-has w names n ins outs index = (w, refl, λ k lt. has k lt)
   where
     has : (k : ℕ) → k < w + 1 → 1 ≤ times k (lists_of 0 [] ins ∷ joined_lists n outs)
     has zero lt = times-in 0 (lists_of 0 [] ins ∷ joined_lists n outs) (lists_of 0 [] ins) (inl refl) refl
     has (suc k) lt =
         let x = index k (omega (arith, lt)) in
-        times-in (suc k) (lists_of 0 [] ins ∷ joined_lists n outs) (lists_of (x.0.index + 1) (outs_at n x.0.ports.items) []) (inr (list-in n outs x.0 x.1)) (omega (arith, x.2))
+        times-in (suc k) (lists_of 0 [] ins ∷ joined_lists n outs)
+        (lists_of (x.0.index + 1) (outs_at n x.0.ports.items) []) (inr (list-in n outs x.0 x.1)) (omega (arith, x.2))
 
 -- nothing was taken under another name than the first
-pub joined-alone : (w : ℕ) (names : Option BoxNames) (n : ℕ) (ins : List Sent) (outs : List Outbox) → TookAlone 0 (port 0 names (lists_of 0 [] ins ∷ joined_lists n outs) (Some w))
+pub joined-alone : (w : ℕ) (names : Option BoxNames) (n : ℕ) (ins : List Sent) (outs : List Outbox)
+    → TookAlone 0 (port 0 names (lists_of 0 [] ins ∷ joined_lists n outs) (Some w))
 joined-alone w names n ins outs b i d =
     ⊎_elim (λ (s : b ≡ lists_of 0 [] ins). absurd (d (ap (λ (x : PortLists). x.name) s))) (λ (j : IsIn b (joined_lists n outs)). list-took n outs b j) i
 
 -- what the joined ports tell
-pub took-in-order : (w : ℕ) (names : Option BoxNames) (n : ℕ) (ins : List Sent) (outs : List Outbox) (v : PortView) → v ≡ port 0 names (lists_of 0 [] ins ∷ joined_lists n outs) (Some w) → IsInOrder v → HaveIndexes w outs
+pub took-in-order : (w : ℕ) (names : Option BoxNames) (n : ℕ) (ins : List Sent) (outs : List Outbox) (v : PortView)
+    → v ≡ port 0 names (lists_of 0 [] ins ∷ joined_lists n outs) (Some w) → IsInOrder v → HaveIndexes w outs
     → AllByRecursion (λ (o : Outbox). IsPrefix (put_by (o.index + 1) ins) (outs_at n o.ports.items)) outs
 took-in-order w names n ins outs v e order index =
     let p = port 0 names (lists_of 0 [] ins ∷ joined_lists n outs) (Some w) in
     let o : IsInOrder p = subst IsInOrder e order in
-    each_all _ outs (λ x i. o (joined-has w names n ins outs index) (lists_of 0 [] ins) (inl refl) (joined-alone w names n ins outs) (lists_of (x.index + 1) (outs_at n x.ports.items) []) (inr (list-in n outs x i)))
+    each_all _ outs (λ x i. o (joined-has w names n ins outs index) (lists_of 0 [] ins) (inl refl)
+    (joined-alone w names n ins outs) (lists_of (x.index + 1) (outs_at n x.ports.items) []) (inr (list-in n outs x i)))
 
 pub some-at : {A : Type 0} (xs : List A) (i : ℕ) → i < length xs → (x : A) × (x ≡ slice_index_or xs i x)
 some-at [] i lt = absurd (omega (arith, lt))
@@ -95,16 +103,30 @@ seam-at : (news rest all : List Ported) (p : Ported) → news ++ p ∷ rest ≡ 
 seam-at news rest all p e = get-seam news p rest p ∙ ap (λ l. slice_index_or l (length news) p) e
 
 -- the port is one of the driver's
-pub seam-port : (boxes : List Boxed) (o : Outbox) (news rest : List Ported) (p : Ported) (n : ℕ) → IsOutbox boxes o → news ++ p ∷ rest ≡ o.ports.items → n ≡ length news → n < length boxes
+pub seam-port : (boxes : List Boxed) (o : Outbox) (news rest : List Ported) (p : Ported) (n : ℕ) → IsOutbox boxes o
+    → news ++ p ∷ rest ≡ o.ports.items → n ≡ length news → n < length boxes
     → (box : Boxed) → box ≡ slice_index_or boxes n box → IsOutPort o.index box p
 seam-port boxes o news rest p n h e is lt box at =
-    both-at (IsOutPort o.index) boxes o.ports.items n box p h.ports lt at (seam-at news rest o.ports.items p e ∙ ap (λ k. slice_index_or o.ports.items k p) (sym is))
+    both-at (IsOutPort o.index) boxes o.ports.items n box p h.ports lt at
+    (seam-at news rest o.ports.items p e ∙ ap (λ k. slice_index_or o.ports.items k p) (sym is))
 
 -- the place of the port that is joined
-pub place-lt : (boxes : List Boxed) (o : Outbox) (olds news rest : List Ported) (p : Ported) (at n : ℕ) → IsOutbox boxes o → olds ≡ news ++ p ∷ [] → olds ++ rest ≡ o.ports.items → at ≡ length news → n ≡ length boxes
+pub place-lt : (boxes : List Boxed) (o : Outbox) (olds news rest : List Ported) (p : Ported) (at n : ℕ)
+    → IsOutbox boxes o → olds ≡ news ++ p ∷ [] → olds ++ rest ≡ o.ports.items → at ≡ length news → n ≡ length boxes
     → (at < n) × (at + 1 ≡ length olds)
-place-lt boxes o olds news rest p at n h e f is long =
-    (omega (arith, ap length e, length-append news (p ∷ []), ap length f, length-append olds rest, both-long (IsOutPort o.index) boxes o.ports.items h.ports, is, long), omega (arith, ap length e, length-append news (p ∷ []), is))
+place-lt boxes o olds news rest p at n h e f is long = (
+  omega (
+    arith,
+    ap length e,
+    length-append news (p ∷ []),
+    ap length f,
+    length-append olds rest,
+    both-long (IsOutPort o.index) boxes o.ports.items h.ports,
+    is,
+    long,
+  ),
+  omega (arith, ap length e, length-append news (p ∷ []), is),
+)
 
 pub kept-refl : (d : OwnedPort) → IsKeptPort d d
 kept-refl d = record { actor = refl; ins = refl }
@@ -120,7 +142,8 @@ module _ (script : Script) where
   pub place-kept : (d e : OwnedPort) → IsKeptPort d e → place_at script e ≡ place_at script d
   place-kept d e k = ap (place_of script.space) k.actor
 
-  pub number-at : (n : ℕ) (ds : List OwnedPort) (i : ℕ) (e : OwnedPort) → AreInPlaces script n ds → i < length ds → e ≡ slice_index_or ds i e → place_at script e ≡ n + i
+  pub number-at : (n : ℕ) (ds : List OwnedPort) (i : ℕ) (e : OwnedPort) → AreInPlaces script n ds → i < length ds
+      → e ≡ slice_index_or ds i e → place_at script e ≡ n + i
   number-at n [] i e h lt is = absurd (omega (arith, lt))
   number-at n (d ∷ ds) zero e h lt is = omega (arith, ap (place_at script) is, h.0)
   number-at n (d ∷ ds) (suc i) e h lt is = omega (arith, number-at (suc n) ds i e h.1 (omega (arith, lt)) is)
@@ -132,7 +155,9 @@ module _ (script : Script) where
   places-kept n (d ∷ ds) (e ∷ es) h k = (place-kept d e h.0 ∙ k.0, places-kept (suc n) ds es h.1 k.1)
 
   module _ (w : ℕ) (boxes : List Boxed) (outs : List Outbox) where
-    pub joined-at : (o : Outbox) (k : ℕ) (ds : List OwnedPort) (e : OwnedPort) → AreJoinedFrom script w boxes outs o (k + 1) ds → k < length ds → e ≡ slice_index_or ds k e → IsJoined script w boxes outs e
+    pub joined-at : (o : Outbox) (k : ℕ) (ds : List OwnedPort) (e : OwnedPort)
+        → AreJoinedFrom script w boxes outs o (k + 1) ds → k < length ds → e ≡ slice_index_or ds k e
+        → IsJoined script w boxes outs e
     joined-at o k [] e h lt is = absurd (omega (arith, lt))
     joined-at o zero (d ∷ ds) e h lt is =
         let n : zero + 1 ≡ suc zero = omega arith in
@@ -143,7 +168,8 @@ module _ (script : Script) where
         let h' : AreJoinedFrom script w boxes outs o (suc (k + 1)) (d ∷ ds) = subst (λ m. AreJoinedFrom script w boxes outs o m (d ∷ ds)) n h in
         joined-at o k ds e h'.1 (omega (arith, lt)) is
 
-    pub joined-set : (o : Outbox) (k : ℕ) (ds : List OwnedPort) (e' : OwnedPort) → AreJoinedFrom script w boxes outs o (k + 1) ds → k < length ds → IsJoined script w boxes (o ∷ outs) e'
+    pub joined-set : (o : Outbox) (k : ℕ) (ds : List OwnedPort) (e' : OwnedPort)
+        → AreJoinedFrom script w boxes outs o (k + 1) ds → k < length ds → IsJoined script w boxes (o ∷ outs) e'
         → AreJoinedFrom script w boxes outs o k (slice_set ds k e')
     joined-set o k [] e' h lt j = absurd (omega (arith, lt))
     joined-set o zero (d ∷ ds) e' h lt j =
@@ -155,17 +181,20 @@ module _ (script : Script) where
         let h' : AreJoinedFrom script w boxes outs o (suc (k + 1)) (d ∷ ds) = subst (λ m. AreJoinedFrom script w boxes outs o m (d ∷ ds)) n h in
         (h'.0, joined-set o k ds e' h'.1 (omega (arith, lt)) j)
 
-    pub joined-start : (o : Outbox) (k : ℕ) (ds : List OwnedPort) → length ds ≤ k → AllByRecursion (IsJoined script w boxes outs) ds → AreJoinedFrom script w boxes outs o k ds
+    pub joined-start : (o : Outbox) (k : ℕ) (ds : List OwnedPort) → length ds ≤ k
+        → AllByRecursion (IsJoined script w boxes outs) ds → AreJoinedFrom script w boxes outs o k ds
     joined-start o k [] le h = tt
     joined-start o zero (d ∷ ds) le h = absurd (omega (arith, le))
     joined-start o (suc k) (d ∷ ds) le h = (h.0, joined-start o k ds (omega (arith, le)) h.1)
 
-    pub joined-end : (o : Outbox) (k : ℕ) (ds : List OwnedPort) → k ≡ 0 → AreJoinedFrom script w boxes outs o k ds → AllByRecursion (IsJoined script w boxes (o ∷ outs)) ds
+    pub joined-end : (o : Outbox) (k : ℕ) (ds : List OwnedPort) → k ≡ 0 → AreJoinedFrom script w boxes outs o k ds
+        → AllByRecursion (IsJoined script w boxes (o ∷ outs)) ds
     joined-end o k [] e h = tt
     joined-end o zero (d ∷ ds) e h = (h.0, joined-end o zero ds refl h.1)
     joined-end o (suc k) (d ∷ ds) e h = absurd (omega (arith, e))
 
-    pub order-each : 0 < length outs → HaveIndexes w outs → (ds es : List OwnedPort) → Both IsKeptPort ds es → AllByRecursion (IsJoined script w boxes outs) es → AllByRecursion (TookInOrder script outs) ds
+    pub order-each : 0 < length outs → HaveIndexes w outs → (ds es : List OwnedPort) → Both IsKeptPort ds es
+        → AllByRecursion (IsJoined script w boxes outs) es → AllByRecursion (TookInOrder script outs) ds
     order-each some index [] es h j = tt
     order-each some index (d ∷ ds) [] h j = absurd h
     order-each some index (d ∷ ds) (e ∷ es) h j =
@@ -179,6 +208,7 @@ module _ (script : Script) where
         )
 
 -- no driver is left
-pub joined-all : (script : Script) (w : ℕ) (boxes : List Boxed) (all outs : List Outbox) (ts : List OwnedPort) → length outs ≡ 0 → ((done : List Outbox) × (outs ++ done ≡ all) × AllByRecursion (IsJoined script w boxes done) ts)
+pub joined-all : (script : Script) (w : ℕ) (boxes : List Boxed) (all outs : List Outbox) (ts : List OwnedPort)
+    → length outs ≡ 0 → ((done : List Outbox) × (outs ++ done ≡ all) × AllByRecursion (IsJoined script w boxes done) ts)
     → AllByRecursion (IsJoined script w boxes all) ts
 joined-all script w boxes all outs ts none h = subst (λ l. AllByRecursion (IsJoined script w boxes l) ts) (none-left outs h.0 all none h.1) h.2

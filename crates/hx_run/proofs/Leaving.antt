@@ -1,5 +1,7 @@
 -- What is left of drivers whose ports are joined.
-use Rattle.std.proofs.Common.{◌≡◌, ◌≢◌, ℕ, true, false, zero, suc, ◌+◌, ◌<◌, ◌≤◌, ◌⊎◌, ⊎_elim, inl, inr, cond, eqb, List, [], ◌∷◌, ◌++◌, map, length, slice_index_or, Some, refl, ap, sym, subst, ◌∙◌, arith, append-nil, length-append}
+use Rattle.std.proofs.Common.{◌≡◌, ◌≢◌, ℕ, true, false, zero, suc, ◌+◌, ◌<◌, ◌≤◌, ◌⊎◌, ⊎_elim, inl, inr, cond, eqb}
+use Rattle.std.proofs.Common.{List, [], ◌∷◌, ◌++◌, map, length, slice_index_or, Some, refl, ap, sym, subst, ◌∙◌, arith}
+use Rattle.std.proofs.Common.{append-nil, length-append}
 use Rattle.std.specs.Prelude.{IsPermutation, ⊤}
 use Rattle.std.specs.List.{AllByRecursion, IsDistinct}
 use Rattle.std.specs.List.Sorted.{IsNonDecreasingBy}
@@ -65,7 +67,8 @@ in-below (suc n) k lt =
 
 -- ---- the drivers' ports
 
-pub have-indexes : (w : ℕ) (crews : List Crew) → AreNumbered w crews → (length (map (λ (c : Crew). c.out) crews) ≡ w) × HaveIndexes w (map (λ (c : Crew). c.out) crews)
+pub have-indexes : (w : ℕ) (crews : List Crew) → AreNumbered w crews → (length (map (λ (c : Crew). c.out) crews) ≡ w)
+    × HaveIndexes w (map (λ (c : Crew). c.out) crews)
 have-indexes w crews e = (
   map-length (λ (c : Crew). c.out) crews ∙ sym (map-length (λ (c : Crew). c.out.index) crews) ∙ ap length e ∙ length-below w,
   λ k lt.
@@ -75,7 +78,8 @@ have-indexes w crews e = (
 
 eq-flips : (a b : ℕ) → eqb a b ≡ eqb b a
 eq-flips a b =
-    ⊎_elim (λ (h : (eqb a b ≡ true) × (a ≡ b)). h.0 ∙ sym (eq-eqb b a (sym h.1))) (λ (h : (eqb a b ≡ false) × (a ≢ b)). h.0 ∙ sym (no-eq b a (λ e. h.1 (sym e)))) (eqb_tells a b)
+    ⊎_elim (λ (h : (eqb a b ≡ true) × (a ≡ b)). h.0 ∙ sym (eq-eqb b a (sym h.1)))
+    (λ (h : (eqb a b ≡ false) × (a ≢ b)). h.0 ∙ sym (no-eq b a (λ e. h.1 (sym e)))) (eqb_tells a b)
 
 flips : (a b : Actor) → same_actor a b ≡ same_actor b a
 flips Coordinator Coordinator = refl
@@ -93,7 +97,8 @@ abbrev PlacesFrom : Script → ℕ → List Actor → Type 0
 PlacesFrom script n [] = ⊤
 PlacesFrom script n (a ∷ xs) = (place_of script.space a ≡ n) × PlacesFrom script (suc n) xs
 
-places-append : (script : Script) (n m : ℕ) (xs ys : List Actor) → PlacesFrom script n xs → m ≡ n + length xs → PlacesFrom script m ys → PlacesFrom script n (xs ++ ys)
+places-append : (script : Script) (n m : ℕ) (xs ys : List Actor) → PlacesFrom script n xs → m ≡ n + length xs
+    → PlacesFrom script m ys → PlacesFrom script n (xs ++ ys)
 places-append script n m [] ys h e k = subst (λ j. PlacesFrom script j ys) (let z : m ≡ n = omega (arith, e) in z) k
 places-append script n m (a ∷ xs) ys h e k = (h.0, places-append script (suc n) m xs ys h.1 (omega (arith, e)) k)
 
@@ -101,7 +106,8 @@ map-snoc : {A B : Type 0} (f : A → B) (xs : List A) (x : A) → map f (xs ++ x
 map-snoc f [] x = refl
 map-snoc f (y ∷ xs) x = ap (λ l. f y ∷ l) (map-snoc f xs x)
 
-places-below : (script : Script) (f : ℕ → Actor) (n base : ℕ) → ((k : ℕ) → k < n → place_of script.space (f k) ≡ base + k) → PlacesFrom script base (map f (below n))
+places-below : (script : Script) (f : ℕ → Actor) (n base : ℕ)
+    → ((k : ℕ) → k < n → place_of script.space (f k) ≡ base + k) → PlacesFrom script base (map f (below n))
 places-below script f zero base h = tt
 places-below script f (suc n) base h =
     subst (PlacesFrom script base) (sym (map-snoc f (below n) n))
@@ -111,7 +117,9 @@ places-below script f (suc n) base h =
 places-of : (script : Script) → PlacesFrom script 0 (actors_of script)
 places-of script =
     let servers = map (λ (n : ℕ). Server (record { 0 = n + 1 })) (below script.space.servers) in
-    let e : length servers ≡ script.space.servers = map-length (λ (n : ℕ). Server (record { 0 = n + 1 })) (below script.space.servers) ∙ length-below script.space.servers in (
+    let e : length servers ≡ script.space.servers =
+    map-length (λ (n : ℕ). Server (record { 0 = n + 1 })) (below script.space.servers)
+    ∙ length-below script.space.servers in (
       refl,
       places-append script 1 (1 + script.space.servers) servers (map (λ (n : ℕ). Session (record { 0 = n + 1 })) (below (length script.sessions)))
           (places-below script (λ (n : ℕ). Server (record { 0 = n + 1 })) script.space.servers 1 (λ k lt. omega arith)) (omega (arith, e))
@@ -119,12 +127,14 @@ places-of script =
     )
 
 exist-below : (script : Script) (f : ℕ → Actor) (n : ℕ) → ((k : ℕ) → k < n → Exists script (f k)) → AllByRecursion (Exists script) (map f (below n))
-exist-below script f n h = each_all (Exists script) (map f (below n)) (λ a i. let r = of_map f (below n) a i in subst (Exists script) (sym r.2) (h r.0 (of_below n r.0 r.1)))
+exist-below script f n h = each_all (Exists script) (map f (below n)) (λ a i. let r = of_map f (below n) a i in
+    subst (Exists script) (sym r.2) (h r.0 (of_below n r.0 r.1)))
 
 exist-all : (script : Script) → AllByRecursion (Exists script) (actors_of script)
 exist-all script = (
   tt,
-  each_append (Exists script) (map (λ (n : ℕ). Server (record { 0 = n + 1 })) (below script.space.servers)) (map (λ (n : ℕ). Session (record { 0 = n + 1 })) (below (length script.sessions)))
+  each_append (Exists script) (map (λ (n : ℕ). Server (record { 0 = n + 1 })) (below script.space.servers))
+      (map (λ (n : ℕ). Session (record { 0 = n + 1 })) (below (length script.sessions)))
       (exist-below script (λ (n : ℕ). Server (record { 0 = n + 1 })) script.space.servers (λ k lt. (omega arith, omega (arith, lt))))
       (exist-below script (λ (n : ℕ). Session (record { 0 = n + 1 })) (length script.sessions) (λ k lt. (omega arith, omega (arith, lt)))),
 )
@@ -133,7 +143,14 @@ pub how-many : (script : Script) → length (actors_of script) ≡ 1 + script.sp
 how-many script =
     let f = λ (n : ℕ). Server (record { 0 = n + 1 }) in
     let g = λ (n : ℕ). Session (record { 0 = n + 1 }) in
-    omega (arith, length-append (map f (below script.space.servers)) (map g (below (length script.sessions))), map-length f (below script.space.servers), map-length g (below (length script.sessions)), length-below script.space.servers, length-below (length script.sessions))
+    omega (
+      arith,
+      length-append (map f (below script.space.servers)) (map g (below (length script.sessions))),
+      map-length f (below script.space.servers),
+      map-length g (below (length script.sessions)),
+      length-below script.space.servers,
+      length-below (length script.sessions),
+    )
 
 module _ (script : Script) (clock : TableId) (boxes : List Boxed) (w : ℕ) where
   pub outboxes : (crews : List Crew) → AllByRecursion (IsCrew script clock boxes w) crews → AllByRecursion (IsOutbox boxes) (map (λ (c : Crew). c.out) crews)
@@ -186,46 +203,70 @@ module _ (script : Script) (clock : TableId) (boxes : List Boxed) (w : ℕ) wher
 
   -- ---- the order of places
 
-  places-apart : (crews : List Crew) → HaveAllActors script crews → (sorted : List OwnedPort) → IsPermutation (map owned_port_of (desks_of crews)) sorted → IsDistinct same_actor (map (λ (t : OwnedPort). t.actor) sorted)
+  places-apart : (crews : List Crew) → HaveAllActors script crews → (sorted : List OwnedPort)
+      → IsPermutation (map owned_port_of (desks_of crews)) sorted
+      → IsDistinct same_actor (map (λ (t : OwnedPort). t.actor) sorted)
   places-apart crews all sorted p =
       IsDistinct-IsPermutation same_actor flips (map (λ (d : Desk). d.actor) (desks_of crews)) (map (λ (t : OwnedPort). t.actor) sorted)
-      (subst (λ l. IsPermutation l (map (λ (t : OwnedPort). t.actor) sorted)) (map-map (λ (t : OwnedPort). t.actor) owned_port_of (desks_of crews)) (IsPermutation-map (λ (t : OwnedPort). t.actor) (map owned_port_of (desks_of crews)) sorted p)) all.apart
+      (subst (λ l. IsPermutation l (map (λ (t : OwnedPort). t.actor) sorted))
+      (map-map (λ (t : OwnedPort). t.actor) owned_port_of (desks_of crews))
+      (IsPermutation-map (λ (t : OwnedPort). t.actor) (map owned_port_of (desks_of crews)) sorted p)) all.apart
 
   -- sorted, they stand at their places, and none is left out
-  pub sorted-places : AreBoxes script clock boxes → (crews : List Crew) → AllByRecursion (IsCrew script clock boxes w) crews → HaveAllActors script crews → (sorted : List OwnedPort) → IsPermutation (map owned_port_of (desks_of crews)) sorted
+  pub sorted-places : AreBoxes script clock boxes → (crews : List Crew)
+      → AllByRecursion (IsCrew script clock boxes w) crews → HaveAllActors script crews → (sorted : List OwnedPort)
+      → IsPermutation (map owned_port_of (desks_of crews)) sorted
       → IsNonDecreasingBy (place_at script) sorted → AreInPlaces script 0 sorted × (length sorted ≡ length boxes)
   sorted-places are crews h all sorted p up =
       let owned_ports = map owned_port_of (desks_of crews) in
       let real : AllByRecursion IsReady sorted = permuted IsReady owned_ports sorted p (ready are (desks_of crews) (all-desks crews h)) in
-      let exist : AllByRecursion (λ (t : OwnedPort). Exists script t.actor) sorted = each_map IsReady (λ (t : OwnedPort). Exists script t.actor) sorted (λ t i k. k.0) real in
+      let exist : AllByRecursion (λ (t : OwnedPort). Exists script t.actor) sorted =
+      each_map IsReady (λ (t : OwnedPort). Exists script t.actor) sorted (λ t i k. k.0) real in
       let n = 1 + script.space.servers + length script.sessions in
       let r =
       filled script n 0 sorted (omega arith) (rises script 0 sorted (λ d some. omega arith) up exist (places-apart crews all sorted p))
       (λ t i. place-below script t.actor (each_in (λ (t : OwnedPort). Exists script t.actor) sorted t exist i))
       (λ j low lt.
       let a = actor-at script j lt in
-      let d = all.all a.0 (is-actor script a.0 a.1) in
-      (owned_port_of d.0, in_permuted owned_ports sorted (owned_port_of d.0) p (in_map owned_port_of (desks_of crews) d.0 d.1), ap (place_of script.space) d.2 ∙ a.2)) in
+      let d = all.all a.0 (is-actor script a.0 a.1) in (
+        owned_port_of d.0,
+        in_permuted owned_ports sorted (owned_port_of d.0) p
+            (in_map owned_port_of (desks_of crews) d.0 d.1),
+        ap (place_of script.space) d.2 ∙ a.2,
+      )) in
       let b = are.count in
       (r.0, omega (arith, r.1, b))
 
-  pub sorted-ready : AreBoxes script clock boxes → (crews : List Crew) → AllByRecursion (IsCrew script clock boxes w) crews → (sorted : List OwnedPort) → IsPermutation (map owned_port_of (desks_of crews)) sorted → AllByRecursion (IsJoined script w boxes []) sorted
+  pub sorted-ready : AreBoxes script clock boxes → (crews : List Crew)
+      → AllByRecursion (IsCrew script clock boxes w) crews → (sorted : List OwnedPort)
+      → IsPermutation (map owned_port_of (desks_of crews)) sorted → AllByRecursion (IsJoined script w boxes []) sorted
   sorted-ready are crews h sorted p =
-      let real : AllByRecursion IsReady sorted = permuted IsReady (map owned_port_of (desks_of crews)) sorted p (ready are (desks_of crews) (all-desks crews h)) in
+      let real : AllByRecursion IsReady sorted = permuted IsReady (map owned_port_of (desks_of crews)) sorted p
+      (ready are (desks_of crews) (all-desks crews h)) in
       each_map IsReady (IsJoined script w boxes []) sorted (λ t i k. k.1) real
 
   -- ---- what the joined ports tell of the actors
-  pub are-in-order : (crews : List Crew) (sorted : List OwnedPort) → IsPermutation (map owned_port_of (desks_of crews)) sorted → AllByRecursion (TookInOrder script (map (λ (c : Crew). c.out) crews)) sorted → AreInOrder script crews
+  pub are-in-order : (crews : List Crew) (sorted : List OwnedPort)
+      → IsPermutation (map owned_port_of (desks_of crews)) sorted
+      → AllByRecursion (TookInOrder script (map (λ (c : Crew). c.out) crews)) sorted → AreInOrder script crews
   are-in-order crews sorted p h =
-      let all : AllByRecursion (TookInOrder script (map (λ (c : Crew). c.out) crews)) (map owned_port_of (desks_of crews)) = permuted (TookInOrder script (map (λ (c : Crew). c.out) crews)) sorted (map owned_port_of (desks_of crews)) (IsPermutation-sym _ _ p) h in
-      each_map (λ (d : Desk). TookInOrder script (map (λ (c : Crew). c.out) crews) (owned_port_of d)) (λ (d : Desk). AllByRecursion (IsInOrderOf script d) crews) (desks_of crews)
+      let all : AllByRecursion (TookInOrder script (map (λ (c : Crew). c.out) crews))
+      (map owned_port_of (desks_of crews)) = permuted
+      (TookInOrder script (map (λ (c : Crew). c.out) crews)) sorted (map owned_port_of (desks_of crews))
+      (IsPermutation-sym _ _ p) h in
+      each_map (λ (d : Desk). TookInOrder script (map (λ (c : Crew). c.out) crews) (owned_port_of d))
+      (λ (d : Desk). AllByRecursion (IsInOrderOf script d) crews) (desks_of crews)
       (λ d i k. map-each (λ (c : Crew). c.out) _ crews k) (map-each owned_port_of (TookInOrder script (map (λ (c : Crew). c.out) crews)) (desks_of crews) all)
 
-  pub are-once : (crews : List Crew) (sorted : List OwnedPort) → IsPermutation (map owned_port_of (desks_of crews)) sorted → TookOnce (map (λ (c : Crew). c.out) crews) sorted → AreOnce crews
+  pub are-once : (crews : List Crew) (sorted : List OwnedPort)
+      → IsPermutation (map owned_port_of (desks_of crews)) sorted → TookOnce (map (λ (c : Crew). c.out) crews) sorted
+      → AreOnce crews
   are-once crews sorted p t h =
       let f = λ (t : OwnedPort). total h (map (λ (s : Sent). s.mailed) (ins_of t.inbox)) in
       let a : taken_weight h crews ≡ total f (map owned_port_of (desks_of crews)) = sym (total-map f owned_port_of (desks_of crews)) in
-      let b : put_total h crews ≡ total (λ (o : Outbox). out_weight h o.ports.items) (map (λ (c : Crew). c.out) crews) = sym (total-map (λ (o : Outbox). out_weight h o.ports.items) (λ (c : Crew). c.out) crews) in
+      let b : put_total h crews ≡ total (λ (o : Outbox). out_weight h o.ports.items)
+      (map (λ (c : Crew). c.out) crews) = sym (total-map (λ (o : Outbox). out_weight h o.ports.items)
+      (λ (c : Crew). c.out) crews) in
       omega (arith, t h, a, b, total-perm f (map owned_port_of (desks_of crews)) sorted p)
 
   -- ---- the first ports
@@ -273,7 +314,9 @@ module _ (script : Script) (clock : TableId) (boxes : List Boxed) (w : ℕ) wher
             (λ m i. let r = outs_owned o.index n boxes o.ports.items m from.3.ports (subst (IsIn m) same i) in r.2 ∙ owned r.0 r.1);
       }
 
-  first-one : AreBoxes script clock boxes → (crews : List Crew) (outs : List Outbox) → ((o : Outbox) → IsIn o outs → IsOutOf crews o) → 1 ≤ w → HaveIndexes w outs → (t : OwnedPort) (d : Desk) → IsIn d (desks_of crews) → t.actor ≡ d.actor
+  first-one : AreBoxes script clock boxes → (crews : List Crew) (outs : List Outbox)
+      → ((o : Outbox) → IsIn o outs → IsOutOf crews o) → 1 ≤ w → HaveIndexes w outs → (t : OwnedPort) (d : Desk)
+      → IsIn d (desks_of crews) → t.actor ≡ d.actor
       → ins_of t.inbox ≡ ins_of d.inbox → Exists script t.actor → IsJoined script w boxes outs t → IsFirstPort clock crews t.actor t.inbox
   first-one are crews outs from some index t d i actor ins exists j =
       let b = some-at boxes (place_at script t) j.place in
@@ -304,7 +347,10 @@ module _ (script : Script) (clock : TableId) (boxes : List Boxed) (w : ℕ) wher
   abbrev IsDone : List Crew → OwnedPort → Type 0
   IsDone crews t = Exists script t.actor × IsFirstPort clock crews t.actor t.inbox
 
-  done-each : AreBoxes script clock boxes → (crews : List Crew) (outs : List Outbox) → ((o : Outbox) → IsIn o outs → IsOutOf crews o) → 1 ≤ w → HaveIndexes w outs → AllByRecursion IsSome (desks_of crews) → (sorted joined : List OwnedPort) → ((t : OwnedPort) → IsIn t sorted → IsIn t (map owned_port_of (desks_of crews)))
+  done-each : AreBoxes script clock boxes → (crews : List Crew) (outs : List Outbox)
+      → ((o : Outbox) → IsIn o outs → IsOutOf crews o) → 1 ≤ w → HaveIndexes w outs
+      → AllByRecursion IsSome (desks_of crews) → (sorted joined : List OwnedPort)
+      → ((t : OwnedPort) → IsIn t sorted → IsIn t (map owned_port_of (desks_of crews)))
       → Both IsKeptPort sorted joined → AllByRecursion (IsJoined script w boxes outs) joined → AllByRecursion (IsDone crews) joined
   done-each are crews outs from some index all [] [] back k j = tt
   done-each are crews outs from some index all [] (u ∷ joined) back k j = absurd k
@@ -313,10 +359,14 @@ module _ (script : Script) (clock : TableId) (boxes : List Boxed) (w : ℕ) wher
       let d = of_map owned_port_of (desks_of crews) t (back t (inl refl)) in
       let actor : u.actor ≡ d.0.actor = k.0.actor ∙ ap (λ (x : OwnedPort). x.actor) d.2 in
       let ins : ins_of u.inbox ≡ ins_of d.0.inbox = k.0.ins ∙ ap (λ (x : OwnedPort). ins_of x.inbox) d.2 in
-      let exists : Exists script u.actor = subst (Exists script) (sym actor) (actor-exists script d.0.actor (each_in IsSome (desks_of crews) d.0 all d.1).1.exists) in
-      ((exists, first-one are crews outs from some index u d.0 d.1 actor ins exists j.0), done-each are crews outs from some index all sorted joined (λ x i. back x (inr i)) k.1 j.1)
+      let exists : Exists script u.actor = subst (Exists script) (sym actor)
+      (actor-exists script d.0.actor (each_in IsSome (desks_of crews) d.0 all d.1).1.exists) in (
+        (exists, first-one are crews outs from some index u d.0 d.1 actor ins exists j.0),
+        done-each are crews outs from some index all sorted joined (λ x i. back x (inr i)) k.1 j.1,
+      )
 
-  in-order : (crews : List Crew) (n : ℕ) (xs : List Actor) (ts : List OwnedPort) → PlacesFrom script n xs → AllByRecursion (Exists script) xs → AreInPlaces script n ts → AllByRecursion (IsDone crews) ts → length xs ≡ length ts
+  in-order : (crews : List Crew) (n : ℕ) (xs : List Actor) (ts : List OwnedPort) → PlacesFrom script n xs
+      → AllByRecursion (Exists script) xs → AreInPlaces script n ts → AllByRecursion (IsDone crews) ts → length xs ≡ length ts
       → Both (IsFirstPort clock crews) xs (map (λ (t : OwnedPort). t.inbox) ts)
   in-order crews n [] [] pa ea pt dt e = tt
   in-order crews n [] (t ∷ ts) pa ea pt dt e = absurd (omega (arith, e))
@@ -331,7 +381,8 @@ module _ (script : Script) (clock : TableId) (boxes : List Boxed) (w : ℕ) wher
   places-stay n (d ∷ ds) [] h k = absurd h
   places-stay n (d ∷ ds) (e ∷ es) h k = (ap (place_of script.space) h.0.actor ∙ k.0, places-stay (suc n) ds es h.1 k.1)
 
-  number-left : (crews : List Crew) → AllByRecursion IsSome (desks_of crews) → HaveAllActors script crews → (k : ℕ) → k < length (actors_of script) → HasNumber k (map seated_of (desks_of crews))
+  number-left : (crews : List Crew) → AllByRecursion IsSome (desks_of crews) → HaveAllActors script crews → (k : ℕ)
+      → k < length (actors_of script) → HasNumber k (map seated_of (desks_of crews))
   number-left crews all actors k lt =
       let a = actor-at script k (omega (arith, lt, how-many script)) in
       let d = actors.all a.0 (is-actor script a.0 a.1) in
@@ -339,20 +390,26 @@ module _ (script : Script) (clock : TableId) (boxes : List Boxed) (w : ℕ) wher
       let own = (each_in IsSome (desks_of crews) d.0 all d.1).1.seat.1 in
       (seated_of d.0, in_map seated_of (desks_of crews) d.0 d.1, subst (λ n. Owns d.0.seat.view n d.0.part.items) place own)
 
-  pub is-left : AreBoxes script clock boxes → (crews : List Crew) → AllByRecursion (IsCrew script clock boxes w) crews → HaveAllActors script crews → 1 ≤ w → AreNumbered w crews
+  pub is-left : AreBoxes script clock boxes → (crews : List Crew) → AllByRecursion (IsCrew script clock boxes w) crews
+      → HaveAllActors script crews → 1 ≤ w → AreNumbered w crews
       → (actors : List SeatedPart) → actors ≡ map seated_of (desks_of crews) → (totals : List Totals) → totals ≡ map (λ (c : Crew). c.totals) crews
-      → (sorted joined : List OwnedPort) → IsPermutation (map owned_port_of (desks_of crews)) sorted → AreInPlaces script 0 sorted → length sorted ≡ length boxes → Both IsKeptPort sorted joined
+      → (sorted joined : List OwnedPort) → IsPermutation (map owned_port_of (desks_of crews)) sorted
+      → AreInPlaces script 0 sorted → length sorted ≡ length boxes → Both IsKeptPort sorted joined
       → AllByRecursion (IsJoined script w boxes (map (λ (c : Crew). c.out) crews)) joined
       → (ports : List Ported) → ports ≡ map (λ (t : OwnedPort). t.inbox) joined → IsLeft script clock crews actors totals ports
   is-left are crews h all some numbered actors ea totals et sorted joined p placed long kept joins ports ep =
       let ds = all-desks crews h in
       let b = are.count in
       let many : length (actors_of script) ≡ length joined = omega (arith, how-many script, b, long, both-long IsKeptPort sorted joined kept) in
-      let done = done-each are crews (map (λ (c : Crew). c.out) crews) (outs-of crews h) some (have-indexes w crews numbered).1 ds sorted joined (λ t i. in_permuted sorted (map owned_port_of (desks_of crews)) t (IsPermutation-sym _ _ p) i) kept joins in
+      let done = done-each are crews (map (λ (c : Crew). c.out) crews) (outs-of crews h) some
+      (have-indexes w crews numbered).1 ds sorted joined
+      (λ t i. in_permuted sorted (map owned_port_of (desks_of crews)) t (IsPermutation-sym _ _ p) i) kept joins in
       record {
         parts = ap parts_by ea ∙ parts-are (desks_of crews);
         seats = subst (AllByRecursion (IsSeated clock)) (sym ea) (seats-are (desks_of crews) ds);
         numbers = λ k lt. subst (HasNumber k) (sym ea) (number-left crews ds all k lt);
         totals_are = et;
-        ports_are = subst (Both (IsFirstPort clock crews) (actors_of script)) (sym ep) (in-order crews 0 (actors_of script) joined (places-of script) (exist-all script) (places-stay 0 sorted joined kept placed) done many);
+        ports_are = subst (Both (IsFirstPort clock crews) (actors_of script)) (sym ep)
+            (in-order crews 0 (actors_of script) joined (places-of script) (exist-all script)
+            (places-stay 0 sorted joined kept placed) done many);
       }

@@ -1,5 +1,6 @@
 -- What the first ports say was put are posts of the trace.
-use Rattle.std.proofs.Common.{◌≡◌, ℕ, zero, suc, ◌+◌, ◌%◌, ◌<◌, ◌≤◌, ◌⊎◌, ⊎_elim, inl, inr, true, eqb, List, [], ◌∷◌, ◌++◌, map, length, slice_get, Some, refl, ap, sym, subst, ◌∙◌, arith}
+use Rattle.std.proofs.Common.{◌≡◌, ℕ, zero, suc, ◌+◌, ◌%◌, ◌<◌, ◌≤◌, ◌⊎◌, ⊎_elim, inl, inr, true, eqb, List, [], ◌∷◌}
+use Rattle.std.proofs.Common.{◌++◌, map, length, slice_get, Some, refl, ap, sym, subst, ◌∙◌, arith}
 use Rattle.std.specs.Prelude.{reverse}
 use Rattle.std.proofs.lemmas.Bool.{cond_both, eq-eqb, eqb-true}
 use Rattle.hx_types.specs.declared.ids.Actor.{Actor}
@@ -55,16 +56,19 @@ below-get (suc n) i x e =
 entry-low : (n : ℕ) (xs : List Entry) (e : Entry) → entry_at n xs ≡ Some e → n ≤ length xs
 entry-low n [] e h = absurd cc
 entry-low n (x ∷ xs) e h =
-    cond_both (eqb n (length xs + 1)) (Some x) (entry_at n xs) (λ o. o ≡ Some e → n ≤ length (x ∷ xs)) (λ t k. omega (arith, eqb-true n (length xs + 1) t)) (λ t k. omega (arith, entry-low n xs e k)) h
+    cond_both (eqb n (length xs + 1)) (Some x) (entry_at n xs) (λ o. o ≡ Some e → n ≤ length (x ∷ xs))
+    (λ t k. omega (arith, eqb-true n (length xs + 1) t)) (λ t k. omega (arith, entry-low n xs e k)) h
 
 pub entry-stays : (trace : List Entry) (x : Entry) (n : ℕ) (e : Entry) → entry_at n (reverse trace) ≡ Some e → entry_at n (reverse (trace ++ x ∷ [])) ≡ Some e
 entry-stays trace x n e h =
     ap (entry_at n) (reverse_snoc x trace)
-    ∙ cond_both (eqb n (length (reverse trace) + 1)) (Some x) (entry_at n (reverse trace)) (λ o. o ≡ Some e) (λ t. absurd (omega (arith, eqb-true n (length (reverse trace) + 1) t, entry-low n (reverse trace) e h))) (λ t. h)
+    ∙ cond_both (eqb n (length (reverse trace) + 1)) (Some x) (entry_at n (reverse trace)) (λ o. o ≡ Some e)
+    (λ t. absurd (omega (arith, eqb-true n (length (reverse trace) + 1) t, entry-low n (reverse trace) e h))) (λ t. h)
 
 -- ---- the drivers' actors
 module _ (script : Script) (w : ℕ) where
-  residue-at : (k n : ℕ) (crews : List Crew) (c : Crew) → AreDealtFrom script w n crews → slice_get crews k ≡ Some c → (d : Desk) → IsIn d c.desks.items → place_of script.space d.actor % w ≡ n + k
+  residue-at : (k n : ℕ) (crews : List Crew) (c : Crew) → AreDealtFrom script w n crews → slice_get crews k ≡ Some c
+      → (d : Desk) → IsIn d c.desks.items → place_of script.space d.actor % w ≡ n + k
   residue-at k n [] c h g d i = absurd cc
   residue-at zero n (x ∷ crews) c h g d i =
       let same : x ≡ c = some-same x c g in
@@ -72,14 +76,17 @@ module _ (script : Script) (w : ℕ) where
       each_in (λ (d : Desk). place_of script.space d.actor % w ≡ n) x.desks.items d h.0 (subst (λ (y : Crew). IsIn d y.desks.items) (sym same) i) ∙ here
   residue-at (suc k) n (x ∷ crews) c h g d i = let here : suc n + k ≡ n + suc k = omega arith in residue-at k (suc n) crews c h.1 g d i ∙ here
 
-  pub dealt-at : (crews : List Crew) (c : Crew) → AreDealtFrom script w 0 crews → (k : ℕ) → slice_get crews k ≡ Some c → (d : Desk) → IsIn d c.desks.items → is_dealt script w k d.actor ≡ true
-  dealt-at crews c dealt k g d i = let here : 0 + k ≡ k = omega arith in eq-eqb (place_of script.space d.actor % w) k (residue-at k 0 crews c dealt g d i ∙ here)
+  pub dealt-at : (crews : List Crew) (c : Crew) → AreDealtFrom script w 0 crews → (k : ℕ) → slice_get crews k ≡ Some c
+      → (d : Desk) → IsIn d c.desks.items → is_dealt script w k d.actor ≡ true
+  dealt-at crews c dealt k g d i = let here : 0 + k ≡ k = omega arith in
+      eq-eqb (place_of script.space d.actor % w) k (residue-at k 0 crews c dealt g d i ∙ here)
 
   module _ (now : List Crew) (numbered : AreNumbered w now) (dealt : AreDealtFrom script w 0 now) where
     dealt-to : (c : Crew) → IsIn c now → (d : Desk) → IsIn d c.desks.items → is_dealt script w c.out.index d.actor ≡ true
     dealt-to c i d j =
         let k = in-get now c i in
-        let index : c.out.index ≡ k.0 = below-get w k.0 c.out.index (subst (λ l. slice_get l k.0 ≡ Some c.out.index) numbered (map-get (λ (c : Crew). c.out.index) now k.0 c k.1)) in
+        let index : c.out.index ≡ k.0 = below-get w k.0 c.out.index
+        (subst (λ l. slice_get l k.0 ≡ Some c.out.index) numbered (map-get (λ (c : Crew). c.out.index) now k.0 c k.1)) in
         subst (λ n. is_dealt script w n d.actor ≡ true) (sym index) (dealt-at now c dealt k.0 k.1 d j)
 
     module _ (trace more : List Entry) (posts : (c : Crew) → IsIn c now → (n : ℕ) → ArePostsBy c (reverse trace) (outs_at n c.out.ports.items))
@@ -105,4 +112,5 @@ module _ (script : Script) (w : ℕ) where
 
       pub puts-for : (a : Actor) (b : PortLists) → (b.put ≡ []) ⊎ HasPut now a b → ArePostsFor script w more a b.name b.put
       puts-for a b h =
-          ⊎_elim (λ (e : b.put ≡ []). subst (ArePostsFor script w more a b.name) (sym e) (record { each = tt; twice = λ id. omega arith })) (λ (k : HasPut now a b). by-driver a b k) h
+          ⊎_elim (λ (e : b.put ≡ []). subst (ArePostsFor script w more a b.name) (sym e)
+          (record { each = tt; twice = λ id. omega arith })) (λ (k : HasPut now a b). by-driver a b k) h

@@ -1,5 +1,6 @@
 -- From new drivers to what is left of them.
-use Rattle.std.proofs.Common.{◌≡◌, ℕ, zero, suc, ◌+◌, ◌%◌, inl, inr, ⊎_elim, eqb, List, [], ◌∷◌, ◌++◌, map, take, length, slice_get, Option, Some, None, refl, ap, sym, subst, ◌∙◌, arith}
+use Rattle.std.proofs.Common.{◌≡◌, ℕ, zero, suc, ◌+◌, ◌%◌, inl, inr, ⊎_elim, eqb, List, [], ◌∷◌, ◌++◌, map, take}
+use Rattle.std.proofs.Common.{length, slice_get, Option, Some, None, refl, ap, sym, subst, ◌∙◌, arith}
 use Rattle.std.specs.List.{AllByRecursion, IsDistinct}
 use Rattle.std.proofs.lemmas.Bool.{eqb-true}
 use Rattle.std.proofs.Math.Seq.{take-append_seam}
@@ -34,10 +35,13 @@ use Rattle.hx_run.proofs.Zipped.{both-map, both-trans, some-same}
 sliced-later : (script : Script) (xs ys : List Crew) → Both (IsSliced script) xs ys → Both IsLaterCrew xs ys
 sliced-later script xs ys h = both-map (IsSliced script) IsLaterCrew (λ x y k. k.later) xs ys h
 
-pub course-later : (script : Script) (clock : TableId) (boxes : List Boxed) (w : ℕ) (start : List Crew) (cuts : List (List Crew)) (now : List Crew) → IsCourse script clock boxes w start cuts now → Both IsLaterCrew start now
+pub course-later : (script : Script) (clock : TableId) (boxes : List Boxed) (w : ℕ) (start : List Crew)
+    (cuts : List (List Crew)) (now : List Crew) → IsCourse script clock boxes w start cuts now → Both IsLaterCrew start now
 course-later script clock boxes w start [] now h = sliced-later script start now h
 course-later script clock boxes w start (cut ∷ older) now h =
-    both-trans IsLaterCrew crew-trans start h.2.0 now (both-trans IsLaterCrew crew-trans start cut h.2.0 (course-later script clock boxes w start older cut h.1) h.2.1.later) (sliced-later script h.2.0 now h.2.2)
+    both-trans IsLaterCrew crew-trans start h.2.0 now
+    (both-trans IsLaterCrew crew-trans start cut h.2.0
+    (course-later script clock boxes w start older cut h.1) h.2.1.later) (sliced-later script h.2.0 now h.2.2)
 
 index-same : (xs ys : List Crew) → Both IsLaterCrew xs ys → map (λ (c : Crew). c.out.index) ys ≡ map (λ (c : Crew). c.out.index) xs
 index-same [] [] h = refl
@@ -56,7 +60,8 @@ crew-actors [] [] h = refl
 crew-actors [] (y ∷ ys) h = absurd h
 crew-actors (x ∷ xs) [] h = absurd h
 crew-actors (x ∷ xs) (y ∷ ys) h =
-    map_append (λ (d : Desk). d.actor) y.desks.items (desks_of ys) ∙ ap (λ l. l ++ map (λ (d : Desk). d.actor) (desks_of ys)) (desk-actors x.desks.items y.desks.items h.0.desks)
+    map_append (λ (d : Desk). d.actor) y.desks.items (desks_of ys)
+    ∙ ap (λ l. l ++ map (λ (d : Desk). d.actor) (desks_of ys)) (desk-actors x.desks.items y.desks.items h.0.desks)
     ∙ ap (λ l. map (λ (d : Desk). d.actor) x.desks.items ++ l) (crew-actors xs ys h.1) ∙ sym (map_append (λ (d : Desk). d.actor) x.desks.items (desks_of xs))
 
 -- an actor of some desk is at a desk of the later ones
@@ -69,19 +74,26 @@ pub later-actors : (script : Script) (xs ys : List Crew) → Both IsLaterCrew xs
 later-actors script xs ys h k = record {
   all = λ a e.
       let d = k.all a e in
-      of-actors (desks_of ys) a (subst (IsIn a) (sym (crew-actors xs ys h)) (subst (λ b. IsIn b (map (λ (d : Desk). d.actor) (desks_of xs))) d.2 (in_map (λ (d : Desk). d.actor) (desks_of xs) d.0 d.1)));
+      of-actors (desks_of ys) a (subst (IsIn a) (sym (crew-actors xs ys h))
+      (subst (λ b. IsIn b (map (λ (d : Desk). d.actor) (desks_of xs))) d.2
+      (in_map (λ (d : Desk). d.actor) (desks_of xs) d.0 d.1)));
   apart = subst (IsDistinct same_actor) (sym (crew-actors xs ys h)) k.apart;
 }
 
 pub later-numbered : (w : ℕ) (xs ys : List Crew) → Both IsLaterCrew xs ys → AreNumbered w xs → AreNumbered w ys
 later-numbered w xs ys h k = index-same xs ys h ∙ k
 
-dealt-desks : (script : Script) (w n : ℕ) (ds : List Desk) → map (λ (d : Desk). d.actor) ds ≡ actors_dealt script w n → AllByRecursion (λ (d : Desk). place_of script.space d.actor % w ≡ n) ds
+dealt-desks : (script : Script) (w n : ℕ) (ds : List Desk) → map (λ (d : Desk). d.actor) ds ≡ actors_dealt script w n
+    → AllByRecursion (λ (d : Desk). place_of script.space d.actor % w ≡ n) ds
 dealt-desks script w n ds e =
     each_all (λ (d : Desk). place_of script.space d.actor % w ≡ n) ds
-    (λ d i. eqb-true (place_of script.space d.actor % w) n (of_filter (λ (a : Actor). eqb (place_of script.space a % w) n) (actors_of script) d.actor (subst (IsIn d.actor) e (in_map (λ (d : Desk). d.actor) ds d i))).1)
+    (λ d i. eqb-true (place_of script.space d.actor % w) n
+    (of_filter (λ (a : Actor). eqb (place_of script.space a % w) n) (actors_of script) d.actor
+    (subst (IsIn d.actor) e (in_map (λ (d : Desk). d.actor) ds d i))).1)
 
-pub later-dealt : (script : Script) (w n : ℕ) (xs ys : List Crew) → Both IsLaterCrew xs ys → ((i : ℕ) (c : Crew) → slice_get xs i ≡ Some c → map (λ (d : Desk). d.actor) c.desks.items ≡ actors_dealt script w (n + i)) → AreDealtFrom script w n ys
+pub later-dealt : (script : Script) (w n : ℕ) (xs ys : List Crew) → Both IsLaterCrew xs ys
+    → ((i : ℕ) (c : Crew) → slice_get xs i ≡ Some c
+    → map (λ (d : Desk). d.actor) c.desks.items ≡ actors_dealt script w (n + i)) → AreDealtFrom script w n ys
 later-dealt script w n [] [] h k = 0
 later-dealt script w n [] (y ∷ ys) h k = absurd h
 later-dealt script w n (x ∷ xs) [] h k = absurd h
@@ -94,7 +106,9 @@ later-dealt script w n (x ∷ xs) (y ∷ ys) h k =
 new-parts : (crews : List Crew) → AllByRecursion IsNewCrew crews → (d : Desk) → IsIn d (desks_of crews) → d.part.items ≡ []
 new-parts [] h d i = absurd i
 new-parts (c ∷ crews) h d i =
-    ⊎_elim (λ (j : IsIn d c.desks.items). (each_in (λ (d : Desk). (d.part.items ≡ []) × (d.kept.items ≡ [])) c.desks.items d h.0.desks j).0) (λ (j : IsIn d (desks_of crews)). new-parts crews h.1 d j)
+    ⊎_elim (λ (j : IsIn d c.desks.items). (each_in
+    (λ (d : Desk). (d.part.items ≡ []) × (d.kept.items ≡ [])) c.desks.items d h.0.desks j).0)
+    (λ (j : IsIn d (desks_of crews)). new-parts crews h.1 d j)
     (in_append c.desks.items (desks_of crews) d i)
 
 module _ (script : Script) (clock : TableId) (boxes : List Boxed) (w : ℕ) (start now : List Crew) (new : AreNewCrews script clock boxes w start)
@@ -102,7 +116,9 @@ module _ (script : Script) (clock : TableId) (boxes : List Boxed) (w : ℕ) (sta
   pub ran-later : Both IsLaterCrew start now
   ran-later = let k = course w new.crews_are in course-later script clock boxes w start k.0 now k.1
 
-  pub are-closed : (fault : Option Fault) → IsScript script → AreBoxes script clock boxes → StayCrews script clock boxes start now → AreOver script now fault → AreInOrder script now → AreOnce now → AreClosed script clock w start now fault
+  pub are-closed : (fault : Option Fault) → IsScript script → AreBoxes script clock boxes
+      → StayCrews script clock boxes start now → AreOver script now fault → AreInOrder script now → AreOnce now
+      → AreClosed script clock w start now fault
   are-closed fault valid are stay over order once =
       let k = course w new.crews_are in
       record {
@@ -126,19 +142,28 @@ module _ (script : Script) (clock : TableId) (boxes : List Boxed) (w : ℕ) (sta
 
 -- ---- fates
 module _ {D X : Type 0} (crew : D → Crew) (fate : D → X) (state : X → FateState) where
-  at-both : (olds news : List D) → Both (λ d d'. IsPosted (crew d) (crew d') (state (fate d)) (state (fate d'))) olds news → AllByRecursion IsNewCrew (map crew olds)
+  at-both : (olds news : List D) → Both (λ d d'. IsPosted (crew d) (crew d') (state (fate d)) (state (fate d'))) olds
+      news → AllByRecursion IsNewCrew (map crew olds)
       → (i : ℕ) (g : X) (c : Crew) → slice_get (map fate news) i ≡ Some g → slice_get (map crew news) i ≡ Some c
       → (d : D) × (slice_get olds i ≡ Some d) × IsNewCrew (crew d) × IsPosted (crew d) c (state (fate d)) (state g)
   at-both [] [] h k i g c p q = absurd cc
   at-both [] (y ∷ news) h k i g c p q = absurd h
   at-both (x ∷ olds) [] h k i g c p q = absurd h
-  at-both (x ∷ olds) (y ∷ news) h k zero g c p q =
-      (x, refl, k.0, subst (λ u. IsPosted (crew x) u (state (fate x)) (state g)) (some-same (crew y) c q) (subst (λ u. IsPosted (crew x) (crew y) (state (fate x)) (state u)) (some-same (fate y) g p) h.0))
+  at-both (x ∷ olds) (y ∷ news) h k zero g c p q = (
+    x,
+    refl,
+    k.0,
+    subst (λ u. IsPosted (crew x) u (state (fate x)) (state g)) (some-same (crew y) c q)
+        (subst (λ u. IsPosted (crew x) (crew y) (state (fate x)) (state u)) (some-same (fate y) g p) h.0),
+  )
   at-both (x ∷ olds) (y ∷ news) h k (suc i) g c p q = at-both olds news h.1 k.1 i g c p q
 
-  pub posted-at : (olds news : List D) (fates gs : List X) → Both (λ d d'. IsPosted (crew d) (crew d') (state (fate d)) (state (fate d'))) olds news → AllByRecursion IsNewCrew (map crew olds)
+  pub posted-at : (olds news : List D) (fates gs : List X)
+      → Both (λ d d'. IsPosted (crew d) (crew d') (state (fate d)) (state (fate d'))) olds news
+      → AllByRecursion IsNewCrew (map crew olds)
       → ((i : ℕ) (d : D) (f : X) → slice_get olds i ≡ Some d → slice_get fates i ≡ Some f → state (fate d) ≡ state f) → gs ≡ map fate news
-      → (i : ℕ) (f g : X) (c : Crew) → slice_get fates i ≡ Some f → slice_get gs i ≡ Some g → slice_get (map crew news) i ≡ Some c → HasPosted c (state f) (state g)
+      → (i : ℕ) (f g : X) (c : Crew) → slice_get fates i ≡ Some f → slice_get gs i ≡ Some g
+      → slice_get (map crew news) i ≡ Some c → HasPosted c (state f) (state g)
   posted-at olds news fates gs h k same e i f g c p q r =
       let b = at-both olds news h k i g c (subst (λ l. slice_get l i ≡ Some g) e q) r in
       record { start = crew b.0; new = b.2; posted = subst (λ u. IsPosted (crew b.0) c u (state g)) (same i b.0 f b.1 p) b.3 }

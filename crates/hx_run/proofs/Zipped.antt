@@ -1,5 +1,6 @@
 -- Lists place by place.
-use Rattle.std.proofs.Common.{◌≡◌, ◌≢◌, ⊎_elim, true, false, eqb, ℕ, zero, suc, ◌<◌, ◌≤◌, List, [], ◌∷◌, ◌++◌, map, take, length, inl, inr, Some, slice_index_or, slice_set, refl, ap, sym, subst, arith}
+use Rattle.std.proofs.Common.{◌≡◌, ◌≢◌, ⊎_elim, true, false, eqb, ℕ, zero, suc, ◌<◌, ◌≤◌, List, [], ◌∷◌, ◌++◌, map}
+use Rattle.std.proofs.Common.{take, length, inl, inr, Some, slice_index_or, slice_set, refl, ap, sym, subst, arith}
 use Rattle.std.specs.Prelude.{flat_map}
 use Rattle.std.proofs.lemmas.Bool.Decides.{eqb_tells}
 use Rattle.std.specs.List.{AllByRecursion}
@@ -54,7 +55,8 @@ module _ {A B : Type 0} where
   both-map R Q f (x ∷ xs) [] h = absurd h
   both-map R Q f (x ∷ xs) (y ∷ ys) h = (f x y h.0, both-map R Q f xs ys h.1)
 
-  pub both-each : (R : A → B → Type 0) (P : A → Type 0) (Q : B → Type 0) → ((x : A) (y : B) → R x y → P x → Q y) → (xs : List A) (ys : List B) → Both R xs ys → AllByRecursion P xs → AllByRecursion Q ys
+  pub both-each : (R : A → B → Type 0) (P : A → Type 0) (Q : B → Type 0) → ((x : A) (y : B) → R x y → P x → Q y)
+      → (xs : List A) (ys : List B) → Both R xs ys → AllByRecursion P xs → AllByRecursion Q ys
   both-each R P Q f [] [] h e = tt
   both-each R P Q f [] (d ∷ ds) h e = absurd h
   both-each R P Q f (c ∷ cs) [] h e = absurd h
@@ -64,7 +66,9 @@ module _ {D C : Type 0} where
   pub moved-by : (f : D → C) (Q : C → Type 0) (a b : D) → a ≡ b → Q (f b) → Q (f a)
   moved-by f Q a b e h = subst (λ z. Q (f z)) (sym e) h
 
-  pub both-by : (f : D → C) (R : C → C → Type 0) (xs ys : List D) → length ys ≡ length xs → ((i : ℕ) (d : D) → i < length xs → R (f (slice_index_or xs i d)) (f (slice_index_or ys i d))) → Both R (map f xs) (map f ys)
+  pub both-by : (f : D → C) (R : C → C → Type 0) (xs ys : List D) → length ys ≡ length xs
+      → ((i : ℕ) (d : D) → i < length xs → R (f (slice_index_or xs i d)) (f (slice_index_or ys i d)))
+      → Both R (map f xs) (map f ys)
   both-by f R [] [] e h = tt
   both-by f R [] (y ∷ ys) e h = absurd (omega (arith, e))
   both-by f R (x ∷ xs) [] e h = absurd (omega (arith, e))
@@ -81,7 +85,8 @@ module _ {D C : Type 0} where
   map-each f P [] h = tt
   map-each f P (x ∷ xs) h = (h.0, map-each f P xs h.1)
 
-  pub each-all-map : (f : D → C) (P : C → Type 0) (xs : List D) (n : ℕ) → length xs ≤ n → AllByRecursion (λ d. P (f d)) (take n xs) → AllByRecursion P (map f xs)
+  pub each-all-map : (f : D → C) (P : C → Type 0) (xs : List D) (n : ℕ) → length xs ≤ n
+      → AllByRecursion (λ d. P (f d)) (take n xs) → AllByRecursion P (map f xs)
   each-all-map f P xs n le h = each-map f P xs (subst (AllByRecursion (λ d. P (f d))) (take-all n xs le) h)
 
   pub each-index : (f : D → C) (P : C → Type 0) (xs : List D) (k : ℕ) (d : D) → AllByRecursion P (map f xs) → k < length xs → P (f (slice_index_or xs k d))
@@ -114,7 +119,8 @@ module _ {D C : Type 0} where
       right (u ∷ us) vs k = inr (right us vs k)
 
   -- after a change at one place
-  pub both-put-map : (f : D → C) (R : C → C → Type 0) → ((x : C) → R x x) → (xs : List D) (i : ℕ) (d y : D) → R (f (slice_index_or xs i d)) (f y) → Both R (map f xs) (map f (slice_set xs i y))
+  pub both-put-map : (f : D → C) (R : C → C → Type 0) → ((x : C) → R x x) → (xs : List D) (i : ℕ) (d y : D)
+      → R (f (slice_index_or xs i d)) (f y) → Both R (map f xs) (map f (slice_set xs i y))
   both-put-map f R same [] i d y r = tt
   both-put-map f R same (a ∷ xs) zero d y r = (r, both-refl R same (map f xs))
   both-put-map f R same (a ∷ xs) (suc i) d y r = (same (f a), both-put-map f R same xs i d y r)
@@ -135,7 +141,8 @@ module _ {D : Type 0} where
   long-set (a ∷ xs) zero y = refl
   long-set (a ∷ xs) (suc i) y = ap suc (long-set xs i y)
 
-  pub both-each-at : (R : D → D → Type 0) (xs ys : List D) → length ys ≡ length xs → ((i : ℕ) (d : D) → i < length xs → R (slice_index_or xs i d) (slice_index_or ys i d)) → Both R xs ys
+  pub both-each-at : (R : D → D → Type 0) (xs ys : List D) → length ys ≡ length xs
+      → ((i : ℕ) (d : D) → i < length xs → R (slice_index_or xs i d) (slice_index_or ys i d)) → Both R xs ys
   both-each-at R [] [] e h = tt
   both-each-at R [] (y ∷ ys) e h = absurd (omega (arith, e))
   both-each-at R (x ∷ xs) [] e h = absurd (omega (arith, e))

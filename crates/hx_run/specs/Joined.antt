@@ -28,7 +28,8 @@ joined_lists n (o ∷ outs) = joined_lists n outs ++ lists_of (o.index + 1) (out
 -- the first port of the actor's box took in these drivers' ports of the box
 pub record IsJoined (script : Script) (w : ℕ) (boxes : List Boxed) (outs : List Outbox) (d : OwnedPort) : Type 0 where
   pub place : place_at script d < length boxes
-  pub inbox : (box : Boxed) → box ≡ slice_index_or boxes (place_at script d) box → IsPortOf box d.inbox × (d.inbox.view ≡ port 0 (Some box.names) (lists_of 0 [] (ins_of d.inbox) ∷ joined_lists (place_at script d) outs) (Some w))
+  pub inbox : (box : Boxed) → box ≡ slice_index_or boxes (place_at script d) box → IsPortOf box d.inbox
+      × (d.inbox.view ≡ port 0 (Some box.names) (lists_of 0 [] (ins_of d.inbox) ∷ joined_lists (place_at script d) outs) (Some w))
   pub order : (outs ≡ []) ⊎ IsInOrder d.inbox.view
   pub once : (outs ≡ []) ⊎ IsOnce d.inbox.view
 

@@ -1,5 +1,6 @@
 -- What a run of drivers answers: a trace, what each driver posted, and the ports of all boxes.
-use Rattle.std.specs.Prelude.{ℕ, ◌≡◌, ◌+◌, ◌%◌, ◌≤◌, Bool, true, false, not, cond, eqb, List, [], ◌∷◌, ◌++◌, length, map, reverse, slice_get, Option, None, Some, IsSome}
+use Rattle.std.specs.Prelude.{ℕ, ◌≡◌, ◌+◌, ◌%◌, ◌≤◌, Bool, true, false, not, cond, eqb, List, [], ◌∷◌, ◌++◌, length}
+use Rattle.std.specs.Prelude.{map, reverse, slice_get, Option, None, Some, IsSome}
 use Rattle.std.specs.List.{AllByRecursion, flat_map}
 use mathlib.Core.List.{IsPrefix}
 use Rattle.atomic_table.specs.Seated.{TableId}
@@ -116,7 +117,11 @@ pub record ArePostsFor (script : Script) (w : ℕ) (trace : List Entry) (a : Act
   pub each : AllByRecursion (IsPostFor script w trace a name) ms
   pub twice : (id : PostId) → times_named id (map (λ (m : Mailed). m.id) ms) ≤ 2
 
--- the port is of the actor's box, whose letters are of this clock, and carries all its names; what each name put are posts of the trace that its driver's actors made for this one, so that the first name put nothing; what the actor's entries deliver is, in order, a prefix of what was taken under the name 0, and nothing was taken under another; of what each name put, what was taken is, in order, a prefix, and no put was taken twice
+-- the port is of the actor's box, whose letters are of this clock, and carries all its names; what
+-- each name put are posts of the trace that its driver's actors made for this one, so that the
+-- first name put nothing; what the actor's entries deliver is, in order, a prefix of what was taken
+-- under the name 0, and nothing was taken under another; of what each name put, what was taken is,
+-- in order, a prefix, and no put was taken twice
 pub record IsPortOfActor (script : Script) (w : ℕ) (clock : TableId) (trace : List Entry) (a : Actor) (p : Ported) : Type 0 where
   pub names : BoxNames
   pub of_box : p.view.of_box ≡ Some names
@@ -134,7 +139,9 @@ ArePortsOfActors script w clock trace ports = Both (IsPortOfActor script w clock
 
 -- ---- all of it
 
--- with one more entry of the actor, which is no halt, the trace is still a run, and what its entries deliver is still a prefix of what was taken; it is still paced too, so that, where that entry is a retry, it was due
+-- with one more entry of the actor, which is no halt, the trace is still a run, and what its
+-- entries deliver is still a prefix of what was taken; it is still paced too, so that, where that
+-- entry is a retry, it was due
 pub record HasOneMore (script : Script) (w : ℕ) (clock : TableId) (trace : List Entry) (totals : List Totals) (ports : List Ported) (a : Actor) : Type 0 where
   pub entry : Entry
   pub actor : entry.actor ≡ a
@@ -148,7 +155,8 @@ abbrev pub IsWorn : Script → ℕ → TableId → List Entry → List Totals �
 IsWorn script w clock trace totals ports a = (entries_of a (reverse trace) ≡ MOST_ENTRIES) × HasOneMore script w clock trace totals ports a
 
 -- for each driver the actor that it met worn, if it met one: one of its own
-pub record HaveMetWorn (script : Script) (w : ℕ) (clock : TableId) (trace : List Entry) (totals : List Totals) (ports : List Ported) (met : List (Option Actor)) : Type 0 where
+pub record HaveMetWorn (script : Script) (w : ℕ) (clock : TableId) (trace : List Entry) (totals : List Totals)
+    (ports : List Ported) (met : List (Option Actor)) : Type 0 where
   pub count : length met ≡ w
   pub each : (i : ℕ) (a : Actor) → slice_get met i ≡ Some (Some a) → (is_dealt script w i a ≡ true) × IsWorn script w clock trace totals ports a
 
@@ -164,8 +172,10 @@ HasEnd script w clock trace totals ports None =
 HasEnd script w clock trace totals ports (Some a) =
     IsWorn script w clock trace totals ports a × IsPaced script (reverse trace) (lost_in totals) (doubled_in totals)
 
--- what drivers of w threads made of a script; no actor made more entries than it may, and the seat of the clock has all entries, each with the stamp that says its place
-pub record IsRan (script : Script) (w : ℕ) (trace : List Entry) (seat : Seated) (totals : List Totals) (ports : List Ported) (worn : Option Actor) : Type 0 where
+-- what drivers of w threads made of a script; no actor made more entries than it may, and the seat
+-- of the clock has all entries, each with the stamp that says its place
+pub record IsRan (script : Script) (w : ℕ) (trace : List Entry) (seat : Seated) (totals : List Totals)
+    (ports : List Ported) (worn : Option Actor) : Type 0 where
   pub run : IsRun script (reverse trace)
   pub no_halts : HasNoHalts trace
   pub few : (a : Actor) → entries_of a (reverse trace) ≤ MOST_ENTRIES

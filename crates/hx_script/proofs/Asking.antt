@@ -43,11 +43,14 @@ one_more_consumes : (space : Space) (terms : List Term) → Consumes (one_more_t
 unfolding one_more_term
 one_more_consumes space terms = search (takes, term_consumes)
 
-pub terms_go_on : (space : Space) (terms : List Term) (ts : List Tok) (t : Term) (rest : List Tok) → is_at until.End ts ≡ false → term space terms ts ≡ Ok (t, rest) → repeat until.End (one_more_term space) terms ts ≡ repeat until.End (one_more_term space) (terms ++ t ∷ []) rest
+pub terms_go_on : (space : Space) (terms : List Term) (ts : List Tok) (t : Term) (rest : List Tok)
+    → is_at until.End ts ≡ false → term space terms ts ≡ Ok (t, rest)
+    → repeat until.End (one_more_term space) terms ts ≡ repeat until.End (one_more_term space) (terms ++ t ∷ []) rest
 unfolding one_more_term
 terms_go_on space terms ts t rest h e = goes_on until.End (one_more_term space) (one_more_consumes space) terms ts (terms ++ t ∷ []) rest h (rw e refl)
 
-pub term_shrinks : (space : Space) (terms : List Term) (ts : List Tok) (t : Term) (rest : List Tok) → term space terms ts ≡ Ok (t, rest) → length rest < length ts
+pub term_shrinks : (space : Space) (terms : List Term) (ts : List Tok) (t : Term) (rest : List Tok)
+    → term space terms ts ≡ Ok (t, rest) → length rest < length ts
 term_shrinks space terms ts t rest e = (term_consumes space terms).at ts (t, rest) e
 
 one_more_fails : (e : Stop) (space : Space) (terms : List Term) (ts : List Tok) → Fails e (term space terms ts) → Fails e (one_more_term space terms ts)
@@ -55,8 +58,11 @@ unfolding one_more_term
 one_more_fails Memory space terms ts f = tt
 one_more_fails (Fault r) space terms ts f = rw f refl
 
-pub terms_stop : (e : Stop) (space : Space) (terms : List Term) (ts : List Tok) (total : Result (List Term × List Tok) Reason) → is_at until.End ts ≡ false → Fails e (term space terms ts) → repeat until.End (one_more_term space) terms ts ≡ total → Fails e total
+pub terms_stop : (e : Stop) (space : Space) (terms : List Term) (ts : List Tok)
+    (total : Result (List Term × List Tok) Reason) → is_at until.End ts ≡ false → Fails e (term space terms ts)
+    → repeat until.End (one_more_term space) terms ts ≡ total → Fails e total
 terms_stop e space terms ts total h f so_far = fails e until.End (one_more_term space) terms ts total h (one_more_fails e space terms ts f) so_far
 
-pub terms_end : (space : Space) (terms : List Term) (ts : List Tok) → is_at until.End ts ≡ true → repeat until.End (one_more_term space) terms ts ≡ Ok (terms, ts)
+pub terms_end : (space : Space) (terms : List Term) (ts : List Tok) → is_at until.End ts ≡ true
+    → repeat until.End (one_more_term space) terms ts ≡ Ok (terms, ts)
 terms_end space terms ts h = ends until.End (one_more_term space) terms ts h

@@ -45,11 +45,14 @@ one_more_consumes : (space : Space) (sets : List Assign) → Consumes (one_more 
 unfolding one_more
 one_more_consumes space sets = search (takes, assign_consumes)
 
-pub assigns_go_on : (space : Space) (u : Until) (sets : List Assign) (ts : List Tok) (a : Assign) (rest : List Tok) → is_at u ts ≡ false → assign space sets ts ≡ Ok (a, rest) → repeat u (one_more space) sets ts ≡ repeat u (one_more space) (sets ++ a ∷ []) rest
+pub assigns_go_on : (space : Space) (u : Until) (sets : List Assign) (ts : List Tok) (a : Assign) (rest : List Tok)
+    → is_at u ts ≡ false → assign space sets ts ≡ Ok (a, rest)
+    → repeat u (one_more space) sets ts ≡ repeat u (one_more space) (sets ++ a ∷ []) rest
 unfolding one_more
 assigns_go_on space u sets ts a rest h e = goes_on u (one_more space) (one_more_consumes space) sets ts (sets ++ a ∷ []) rest h (rw e refl)
 
-pub assign_shrinks : (space : Space) (sets : List Assign) (ts : List Tok) (a : Assign) (rest : List Tok) → assign space sets ts ≡ Ok (a, rest) → length rest < length ts
+pub assign_shrinks : (space : Space) (sets : List Assign) (ts : List Tok) (a : Assign) (rest : List Tok)
+    → assign space sets ts ≡ Ok (a, rest) → length rest < length ts
 assign_shrinks space sets ts a rest e = (assign_consumes space sets).at ts (a, rest) e
 
 one_more_fails : (e : Stop) (space : Space) (sets : List Assign) (ts : List Tok) → Fails e (assign space sets ts) → Fails e (one_more space sets ts)
@@ -57,7 +60,9 @@ unfolding one_more
 one_more_fails Memory space sets ts f = tt
 one_more_fails (Fault r) space sets ts f = rw f refl
 
-pub assigns_stop : (e : Stop) (space : Space) (u : Until) (sets : List Assign) (ts : List Tok) (total : Result (List Assign × List Tok) Reason) → is_at u ts ≡ false → Fails e (assign space sets ts) → repeat u (one_more space) sets ts ≡ total → Fails e total
+pub assigns_stop : (e : Stop) (space : Space) (u : Until) (sets : List Assign) (ts : List Tok)
+    (total : Result (List Assign × List Tok) Reason) → is_at u ts ≡ false → Fails e (assign space sets ts)
+    → repeat u (one_more space) sets ts ≡ total → Fails e total
 assigns_stop e space u sets ts total h f so_far = fails e u (one_more space) sets ts total h (one_more_fails e space sets ts f) so_far
 
 pub assigns_end : (space : Space) (u : Until) (sets : List Assign) (ts : List Tok) → is_at u ts ≡ true → repeat u (one_more space) sets ts ≡ Ok (sets, ts)

@@ -12,7 +12,9 @@ use Rattle.hx_script.specs.declared.errors.Reason.TheVariants.{Order}
 use Rattle.hx_script.specs.declared.errors.ScriptError.{ScriptError}
 use Rattle.hx_script.specs.declared.errors.ScriptError.TheVariants as errors
 use Rattle.hx_script.specs.BundleGrammar.{bundle_line_of}
-use Rattle.hx_script.specs.BundleTexts.{BundleAnswers, SaysVersion, TextAnswers, bundle_finished, bundle_of, one_space, read_bundle_lines, read_first, read_second, version_by, version_from, version_of}
+use Rattle.hx_script.specs.BundleTexts.{BundleAnswers, SaysVersion, TextAnswers, bundle_finished, bundle_of, one_space}
+use Rattle.hx_script.specs.BundleTexts.{read_bundle_lines, read_first, read_second, version_by, version_from}
+use Rattle.hx_script.specs.BundleTexts.{version_of}
 use Rattle.hx_script.specs.Grammar.{toks_from}
 use Rattle.hx_script.specs.Texts.{Answers, lines_of, script_of}
 
@@ -21,24 +23,30 @@ use Rattle.hx_script.specs.Texts.{Answers, lines_of, script_of}
 abbrev number : ℕ → Result ℕ ScriptError
 number n = Ok n
 
-pub version_on : (n : ℕ) (rest line after : List ℕ) → lines_of rest ≡ line ∷ lines_of after → toks_from line (tokens_of line) ≡ Ok [] → version_from n (lines_of rest) ≡ version_from (n + 1) (lines_of after)
+pub version_on : (n : ℕ) (rest line after : List ℕ) → lines_of rest ≡ line ∷ lines_of after
+    → toks_from line (tokens_of line) ≡ Ok [] → version_from n (lines_of rest) ≡ version_from (n + 1) (lines_of after)
 unfolding version_from
 version_on n rest line after s h = rw (s, h) refl
 
-pub version_told : (n : ℕ) (rest line after : List ℕ) (r : Result ℕ ScriptError) → lines_of rest ≡ line ∷ lines_of after → ((later : Result ℕ ScriptError) → version_by (n + 1) (toks_from line (tokens_of line)) later ≡ r) → version_from n (lines_of rest) ≡ r
+pub version_told : (n : ℕ) (rest line after : List ℕ) (r : Result ℕ ScriptError)
+    → lines_of rest ≡ line ∷ lines_of after → ((later : Result ℕ ScriptError)
+    → version_by (n + 1) (toks_from line (tokens_of line)) later ≡ r) → version_from n (lines_of rest) ≡ r
 unfolding version_from
 version_told n rest line after r s h = rw s (h (version_from (n + 1) (lines_of after)))
 
 -- what a function says of a line is what it says of the text
-pub version_stop : (n : ℕ) (rest line after : List ℕ) (e : ScriptError) → lines_of rest ≡ line ∷ lines_of after → SaysVersion (n + 1) line (Err e) → TextAnswers {A = ℕ} (Err e) (version_from n (lines_of rest))
+pub version_stop : (n : ℕ) (rest line after : List ℕ) (e : ScriptError) → lines_of rest ≡ line ∷ lines_of after
+    → SaysVersion (n + 1) line (Err e) → TextAnswers {A = ℕ} (Err e) (version_from n (lines_of rest))
 version_stop n rest line after errors.Memory s h = tt
 version_stop n rest line after (errors.Refused m r) s h = version_told n rest line after (Err (errors.Refused m r)) s h
 
-pub version_found : (n : ℕ) (rest line after : List ℕ) (o : Option ℕ) (v : ℕ) → lines_of rest ≡ line ∷ lines_of after → SaysVersion (n + 1) line (Ok o) → o ≡ Some v → version_from n (lines_of rest) ≡ Ok v
+pub version_found : (n : ℕ) (rest line after : List ℕ) (o : Option ℕ) (v : ℕ) → lines_of rest ≡ line ∷ lines_of after
+    → SaysVersion (n + 1) line (Ok o) → o ≡ Some v → version_from n (lines_of rest) ≡ Ok v
 version_found n rest line after None v s h e = absurd cc
 version_found n rest line after (Some w) v s h e = version_told n rest line after (Ok w) s h ∙ ap (λ (x : ℕ). number x) (same_Some w v e)
 
-pub version_passed : (n : ℕ) (rest line after : List ℕ) (o : Option ℕ) → lines_of rest ≡ line ∷ lines_of after → SaysVersion (n + 1) line (Ok o) → o ≡ None → version_from n (lines_of rest) ≡ version_from (n + 1) (lines_of after)
+pub version_passed : (n : ℕ) (rest line after : List ℕ) (o : Option ℕ) → lines_of rest ≡ line ∷ lines_of after
+    → SaysVersion (n + 1) line (Ok o) → o ≡ None → version_from n (lines_of rest) ≡ version_from (n + 1) (lines_of after)
 version_passed n rest line after None s h e = version_on n rest line after s h
 version_passed n rest line after (Some w) s h e = absurd cc
 
@@ -58,11 +66,15 @@ version_refused text n r e = rw e ((λ h. absurd cc), (λ h. absurd cc))
 
 -- ---- several spaces
 
-pub bundle_reads_on : (n : ℕ) (b : BundleDraft) (rest line after : List ℕ) (e : BundleDraft) → lines_of rest ≡ line ∷ lines_of after → bundle_line_of (n + 1) b line ≡ Ok e → read_bundle_lines n b (lines_of rest) ≡ read_bundle_lines (n + 1) e (lines_of after)
+pub bundle_reads_on : (n : ℕ) (b : BundleDraft) (rest line after : List ℕ) (e : BundleDraft)
+    → lines_of rest ≡ line ∷ lines_of after → bundle_line_of (n + 1) b line ≡ Ok e
+    → read_bundle_lines n b (lines_of rest) ≡ read_bundle_lines (n + 1) e (lines_of after)
 unfolding read_bundle_lines
 bundle_reads_on n b rest line after e s h = rw (s, h) refl
 
-pub bundle_reads_stop : (n : ℕ) (b : BundleDraft) (rest line after : List ℕ) (r : Reason) → lines_of rest ≡ line ∷ lines_of after → bundle_line_of (n + 1) b line ≡ Err r → read_bundle_lines n b (lines_of rest) ≡ Err (errors.Refused (n + 1) r)
+pub bundle_reads_stop : (n : ℕ) (b : BundleDraft) (rest line after : List ℕ) (r : Reason)
+    → lines_of rest ≡ line ∷ lines_of after → bundle_line_of (n + 1) b line ≡ Err r
+    → read_bundle_lines n b (lines_of rest) ≡ Err (errors.Refused (n + 1) r)
 unfolding read_bundle_lines
 bundle_reads_stop n b rest line after r s h = rw (s, h) refl
 
@@ -86,8 +98,10 @@ pub version_err : (text : List ℕ) (e : ScriptError) → TextAnswers {A = ℕ} 
 version_err text errors.Memory h = tt
 version_err text (errors.Refused n r) h = rw h refl
 
-pub of_spaces : (text : List ℕ) (v : ℕ) (r : Result Bundle ScriptError) → version_of text ≡ Ok v → v ≡ 2 → BundleAnswers r (read_second text) → BundleAnswers r (bundle_of text)
+pub of_spaces : (text : List ℕ) (v : ℕ) (r : Result Bundle ScriptError) → version_of text ≡ Ok v → v ≡ 2
+    → BundleAnswers r (read_second text) → BundleAnswers r (bundle_of text)
 of_spaces text v r e two h = rw (e, two) h
 
-pub of_one : (text : List ℕ) (v : ℕ) (r : Result Bundle ScriptError) → version_of text ≡ Ok v → v ≢ 2 → BundleAnswers r (read_first text) → BundleAnswers r (bundle_of text)
+pub of_one : (text : List ℕ) (v : ℕ) (r : Result Bundle ScriptError) → version_of text ≡ Ok v → v ≢ 2
+    → BundleAnswers r (read_first text) → BundleAnswers r (bundle_of text)
 of_one text v r e two h = rw (e, ne_eqb v 2 two) h

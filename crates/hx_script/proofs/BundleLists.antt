@@ -1,5 +1,6 @@
 -- Lists of which one item changes, and calls that are dealt out by turns.
-use Rattle.std.proofs.Common.{◌≡◌, ℕ, zero, suc, ◌+◌, ◌<◌, Bool, true, false, cond, eqb, List, [], ◌∷◌, ◌++◌, length, map, Option, Some, None, refl, sym, ap, ◌∙◌, subst, arith, inl, inr}
+use Rattle.std.proofs.Common.{◌≡◌, ℕ, zero, suc, ◌+◌, ◌<◌, Bool, true, false, cond, eqb, List, [], ◌∷◌, ◌++◌, length}
+use Rattle.std.proofs.Common.{map, Option, Some, None, refl, sym, ap, ◌∙◌, subst, arith, inl, inr}
 use Rattle.std.specs.Prelude.{◌⊎◌, IfSome, slice_get, slice_set}
 use Rattle.std.specs.List.{All, AllZip}
 use Rattle.std.proofs.lemmas.Bool.{cases_eq, eqb-false, ne_eqb}
@@ -52,7 +53,8 @@ pub if_some_at : {A : Type 0} (P : A → Type 0) (o : Option A) (x : A) → o �
 if_some_at P None x e h = absurd cc
 if_some_at P (Some y) x e h = subst P (same_Some y x e) h
 
-pub placed_all : {A : Type 0} (P : ℕ → A → Type 0) (xs : List A) (Q : A → Type 0) → ((k : ℕ) (x : A) → P k x → Q x) → ((k : ℕ) → IfSome (slice_get xs k) (P k)) → All Q xs
+pub placed_all : {A : Type 0} (P : ℕ → A → Type 0) (xs : List A) (Q : A → Type 0) → ((k : ℕ) (x : A) → P k x → Q x)
+    → ((k : ℕ) → IfSome (slice_get xs k) (P k)) → All Q xs
 placed_all P [] Q f h = All-nil Q
 placed_all P (x ∷ xs) Q f h = All-cons Q x xs (f zero x (h zero)) (placed_all (λ k. P (suc k)) xs Q (λ k. f (suc k)) (λ k. h (suc k)))
 
@@ -60,7 +62,8 @@ weaker_some : {A : Type 0} (P Q : A → Type 0) (o : Option A) → IfSome o P �
 weaker_some P Q None h f = tt
 weaker_some P Q (Some x) h f = f x h
 
-pub placed_set : {A : Type 0} (P R : ℕ → A → Type 0) (xs : List A) (k : ℕ) (x y : A) → slice_get xs k ≡ Some x → ((j : ℕ) → IfSome (slice_get xs j) (P j)) → ((j : ℕ) (z : A) → (j ≡ k → ⊥) → P j z → R j z) → R k y
+pub placed_set : {A : Type 0} (P R : ℕ → A → Type 0) (xs : List A) (k : ℕ) (x y : A) → slice_get xs k ≡ Some x
+    → ((j : ℕ) → IfSome (slice_get xs j) (P j)) → ((j : ℕ) (z : A) → (j ≡ k → ⊥) → P j z → R j z) → R k y
     → (j : ℕ) → IfSome (slice_get (slice_set xs k y) j) (R j)
 placed_set P R xs k x y at h other here j = by (cases_eq j k)
   where
@@ -68,7 +71,9 @@ placed_set P R xs k x y at h other here j = by (cases_eq j k)
     by (inl e) = subst (λ i. IfSome (slice_get (slice_set xs k y) i) (R i)) (sym e) (rw (get_set_same xs k x y at) here)
     by (inr ne) = rw (get_set_other xs k j y ne) (weaker_some (P j) (R j) (slice_get xs j) (h j) (λ z. other j z ne))
 
-pub placed_map : {A B : Type 0} (f : A → B) (P : ℕ → A → Type 0) (R : ℕ → B → Type 0) (xs : List A) → ((k : ℕ) → IfSome (slice_get xs k) (P k)) → ((k : ℕ) (x : A) → P k x → R k (f x)) → (k : ℕ) → IfSome (slice_get (map f xs) k) (R k)
+pub placed_map : {A B : Type 0} (f : A → B) (P : ℕ → A → Type 0) (R : ℕ → B → Type 0) (xs : List A)
+    → ((k : ℕ) → IfSome (slice_get xs k) (P k)) → ((k : ℕ) (x : A) → P k x → R k (f x)) → (k : ℕ)
+    → IfSome (slice_get (map f xs) k) (R k)
 placed_map f P R [] h g k = tt
 placed_map f P R (x ∷ xs) h g zero = g zero x (h zero)
 placed_map f P R (x ∷ xs) h g (suc k) = placed_map f (λ j. P (suc j)) (λ j. R (suc j)) xs (λ j. h (suc j)) (λ j. g (suc j)) k
@@ -95,7 +100,8 @@ times_other j k (x ∷ ts) ne = step (eqb x j) (times j (ts ++ k ∷ [])) (times
     step true m n e = ap (λ i. i + 1) e
     step false m n e = e
 
-pub dealt_push : (j : ℕ) (sessions : List (List Op)) (turns : List (List ℕ)) → AllZip (AreDealt j) sessions turns → AllZip (AreDealt j) (sessions ++ [] ∷ []) (turns ++ [] ∷ [])
+pub dealt_push : (j : ℕ) (sessions : List (List Op)) (turns : List (List ℕ)) → AllZip (AreDealt j) sessions turns
+    → AllZip (AreDealt j) (sessions ++ [] ∷ []) (turns ++ [] ∷ [])
 dealt_push j [] [] h = (refl, tt)
 dealt_push j [] (t ∷ turns) h = absurd h
 dealt_push j (s ∷ sessions) [] h = absurd h
@@ -105,7 +111,8 @@ one_more : (k : ℕ) (s : List Op) (t : List ℕ) (op : Op) → length s ≡ tim
 one_more k s t op e = omega (arith, e, length_push s op, times_same k t)
 
 -- a call to the space of the turn
-pub dealt_here : (k : ℕ) (sessions : List (List Op)) (turns : List (List ℕ)) (op : Op) → AllZip (AreDealt k) sessions turns → AllZip (AreDealt k) (push_to_last sessions op) (push_to_last turns k)
+pub dealt_here : (k : ℕ) (sessions : List (List Op)) (turns : List (List ℕ)) (op : Op)
+    → AllZip (AreDealt k) sessions turns → AllZip (AreDealt k) (push_to_last sessions op) (push_to_last turns k)
 dealt_here k [] [] op h = tt
 dealt_here k [] (t ∷ turns) op h = absurd h
 dealt_here k (s ∷ ss) [] op h = absurd h
@@ -115,7 +122,8 @@ dealt_here k (s ∷ r ∷ ss) (t ∷ []) op h = absurd h.1
 dealt_here k (s ∷ r ∷ ss) (t ∷ u ∷ turns) op h = (h.0, dealt_here k (r ∷ ss) (u ∷ turns) op h.1)
 
 -- and to another
-pub dealt_there : (j k : ℕ) (sessions : List (List Op)) (turns : List (List ℕ)) → (k ≡ j → ⊥) → AllZip (AreDealt j) sessions turns → AllZip (AreDealt j) sessions (push_to_last turns k)
+pub dealt_there : (j k : ℕ) (sessions : List (List Op)) (turns : List (List ℕ)) → (k ≡ j → ⊥)
+    → AllZip (AreDealt j) sessions turns → AllZip (AreDealt j) sessions (push_to_last turns k)
 dealt_there j k [] [] ne h = tt
 dealt_there j k [] (t ∷ turns) ne h = absurd h
 dealt_there j k (s ∷ ss) [] ne h = absurd h

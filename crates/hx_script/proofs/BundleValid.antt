@@ -1,5 +1,6 @@
 -- What is read is a bundle within the limits, and no text is refused because of a step.
-use Rattle.std.proofs.Common.{◌≡◌, ℕ, ◌+◌, ◌<◌, Bool, true, false, cond, List, [], ◌∷◌, length, map, Option, Some, None, Result, Ok, Err, refl, sym, ap, ◌∙◌, subst, arith}
+use Rattle.std.proofs.Common.{◌≡◌, ℕ, ◌+◌, ◌<◌, Bool, true, false, cond, List, [], ◌∷◌, length, map, Option, Some}
+use Rattle.std.proofs.Common.{None, Result, Ok, Err, refl, sym, ap, ◌∙◌, subst, arith}
 use Rattle.std.specs.Prelude.{IsSomeAnd, slice_get, slice_index_or}
 use Rattle.std.specs.List.{All, AllZip}
 use Rattle.std.proofs.lemmas.List.{length-map}
@@ -40,7 +41,8 @@ use Rattle.hx_script.proofs.Yields.{AllToks}
 
 -- ---- a line
 
-toks_kept : (n : ℕ) (b : BundleDraft) (ts : List Tok) (after : BundleDraft) → BundleSound b → AllToks ts → bundle_line_of_toks n b ts ≡ Ok after → BundleSound after
+toks_kept : (n : ℕ) (b : BundleDraft) (ts : List Tok) (after : BundleDraft) → BundleSound b → AllToks ts
+    → bundle_line_of_toks n b ts ≡ Ok after → BundleSound after
 toks_kept n b [] after so all e = subst BundleSound (ok_is b after e) so
 toks_kept n b (t ∷ ts) after so all e =
     let o = on_ok_ok (bundle_command n b (t ∷ ts)) (λ (x : BundleDraft × List Tok). Ok x.0) after e in
@@ -53,17 +55,20 @@ bundle_line_kept n b line after so e =
 
 -- ---- the end
 
-has_step : (d : Draft) (servers sessions : ℕ) (s : Step) → d.space.servers ≡ servers → length d.sessions ≡ sessions → IsStepBy servers sessions s → HasStep (script_so_far d) s
+has_step : (d : Draft) (servers sessions : ℕ) (s : Step) → d.space.servers ≡ servers → length d.sessions ≡ sessions
+    → IsStepBy servers sessions s → HasStep (script_so_far d) s
 has_step d servers sessions (Deliver id) e f h = tt
 has_step d servers sessions (Tick a) e f h = has_actor d servers sessions a e f h
   where
-    has_actor : (d : Draft) (servers sessions : ℕ) (a : Actor) → d.space.servers ≡ servers → length d.sessions ≡ sessions → IsOneOf servers sessions a → HasStep (script_so_far d) (Tick a)
+    has_actor : (d : Draft) (servers sessions : ℕ) (a : Actor) → d.space.servers ≡ servers
+        → length d.sessions ≡ sessions → IsOneOf servers sessions a → HasStep (script_so_far d) (Tick a)
     has_actor d servers sessions Coordinator e f h = tt
     has_actor d servers sessions (Server s) e f h = rw e h
     has_actor d servers sessions (Session u) e f h = rw f h
 has_step d servers sessions (Halt a) e f h = has_actor d servers sessions a e f h
   where
-    has_actor : (d : Draft) (servers sessions : ℕ) (a : Actor) → d.space.servers ≡ servers → length d.sessions ≡ sessions → IsOneOf servers sessions a → HasStep (script_so_far d) (Halt a)
+    has_actor : (d : Draft) (servers sessions : ℕ) (a : Actor) → d.space.servers ≡ servers
+        → length d.sessions ≡ sessions → IsOneOf servers sessions a → HasStep (script_so_far d) (Halt a)
     has_actor d servers sessions Coordinator e f h = tt
     has_actor d servers sessions (Server s) e f h = rw e h
     has_actor d servers sessions (Session u) e f h = rw f h
@@ -72,12 +77,16 @@ some_and : {A : Type 0} (o : Option A) (P : A → Type 0) (x : A) → o ≡ Some
 some_and None P x e p = absurd cc
 some_and (Some y) P x e p = subst P (sym (same_Some y x e)) p
 
-step_in : (b : BundleDraft) (s : BundleStep) → BundleSound b → IsStepAmong (length b.spaces) b.servers (length b.turns) s → IsStepIn (map script_so_far b.spaces) s
+step_in : (b : BundleDraft) (s : BundleStep) → BundleSound b
+    → IsStepAmong (length b.spaces) b.servers (length b.turns) s → IsStepIn (map script_so_far b.spaces) s
 step_in b s so h =
     let at = some_here b.spaces s.space h.0 in
     let fits : SpaceFits b.servers b.tolerate at.0 = all_at (SpaceFits b.servers b.tolerate) b.spaces s.space at.0 so.spaces at.1 in
-    let long : length at.0.sessions ≡ length b.turns = all_at (λ (d : Draft). length d.sessions ≡ length b.turns) b.spaces s.space at.0 (as_long b.spaces b.turns so.dealt) at.1 in
-    some_and (slice_get (map script_so_far b.spaces) s.space) (λ (x : Script). HasStep x s.step) (script_so_far at.0) (slice_get-map script_so_far b.spaces s.space ∙ ap (option_map script_so_far) at.1)
+    let long : length at.0.sessions ≡ length b.turns =
+    all_at (λ (d : Draft). length d.sessions ≡ length b.turns) b.spaces s.space at.0
+    (as_long b.spaces b.turns so.dealt) at.1 in
+    some_and (slice_get (map script_so_far b.spaces) s.space) (λ (x : Script). HasStep x s.step) (script_so_far at.0)
+    (slice_get-map script_so_far b.spaces s.space ∙ ap (option_map script_so_far) at.1)
     (has_step at.0 b.servers (length b.turns) s.step fits.servers_are long h.1)
 
 names_are : (spaces : List Draft) → map (λ (s : Script). s.space.name) (map script_so_far spaces) ≡ map (λ (d : Draft). d.space.name) spaces
@@ -91,14 +100,18 @@ a_bundle b so some whole =
     record {
       some = omega (arith, long, some);
       few = omega (arith, long, so.few);
-      scripts = All-map IsScript script_so_far b.spaces (λ i d lt. a_script (slice_index_or b.spaces i d) (so.spaces i d lt).sound.space (so.spaces i d lt).sound.calls (whole i d lt));
+      scripts = All-map IsScript script_so_far b.spaces
+          (λ i d lt. a_script (slice_index_or b.spaces i d) (so.spaces i d lt).sound.space
+          (so.spaces i d lt).sound.calls (whole i d lt));
       no_steps = All-map (λ (s : Script). s.steps ≡ []) script_so_far b.spaces (λ i d lt. (so.spaces i d lt).no_steps);
-      alike = All-map (λ (x : Script). All (AreAlike x) scripts) script_so_far b.spaces (λ i d lt. All-map (AreAlike (script_so_far (slice_index_or b.spaces i d))) script_so_far b.spaces (λ j e lt'. record {
-        servers = (so.spaces i d lt).servers_are ∙ sym (so.spaces j e lt').servers_are;
-        tolerate = (so.spaces i d lt).tolerate_is ∙ sym (so.spaces j e lt').tolerate_is;
-      }));
+      alike = All-map (λ (x : Script). All (AreAlike x) scripts) script_so_far b.spaces
+          (λ i d lt. All-map (AreAlike (script_so_far (slice_index_or b.spaces i d))) script_so_far b.spaces (λ j e lt'. record {
+            servers = (so.spaces i d lt).servers_are ∙ sym (so.spaces j e lt').servers_are;
+            tolerate = (so.spaces i d lt).tolerate_is ∙ sym (so.spaces j e lt').tolerate_is;
+          }));
       names_differ = subst NamesDiffer (sym (names_are b.spaces)) so.names;
-      dealt = placed_map script_so_far (λ k d. AllZip (AreDealt k) d.sessions b.turns) (λ k s. AllZip (AreDealt k) s.sessions b.turns) b.spaces so.dealt (λ k d h. h);
+      dealt = placed_map script_so_far (λ k d. AllZip (AreDealt k) d.sessions b.turns)
+          (λ k s. AllZip (AreDealt k) s.sessions b.turns) b.spaces so.dealt (λ k d h. h);
       turns = subst (λ m. All (λ (l : List ℕ). All (λ (k : ℕ). k < m) l) b.turns) (sym long) so.turns;
       few_calls = omega (arith, so.counted, so.few_calls);
       few_steps = so.few_steps;
@@ -111,11 +124,13 @@ bundle b = Ok b
 bundle_is : (b c : Bundle) → bundle b ≡ bundle c → b ≡ c
 bundle_is b c e = cc
 
-ends_by : (n : ℕ) (b : BundleDraft) (keys : Bool) (a : Bundle) → BundleSound b → ByStage stages.Spaces b → have_keys b.spaces ≡ keys → cond keys (Ok (bundle_so_far b)) (Err (errors.Refused n Order)) ≡ Ok a → IsBundle a
+ends_by : (n : ℕ) (b : BundleDraft) (keys : Bool) (a : Bundle) → BundleSound b → ByStage stages.Spaces b
+    → have_keys b.spaces ≡ keys → cond keys (Ok (bundle_so_far b)) (Err (errors.Refused n Order)) ≡ Ok a → IsBundle a
 ends_by n b true a so st k e = subst IsBundle (bundle_is (bundle_so_far b) a e) (a_bundle b so st.0 (heads_whole b so st.1 st.4 k))
 ends_by n b false a so st k e = absurd cc
 
-ends : (n : ℕ) (b : BundleDraft) (sec : BundleSection) (a : Bundle) → BundleSound b → ByStage sec b → cond (bundle_may_end sec b.spaces) (Ok (bundle_so_far b)) (Err (errors.Refused n Order)) ≡ Ok a → IsBundle a
+ends : (n : ℕ) (b : BundleDraft) (sec : BundleSection) (a : Bundle) → BundleSound b → ByStage sec b
+    → cond (bundle_may_end sec b.spaces) (Ok (bundle_so_far b)) (Err (errors.Refused n Order)) ≡ Ok a → IsBundle a
 ends n b stages.Spaces a so st e = ends_by n b (have_keys b.spaces) a so st refl e
 ends n b stages.Calls a so st e = subst IsBundle (bundle_is (bundle_so_far b) a e) (a_bundle b so st.0 (all_calling b so st.1))
 ends n b stages.Steps a so st e = subst IsBundle (bundle_is (bundle_so_far b) a e) (a_bundle b so st.0 st.1)

@@ -42,7 +42,8 @@ pub edits_go_on :
 unfolding one_more_edit
 edits_go_on space edits ts e rest h is = goes_on until.End (one_more_edit space) (one_more_consumes space) edits ts (edits ++ e ∷ []) rest h (rw is refl)
 
-pub edit_shrinks : (space : Space) (edits : List Edit) (ts : List Tok) (e : Edit) (rest : List Tok) → edit space edits ts ≡ Ok (e, rest) → length rest < length ts
+pub edit_shrinks : (space : Space) (edits : List Edit) (ts : List Tok) (e : Edit) (rest : List Tok)
+    → edit space edits ts ≡ Ok (e, rest) → length rest < length ts
 edit_shrinks space edits ts e rest is = (edit_consumes space edits).at ts (e, rest) is
 
 one_more_fails : (e : Stop) (space : Space) (edits : List Edit) (ts : List Tok) → Fails e (edit space edits ts) → Fails e (one_more_edit space edits ts)
@@ -58,5 +59,6 @@ pub edits_stop :
     → Fails e total
 edits_stop e space edits ts total h f so_far = fails e until.End (one_more_edit space) edits ts total h (one_more_fails e space edits ts f) so_far
 
-pub edits_end : (space : Space) (edits : List Edit) (ts : List Tok) → is_at until.End ts ≡ true → repeat until.End (one_more_edit space) edits ts ≡ Ok (edits, ts)
+pub edits_end : (space : Space) (edits : List Edit) (ts : List Tok) → is_at until.End ts ≡ true
+    → repeat until.End (one_more_edit space) edits ts ≡ Ok (edits, ts)
 edits_end space edits ts h = ends until.End (one_more_edit space) edits ts h

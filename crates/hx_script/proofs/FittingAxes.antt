@@ -33,7 +33,15 @@ record IsFreeAxis (space : Space) (axes : List Axis) (a : ℕ) : Type 0 where
 
 yields_free_axis : (space : Space) (axes : List Axis) → Yields (free_axis space axes) (IsFreeAxis space axes)
 unfolding free_axis
-yields_free_axis space axes = yields_then MayName yields_named (λ w m. yields_then (λ a. declared_number space w ≡ Ok a) (yields_judged (declared_number space w)) (λ a d. yields_then (λ u. not (has_axis axes a) ≡ true) (yields_check (not (has_axis axes a)) Twice) (λ u n. yields_then (λ u. nat_lt (length axes) 4 ≡ true) (yields_check (nat_lt (length axes) 4) Limit) (λ u r. yields_give a (record { is = declared_is space w a d; new = not_true (has_axis axes a) n; room = ltb-true (length axes) 4 r })))))
+yields_free_axis space axes = yields_then MayName yields_named
+    (λ w m. yields_then (λ a. declared_number space w ≡ Ok a) (yields_judged (declared_number space w))
+    (λ a d. yields_then (λ u. not (has_axis axes a) ≡ true) (yields_check (not (has_axis axes a)) Twice)
+    (λ u n. yields_then (λ u. nat_lt (length axes) 4 ≡ true) (yields_check (nat_lt (length axes) 4) Limit)
+    (λ u r. yields_give a (record {
+      is = declared_is space w a d;
+      new = not_true (has_axis axes a) n;
+      room = ltb-true (length axes) 4 r;
+    })))))
 
 record AreParts (regions size n : ℕ) : Type 0 where
   pub is : ArePart n
@@ -41,7 +49,10 @@ record AreParts (regions size n : ℕ) : Type 0 where
 
 yields_parts : (regions size : ℕ) → Yields (parts regions size) (AreParts regions size)
 unfolding parts
-yields_parts regions size = yields_then (λ n. (1 ≤ n) × (n ≤ 256)) (yields_number_in 1 256) (λ n h. yields_then (λ u. nat_le (regions + size * n) 4096 ≡ true) (yields_check (nat_le (regions + size * n) 4096) Limit) (λ u r. yields_give n (record { is = h; room = leb-true (regions + size * n) 4096 r })))
+yields_parts regions size = yields_then (λ n. (1 ≤ n) × (n ≤ 256)) (yields_number_in 1 256)
+    (λ n h. yields_then (λ u. nat_le (regions + size * n) 4096 ≡ true)
+    (yields_check (nat_le (regions + size * n) 4096) Limit)
+    (λ u r. yields_give n (record { is = h; room = leb-true (regions + size * n) 4096 r })))
 
 -- axes, perhaps none
 record IsAxesDraft (space : Space) (c : AxesDraft) : Type 0 where
@@ -57,7 +68,9 @@ pub record DraftFits (space : Space) (regions : ℕ) (c : AxesDraft) : Type 0 wh
 longer : (axes : List Axis) (a : Axis) → length axes < 4 → (0 < length (axes ++ a ∷ [])) × (length (axes ++ a ∷ []) ≤ 4)
 longer axes a lt = (omega (arith, length-append axes (a ∷ [])), omega (arith, lt, length-append axes (a ∷ [])))
 
-axis_fits : (space : Space) (regions : ℕ) (c : AxesDraft) (a n : ℕ) → IsAxesDraft space c → IsFreeAxis space c.axes a → AreParts regions c.size n → DraftFits space regions (record { axes = c.axes ++ record { attribute = a; parts = n } ∷ []; size = c.size * n })
+axis_fits : (space : Space) (regions : ℕ) (c : AxesDraft) (a n : ℕ) → IsAxesDraft space c → IsFreeAxis space c.axes a
+    → AreParts regions c.size n → DraftFits space regions
+    (record { axes = c.axes ++ record { attribute = a; parts = n } ∷ []; size = c.size * n })
 axis_fits space regions c a n fits free part =
     let x : Axis = record { attribute = a; parts = n } in
     record {
@@ -75,15 +88,22 @@ axis_fits space regions c a n fits free part =
 
 yields_axis : (space : Space) (regions : ℕ) (c : AxesDraft) → IsAxesDraft space c → Yields (axis space regions c) (DraftFits space regions)
 unfolding axis
-yields_axis space regions c fits = yields_then (IsFreeAxis space c.axes) (yields_free_axis space c.axes) (λ a f. yields_then (AreParts regions c.size) (yields_parts regions c.size) (λ n p. yields_give (record { axes = c.axes ++ record { attribute = a; parts = n } ∷ []; size = c.size * n }) (axis_fits space regions c a n fits f p)))
+yields_axis space regions c fits = yields_then (IsFreeAxis space c.axes) (yields_free_axis space c.axes)
+    (λ a f. yields_then (AreParts regions c.size) (yields_parts regions c.size)
+    (λ n p. yields_give (record { axes = c.axes ++ record { attribute = a; parts = n } ∷ []; size = c.size * n })
+    (axis_fits space regions c a n fits f p)))
 
 yields_next : (space : Space) (regions : ℕ) (c : AxesDraft) → DraftFits space regions c → Yields (next_axis space regions c) (DraftFits space regions)
 unfolding next_axis
-yields_next space regions c fits = yields_then Any (yields_sign (codes ",")) (λ u t. yields_axis space regions c (record { fit = fits.axes.fit; size = fits.size }))
+yields_next space regions c fits = yields_then Any (yields_sign (codes ","))
+    (λ u t. yields_axis space regions c (record { fit = fits.axes.fit; size = fits.size }))
 
 no_axes : (space : Space) → IsAxesDraft space no_axes_yet
 no_axes space = record { fit = record { each = All-nil (IsAxisOf (length space.attributes)); once = tt; few = omega arith }; size = refl }
 
 pub yields_subspace : (space : Space) (regions : ℕ) → Yields (subspace space regions) (DraftFits space regions)
 unfolding subspace
-yields_subspace space regions = yields_then (DraftFits space regions) (yields_axis space regions no_axes_yet (no_axes space)) (λ first f. yields_repeat (DraftFits space regions) until.End (next_axis space regions) (λ b q. yields_next space regions b q) first f)
+yields_subspace space regions = yields_then (DraftFits space regions)
+    (yields_axis space regions no_axes_yet (no_axes space))
+    (λ first f. yields_repeat (DraftFits space regions) until.End (next_axis space regions)
+    (λ b q. yields_next space regions b q) first f)

@@ -24,7 +24,8 @@ begun_more k xs ys d e are lt is =
     let short : k < length xs = omega (arith, lt, ap (λ (l : List Draft). length l) are, begun_long k xs) in
     let next : set (begun k xs) k (with_session (get_or (begun k xs) k d)) ≡ begun (suc k) xs = begun_one k xs d short in
     let here : e ≡ with_session (get_or (begun k xs) k d) = is ∙ ap (λ (l : List Draft). with_session (get_or l k d)) are in
-    ap (λ (x : Draft). set ys k x) here ∙ ap (λ (l : List Draft). set l k (with_session (get_or (begun k xs) k d))) are ∙ next ∙ ap (λ (n : ℕ). begun n xs) (sym (add-one k))
+    ap (λ (x : Draft). set ys k x) here ∙ ap (λ (l : List Draft). set l k (with_session (get_or (begun k xs) k d)))
+    are ∙ next ∙ ap (λ (n : ℕ). begun n xs) (sym (add-one k))
 
 pub begun_all : (k : ℕ) (xs : List Draft) → length xs ≤ k → begun k xs ≡ map with_session xs
 begun_all zero [] le = refl

@@ -15,7 +15,8 @@ some x = Some x
 same : {A : Type 0} (x y : A) → some x ≡ some y → x ≡ y
 same x y e = cc
 
-last_at : {A : Type 0} (lists : List (List A)) (place : ℕ) (last : List A) (x : A) → place + 1 ≡ length lists → slice_get lists place ≡ Some last → set lists place (last ++ x ∷ []) ≡ push_to_last lists x
+last_at : {A : Type 0} (lists : List (List A)) (place : ℕ) (last : List A) (x : A) → place + 1 ≡ length lists
+    → slice_get lists place ≡ Some last → set lists place (last ++ x ∷ []) ≡ push_to_last lists x
 last_at [] place last x len e = absurd (omega (arith, len))
 last_at (ys ∷ []) zero last x len e = ap (λ l. (l ++ x ∷ []) ∷ []) (same last ys cc)
 last_at (ys ∷ []) (suc place) last x len e = absurd (omega (arith, len))
@@ -23,7 +24,8 @@ last_at (ys ∷ zs ∷ front) zero last x len e = absurd (omega (arith, len))
 last_at (ys ∷ zs ∷ front) (suc place) last x len e = ap (λ r. ys ∷ r) (last_at (zs ∷ front) place last x (omega (arith, len)) e)
 
 -- the last list with one more item, by its place
-pub push_at_last_place : {A : Type 0} (lists : List (List A)) (last : List A) (x : A) → slice_get lists (length lists - 1) ≡ Some last → set lists (length lists - 1) (last ++ x ∷ []) ≡ push_to_last lists x
+pub push_at_last_place : {A : Type 0} (lists : List (List A)) (last : List A) (x : A)
+    → slice_get lists (length lists - 1) ≡ Some last → set lists (length lists - 1) (last ++ x ∷ []) ≡ push_to_last lists x
 push_at_last_place lists last x e = last_at lists (length lists - 1) last x (omega (arith, slice_get_within lists (length lists - 1) last e)) e
 
 some_at : {A : Type 0} (lists : List A) (place : ℕ) → place < length lists → slice_get lists place ≡ None → ⊥

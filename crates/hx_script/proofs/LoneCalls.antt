@@ -1,5 +1,6 @@
 -- What a line gives apart from a script is what it gives behind a session's calls.
-use Rattle.std.proofs.Common.{◌≡◌, ◌≢◌, ℕ, ◌+◌, ◌*◌, ◌<◌, ◌≤◌, true, List, [], ◌∷◌, ◌++◌, length, Option, Some, None, Result, Ok, Err, refl, sym, ap, ◌∙◌, subst, arith}
+use Rattle.std.proofs.Common.{◌≡◌, ◌≢◌, ℕ, ◌+◌, ◌*◌, ◌<◌, ◌≤◌, true, List, [], ◌∷◌, ◌++◌, length, Option, Some, None}
+use Rattle.std.proofs.Common.{Result, Ok, Err, refl, sym, ap, ◌∙◌, subst, arith}
 use Rattle.std.specs.Prelude.{nat_lt}
 use Rattle.std.proofs.lemmas.Bool.{lt-ltb}
 use Rattle.hx_lex.specs.Letters.{IsWord}
@@ -54,18 +55,21 @@ lone_fits space line op is e =
 
 -- ---- a call is read by both
 
-line_takes : (n : ℕ) (d : Draft) (k : Option Keyword) (ts : List Tok) (x : Op × List Tok) → TakesCalls d → call_by d.space k ts ≡ Ok x → line_for n d sections.Calls k ts ≡ Ok (with_call d x.0, x.1)
+line_takes : (n : ℕ) (d : Draft) (k : Option Keyword) (ts : List Tok) (x : Op × List Tok) → TakesCalls d
+    → call_by d.space k ts ≡ Ok x → line_for n d sections.Calls k ts ≡ Ok (with_call d x.0, x.1)
 unfolding call_line
 line_takes n d (Some (keywords.Call w)) ts x t e = rw (lt-ltb d.calls 16384 t.room, t.regions, e) refl
 line_takes n d (Some (keywords.Heading h)) ts x t e = absurd cc
 line_takes n d (Some (keywords.Step w)) ts x t e = absurd cc
 line_takes n d None ts x t e = absurd cc
 
-command_takes : (n : ℕ) (d : Draft) (ts : List Tok) (x : Op × List Tok) → TakesCalls d → lone_call d.space ts ≡ Ok x → command n d ts ≡ Ok (with_call d x.0, x.1)
+command_takes : (n : ℕ) (d : Draft) (ts : List Tok) (x : Op × List Tok) → TakesCalls d → lone_call d.space ts ≡ Ok x
+    → command n d ts ≡ Ok (with_call d x.0, x.1)
 unfolding lone_call command
 command_takes n d ts x t e =
     let o = on_ok_ok (word ts) (λ (y : List ℕ × List Tok). call_by d.space (keyword_of y.0) y.1) x e in
-    rw o.1 (subst (λ (s : Section). line_for n d s (keyword_of o.0.0) o.0.1 ≡ Ok (with_call d x.0, x.1)) (sym t.section) (line_takes n d (keyword_of o.0.0) o.0.1 x t o.2))
+    rw o.1 (subst (λ (s : Section). line_for n d s (keyword_of o.0.0) o.0.1 ≡ Ok (with_call d x.0, x.1))
+    (sym t.section) (line_takes n d (keyword_of o.0.0) o.0.1 x t o.2))
 
 nothing_called : (space : Space) → lone_call space [] ≡ Err Order
 unfolding lone_call
@@ -94,7 +98,8 @@ err_of : {A B : Type 0} (read : Result A Reason) (f : A → B) (r : Reason) → 
 err_of (Ok x) f r e = absurd cc
 err_of (Err q) f r e = ap (λ (p : Reason). failed p) (same_fault q r e)
 
-line_fails : (n : ℕ) (d : Draft) (k : Option Keyword) (ts : List Tok) (r : Reason) → TakesCalls d → r ≢ Order → call_by d.space k ts ≡ Err r → line_for n d sections.Calls k ts ≡ Err r
+line_fails : (n : ℕ) (d : Draft) (k : Option Keyword) (ts : List Tok) (r : Reason) → TakesCalls d → r ≢ Order
+    → call_by d.space k ts ≡ Err r → line_for n d sections.Calls k ts ≡ Err r
 unfolding call_line
 line_fails n d (Some (keywords.Call w)) ts r t other e = rw (lt-ltb d.calls 16384 t.room, t.regions, e) refl
 line_fails n d (Some (keywords.Heading h)) ts r t other e = absurd (other (sym (same_fault {A = Op × List Tok} Order r e)))
@@ -104,7 +109,8 @@ line_fails n d None ts r t other e = absurd (other (sym (same_fault {A = Op × L
 command_fails : (n : ℕ) (d : Draft) (ts : List Tok) (r : Reason) → TakesCalls d → r ≢ Order → lone_call d.space ts ≡ Err r → command n d ts ≡ Err r
 unfolding lone_call command
 command_fails n d [] r t other e = absurd (other (sym (same_fault {A = Op × List Tok} Order r e)))
-command_fails n d (Word w ∷ ts) r t other e = subst (λ (s : Section). line_for n d s (keyword_of w) ts ≡ Err r) (sym t.section) (line_fails n d (keyword_of w) ts r t other e)
+command_fails n d (Word w ∷ ts) r t other e = subst (λ (s : Section). line_for n d s (keyword_of w) ts ≡ Err r)
+    (sym t.section) (line_fails n d (keyword_of w) ts r t other e)
 command_fails n d (Number m ∷ ts) r t other e = absurd (other (sym (same_fault {A = Op × List Tok} Order r e)))
 command_fails n d (Text b ∷ ts) r t other e = absurd (other (sym (same_fault {A = Op × List Tok} Order r e)))
 command_fails n d (Sign b ∷ ts) r t other e = absurd (other (sym (same_fault {A = Op × List Tok} Order r e)))
@@ -127,7 +133,12 @@ KeepsCount calls d = d.calls ≡ calls
 
 yields_session : (d : Draft) → Yields (session_line d) (KeepsCount d.calls)
 unfolding session_line
-yields_session d = yields_then (λ u. nat_lt (length d.sessions) 16 ≡ true) (yields_check (nat_lt (length d.sessions) 16) Limit) (λ u room. yields_then (λ n. (length d.sessions + 1 ≤ n) × (n ≤ length d.sessions + 1)) (yields_number_in (length d.sessions + 1) (length d.sessions + 1)) (λ n h. yields_then Any yields_end (λ u t. yields_give (record d { section = sections.Calls; sessions = d.sessions ++ [] ∷ [] }) refl)))
+yields_session d = yields_then (λ u. nat_lt (length d.sessions) 16 ≡ true)
+    (yields_check (nat_lt (length d.sessions) 16) Limit)
+    (λ u room. yields_then (λ n. (length d.sessions + 1 ≤ n) × (n ≤ length d.sessions + 1))
+    (yields_number_in (length d.sessions + 1) (length d.sessions + 1))
+    (λ n h. yields_then Any yields_end (λ u t. yields_give
+    (record d { section = sections.Calls; sessions = d.sessions ++ [] ∷ [] }) refl)))
 
 yields_steps : (d : Draft) → Yields (steps_line d) (KeepsCount d.calls)
 unfolding steps_line
@@ -175,7 +186,8 @@ record Added (d : Draft) (op : Op) (k : Option Keyword) (ts : List Tok) : Type 0
   rest : List Tok
   read : call_by d.space k ts ≡ Ok (op, rest)
 
-line_adds : (n : ℕ) (d : Draft) (k : Option Keyword) (ts : List Tok) (op : Op) (x : Draft × List Tok) → TakesCalls d → 0 < length d.sessions → AllToks ts → line_for n d sections.Calls k ts ≡ Ok x → x.0 ≡ with_call d op → Added d op k ts
+line_adds : (n : ℕ) (d : Draft) (k : Option Keyword) (ts : List Tok) (op : Op) (x : Draft × List Tok) → TakesCalls d
+    → 0 < length d.sessions → AllToks ts → line_for n d sections.Calls k ts ≡ Ok x → x.0 ≡ with_call d op → Added d op k ts
 unfolding call_line
 line_adds n d (Some (keywords.Call w)) ts op x t some all e f =
     let g : on_ok (call d.space d.regions w ts) (λ (y : Op × List Tok). gave (with_call d y.0, y.1)) ≡ Ok x = rw (lt-ltb d.calls 16384 t.room) at e in
@@ -193,18 +205,21 @@ line_adds n d (Some (keywords.Heading h)) ts op x t some all e f =
 line_adds n d (Some (keywords.Step w)) ts op x t some all e f = absurd cc
 line_adds n d None ts op x t some all e f = absurd cc
 
-toks_add : (n : ℕ) (d : Draft) (ts : List Tok) (op : Op) → TakesCalls d → 0 < length d.sessions → AllToks ts → line_of_toks n d ts ≡ Ok (with_call d op) → op_of_toks d.space ts ≡ Ok op
+toks_add : (n : ℕ) (d : Draft) (ts : List Tok) (op : Op) → TakesCalls d → 0 < length d.sessions → AllToks ts
+    → line_of_toks n d ts ≡ Ok (with_call d op) → op_of_toks d.space ts ≡ Ok op
 unfolding command lone_call
 toks_add n d [] op t some all e = absurd (one_more d op (ok_is d (with_call d op) e))
 toks_add n d (u ∷ ts) op t some all e =
     let o = on_ok_ok (command n d (u ∷ ts)) (λ (x : Draft × List Tok). Ok x.0) (with_call d op) e in
     let p = on_ok_ok (word (u ∷ ts)) (λ (y : List ℕ × List Tok). line_for n d d.section (keyword_of y.0) y.1) o.0 o.1 in
     let left : AllToks p.0.1 = (yields_word.at (u ∷ ts) p.0 all p.1).1 in
-    let read : line_for n d sections.Calls (keyword_of p.0.0) p.0.1 ≡ Ok o.0 = subst (λ (s : Section). line_for n d s (keyword_of p.0.0) p.0.1 ≡ Ok o.0) t.section p.2 in
+    let read : line_for n d sections.Calls (keyword_of p.0.0) p.0.1 ≡ Ok o.0 =
+    subst (λ (s : Section). line_for n d s (keyword_of p.0.0) p.0.1 ≡ Ok o.0) t.section p.2 in
     let a = line_adds n d (keyword_of p.0.0) p.0.1 op o.0 t some left read (ok_is o.0.0 (with_call d op) o.2) in
     rw (p.1, a.read) refl
 
-pub line_adds_call : (n : ℕ) (d : Draft) (line : List ℕ) (op : Op) → TakesCalls d → 0 < length d.sessions → line_of n d line ≡ Ok (with_call d op) → op_of_line d.space line ≡ Ok op
+pub line_adds_call : (n : ℕ) (d : Draft) (line : List ℕ) (op : Op) → TakesCalls d → 0 < length d.sessions
+    → line_of n d line ≡ Ok (with_call d op) → op_of_line d.space line ≡ Ok op
 line_adds_call n d line op t some e =
     let o = on_ok_ok (toks_from line (tokens_of line)) (line_of_toks n d) (with_call d op) e in
     rw o.1 (toks_add n d o.0 op t some (toks_sound line (tokens_of line) o.0 refl o.1) o.2)

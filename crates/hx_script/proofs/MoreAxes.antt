@@ -32,14 +32,20 @@ next_consumes : (space : Space) (regions : ℕ) (c : AxesDraft) → Consumes (ne
 unfolding next_axis
 next_consumes space regions c = search (takes, axis_consumes)
 
-pub axes_go_on : (space : Space) (regions : ℕ) (c : AxesDraft) (ts : List Tok) (next : AxesDraft) (rest : List Tok) → is_at until.End ts ≡ false → next_axis space regions c ts ≡ Ok (next, rest) → repeat until.End (next_axis space regions) c ts ≡ repeat until.End (next_axis space regions) next rest
+pub axes_go_on : (space : Space) (regions : ℕ) (c : AxesDraft) (ts : List Tok) (next : AxesDraft) (rest : List Tok)
+    → is_at until.End ts ≡ false → next_axis space regions c ts ≡ Ok (next, rest)
+    → repeat until.End (next_axis space regions) c ts ≡ repeat until.End (next_axis space regions) next rest
 axes_go_on space regions c ts next rest h e = goes_on until.End (next_axis space regions) (next_consumes space regions) c ts next rest h e
 
-pub axis_shrinks : (space : Space) (regions : ℕ) (c : AxesDraft) (ts : List Tok) (next : AxesDraft) (rest : List Tok) → next_axis space regions c ts ≡ Ok (next, rest) → length rest < length ts
+pub axis_shrinks : (space : Space) (regions : ℕ) (c : AxesDraft) (ts : List Tok) (next : AxesDraft) (rest : List Tok)
+    → next_axis space regions c ts ≡ Ok (next, rest) → length rest < length ts
 axis_shrinks space regions c ts next rest e = (next_consumes space regions c).at ts (next, rest) e
 
-pub axes_stop : (e : Stop) (space : Space) (regions : ℕ) (c : AxesDraft) (ts : List Tok) (total : Result (AxesDraft × List Tok) Reason) → is_at until.End ts ≡ false → Fails e (next_axis space regions c ts) → repeat until.End (next_axis space regions) c ts ≡ total → Fails e total
+pub axes_stop : (e : Stop) (space : Space) (regions : ℕ) (c : AxesDraft) (ts : List Tok)
+    (total : Result (AxesDraft × List Tok) Reason) → is_at until.End ts ≡ false
+    → Fails e (next_axis space regions c ts) → repeat until.End (next_axis space regions) c ts ≡ total → Fails e total
 axes_stop e space regions c ts total h f so_far = fails e until.End (next_axis space regions) c ts total h f so_far
 
-pub axes_end : (space : Space) (regions : ℕ) (c : AxesDraft) (ts : List Tok) → is_at until.End ts ≡ true → repeat until.End (next_axis space regions) c ts ≡ Ok (c, ts)
+pub axes_end : (space : Space) (regions : ℕ) (c : AxesDraft) (ts : List Tok) → is_at until.End ts ≡ true
+    → repeat until.End (next_axis space regions) c ts ≡ Ok (c, ts)
 axes_end space regions c ts h = ends until.End (next_axis space regions) c ts h

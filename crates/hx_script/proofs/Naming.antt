@@ -29,7 +29,8 @@ pub record MayName (w : List ℕ) : Type 0 where
 
 pub yields_named : Yields named MayName
 unfolding named
-yields_named = yields_then IsWord yields_word (λ w i. yields_then (λ u. may_name w ≡ true) (yields_check (may_name w) Order) (λ u h. yields_give w (record { word = i; free = h })))
+yields_named = yields_then IsWord yields_word (λ w i. yields_then (λ u. may_name w ≡ true)
+    (yields_check (may_name w) Order) (λ u h. yields_give w (record { word = i; free = h })))
 
 pub is_name : (w : List ℕ) → MayName w → nat_le (length w) 32 ≡ true → IsName w
 is_name w m short = record {
@@ -41,7 +42,8 @@ is_name w m short = record {
 
 pub yields_name : Yields name IsName
 unfolding name
-yields_name = yields_then MayName yields_named (λ w m. yields_then (λ u. nat_le (length w) 32 ≡ true) (yields_check (nat_le (length w) 32) Limit) (λ u h. yields_give w (is_name w m h)))
+yields_name = yields_then MayName yields_named (λ w m. yields_then (λ u. nat_le (length w) 32 ≡ true)
+    (yields_check (nat_le (length w) 32) Limit) (λ u h. yields_give w (is_name w m h)))
 
 pub record IsNew (space : Space) (w : List ℕ) : Type 0 where
   pub name : IsName w
@@ -49,7 +51,10 @@ pub record IsNew (space : Space) (w : List ℕ) : Type 0 where
 
 pub yields_new_name : (space : Space) → Yields (new_name space) (IsNew space)
 unfolding new_name
-yields_new_name space = yields_then MayName yields_named (λ w m. yields_then (λ u. not (is_declared space w) ≡ true) (yields_check (not (is_declared space w)) Twice) (λ u n. yields_then (λ u. nat_le (length w) 32 ≡ true) (yields_check (nat_le (length w) 32) Limit) (λ u h. yields_give w (record { name = is_name w m h; new = not_true (is_declared space w) n }))))
+yields_new_name space = yields_then MayName yields_named
+    (λ w m. yields_then (λ u. not (is_declared space w) ≡ true) (yields_check (not (is_declared space w)) Twice)
+    (λ u n. yields_then (λ u. nat_le (length w) 32 ≡ true) (yields_check (nat_le (length w) 32) Limit)
+    (λ u h. yields_give w (record { name = is_name w m h; new = not_true (is_declared space w) n }))))
 
 abbrev number : ℕ → Result ℕ Reason
 number n = Ok n

@@ -18,14 +18,23 @@ use Rattle.hx_script.specs.declared.keyword.Heading.{Heading}
 use Rattle.hx_script.specs.declared.keyword.Heading.TheVariants as headings
 use Rattle.hx_script.specs.declared.keyword.Keyword.{Keyword}
 use Rattle.hx_script.specs.declared.keyword.Keyword.TheVariants as keywords
-use Rattle.hx_script.specs.BundleGrammar.{all_servers_line, all_steps_line, all_tolerate_line, behind_keys, bundle_command, bundle_heading_line, bundle_line_for, bundle_line_of, bundle_line_of_toks, in_draft, in_space, is_space, keyed_line, last_space_line, new_space_name, next_session_line, next_space_line, placed, second_hx_line, space_call_line, space_named, space_number, space_step_line, spaces_line}
-use Rattle.hx_script.specs.BundleTexts.{at_number, bundle_may_end, bundle_of, empty_bundle_draft, read_bundle_lines, read_first, read_second, then_read, version_by, version_from, version_line, version_of}
+use Rattle.hx_script.specs.BundleGrammar.{all_servers_line, all_steps_line, all_tolerate_line, behind_keys}
+use Rattle.hx_script.specs.BundleGrammar.{bundle_command, bundle_heading_line, bundle_line_for, bundle_line_of}
+use Rattle.hx_script.specs.BundleGrammar.{bundle_line_of_toks, in_draft, in_space, is_space, keyed_line}
+use Rattle.hx_script.specs.BundleGrammar.{last_space_line, new_space_name, next_session_line, next_space_line, placed}
+use Rattle.hx_script.specs.BundleGrammar.{second_hx_line, space_call_line, space_named, space_number, space_step_line}
+use Rattle.hx_script.specs.BundleGrammar.{spaces_line}
+use Rattle.hx_script.specs.BundleTexts.{at_number, bundle_may_end, bundle_of, empty_bundle_draft, read_bundle_lines}
+use Rattle.hx_script.specs.BundleTexts.{read_first, read_second, then_read, version_by, version_from, version_line}
+use Rattle.hx_script.specs.BundleTexts.{version_of}
 use Rattle.hx_script.specs.Grammar.{call_line, heading_line, toks_from}
 use Rattle.hx_script.specs.Keywords.{keyword_of}
 use Rattle.hx_script.specs.Readers.{Reader, on_ok}
 use Rattle.hx_script.specs.Texts.{empty_draft, lines_of, script_of}
 use Rattle.hx_script.specs.Toks.{Tok}
-use Rattle.hx_script.proofs.OfText.{IsOfLine, IsRefusedByLine, Tells, Told, by_lines, tells_call, tells_check, tells_end, tells_fixed, tells_give, tells_heading, tells_judged, tells_named, tells_number_in, tells_step, tells_then, tells_word, told_then, told_toks}
+use Rattle.hx_script.proofs.OfText.{IsOfLine, IsRefusedByLine, Tells, Told, by_lines, tells_call, tells_check}
+use Rattle.hx_script.proofs.OfText.{tells_end, tells_fixed, tells_give, tells_heading, tells_judged, tells_named}
+use Rattle.hx_script.proofs.OfText.{tells_number_in, tells_step, tells_then, tells_word, told_then, told_toks}
 
 -- ---- spaces
 
@@ -39,7 +48,9 @@ tells_space_named spaces = tells_then tells_named (λ w. tells_judged (space_num
 
 tells_new_space : (spaces : List Draft) → Tells (new_space_name spaces)
 unfolding new_space_name
-tells_new_space spaces = tells_then tells_named (λ w. tells_then (tells_check (not (list_any (is_space w) spaces)) reasons.Twice tt) (λ u. tells_then (tells_check (nat_le (length w) 32) reasons.Limit tt) (λ v. tells_give w)))
+tells_new_space spaces = tells_then tells_named (λ w. tells_then
+    (tells_check (not (list_any (is_space w) spaces)) reasons.Twice tt)
+    (λ u. tells_then (tells_check (nat_le (length w) 32) reasons.Limit tt) (λ v. tells_give w)))
 
 tells_in_space : (spaces : List Draft) (k : ℕ) (line : Draft → Reader Draft) → ((d : Draft) → Tells (line d)) → Tells (in_space spaces k line)
 tells_in_space spaces k line h = by (slice_get spaces k)
@@ -102,8 +113,12 @@ tells_bundle_heading b sec h = record { at = λ ts. tt }
 tells_bundle_line : (n : ℕ) (b : BundleDraft) (sec : BundleSection) (k : Option Keyword) → Tells (bundle_line_for n b sec k)
 unfolding space_call_line space_step_line
 tells_bundle_line n b sec (Some (keywords.Heading h)) = tells_bundle_heading b sec h
-tells_bundle_line n b stages.Calls (Some (keywords.Call c)) = tells_then (tells_check _ reasons.Limit tt) (λ u. tells_then (tells_space_named b.spaces) (λ k. tells_then (tells_in_space b.spaces k (λ d. call_line d c) (λ d. tells_call_line d c)) (λ after. tells_give _)))
-tells_bundle_line n b stages.Steps (Some (keywords.Step w)) = tells_then (tells_check _ reasons.Limit tt) (λ u. tells_then (tells_space_named b.spaces) (λ k. tells_then (tells_step b.servers (length b.turns) w) (λ s. tells_give _)))
+tells_bundle_line n b stages.Calls (Some (keywords.Call c)) =
+    tells_then (tells_check _ reasons.Limit tt) (λ u. tells_then (tells_space_named b.spaces)
+    (λ k. tells_then (tells_in_space b.spaces k (λ d. call_line d c) (λ d. tells_call_line d c)) (λ after. tells_give _)))
+tells_bundle_line n b stages.Steps (Some (keywords.Step w)) =
+    tells_then (tells_check _ reasons.Limit tt) (λ u. tells_then (tells_space_named b.spaces)
+    (λ k. tells_then (tells_step b.servers (length b.turns) w) (λ s. tells_give _)))
 tells_bundle_line n b sec k = record { at = λ ts. tt }
 
 tells_bundle_command : (n : ℕ) (b : BundleDraft) → Tells (bundle_command n b)
@@ -141,7 +156,8 @@ by_end false b n = tt
 by_bundle_lines : (ls : List (List ℕ)) (n : ℕ) (b : BundleDraft) → ByLine (read_bundle_lines n b ls)
 unfolding read_bundle_lines
 by_bundle_lines [] n b = by_end (bundle_may_end b.section b.spaces) _ _
-by_bundle_lines (l ∷ ls) n b = by_then (at_number (n + 1) (bundle_line_of (n + 1) b l)) _ (by_number (n + 1) (bundle_line_of (n + 1) b l) (told_bundle_line (n + 1) b l)) (λ e. by_bundle_lines ls (n + 1) e)
+by_bundle_lines (l ∷ ls) n b = by_then (at_number (n + 1) (bundle_line_of (n + 1) b l)) _
+    (by_number (n + 1) (bundle_line_of (n + 1) b l) (told_bundle_line (n + 1) b l)) (λ e. by_bundle_lines ls (n + 1) e)
 
 tells_version : Tells version_line
 unfolding version_line
@@ -149,13 +165,15 @@ tells_version = tells_then (tells_fixed _) (λ u. tells_then (tells_number_in _ 
 
 by_version_line : (n : ℕ) (r : Result (List Tok) Reason) (later : Result ℕ ScriptError) → Told r → ByLine later → ByLine (version_by n r later)
 by_version_line n (Ok []) later h g = g
-by_version_line n (Ok (t ∷ ts)) later h g = by_number n (on_ok (version_line (t ∷ ts)) (λ x. Ok x.0)) (told_then (version_line (t ∷ ts)) (λ x. Ok x.0) (tells_version.at (t ∷ ts)) (λ x. tt))
+by_version_line n (Ok (t ∷ ts)) later h g = by_number n (on_ok (version_line (t ∷ ts)) (λ x. Ok x.0))
+    (told_then (version_line (t ∷ ts)) (λ x. Ok x.0) (tells_version.at (t ∷ ts)) (λ x. tt))
 by_version_line n (Err r) later h g = h
 
 by_version_lines : (ls : List (List ℕ)) (n : ℕ) → ByLine (version_from n ls)
 unfolding version_from
 by_version_lines [] n = tt
-by_version_lines (l ∷ ls) n = by_version_line (n + 1) (toks_from l (tokens_of l)) (version_from (n + 1) ls) (told_toks l (tokens_of l)) (by_version_lines ls (n + 1))
+by_version_lines (l ∷ ls) n = by_version_line (n + 1) (toks_from l (tokens_of l)) (version_from (n + 1) ls)
+    (told_toks l (tokens_of l)) (by_version_lines ls (n + 1))
 
 of_script : (r : Result Script ScriptError) → IsRefusedByLine r → ByLine r
 of_script (Ok s) h = tt

@@ -39,15 +39,20 @@ use Rattle.hx_script.specs.declared.keyword.StepWord.TheVariants as step_words
 use Rattle.hx_script.specs.declared.line.Until.{Until}
 use Rattle.hx_script.specs.declared.line.Until.TheVariants as until
 use Rattle.hx_script.specs.Toks.{Tok, Word, Number, Text, Sign}
-use Rattle.hx_script.specs.Readers.{◌>>=◌, on_ok, Reader, give, judged, check, word, number, text, end, sign, fixed, is_between, number_in, natural, number_from, is_at, steps, repeat}
+use Rattle.hx_script.specs.Readers.{◌>>=◌, on_ok, Reader, give, judged, check, word, number, text, end, sign, fixed}
+use Rattle.hx_script.specs.Readers.{is_between, number_in, natural, number_from, is_at, steps, repeat}
 use Rattle.hx_script.specs.Words.{may_name, named, name, is_declared, new_name, numbered, place_of, declared_number, known_number}
-use Rattle.hx_script.specs.Values.{short_text, is_of, is_short, any_value, value, has_assign, free_attribute, assign, one_more, more_assigns, some_assigns, has_term, free_known, range, is_dots, range_or_equal, rest_of_term, term, one_more_term, all_terms}
+use Rattle.hx_script.specs.Values.{short_text, is_of, is_short, any_value, value, has_assign, free_attribute, assign}
+use Rattle.hx_script.specs.Values.{one_more, more_assigns, some_assigns, has_term, free_known, range, is_dots}
+use Rattle.hx_script.specs.Values.{range_or_equal, rest_of_term, term, one_more_term, all_terms}
 use Rattle.hx_script.specs.Edits.{edit_kind, edit_word, has_edit, unedited_attribute, is_edit_of, edit_value, edit, one_more_edit, some_edits}
 use Rattle.hx_script.specs.Axes.{has_axis, free_axis, parts, axis, next_axis, no_axes_yet, subspace}
 use Rattle.hx_script.specs.Actors.{is_decimal, number_word, actor_word, actor}
 use Rattle.hx_script.specs.Calls.{put, get, del, cput, search_call, stop, add, atomic, call, deliver, tick, halt, step}
 use Rattle.hx_script.specs.Keywords.{keyword_of}
-use Rattle.hx_script.specs.Grammar.{hx_line, space_line, key_line, string_attribute, int_attribute, attribute_line, subspace_line, servers_line, tolerate_line, session_line, steps_line, call_line, step_line, heading_line, line_for, command, toks_from, line_of_toks, line_of}
+use Rattle.hx_script.specs.Grammar.{hx_line, space_line, key_line, string_attribute, int_attribute, attribute_line}
+use Rattle.hx_script.specs.Grammar.{subspace_line, servers_line, tolerate_line, session_line, steps_line, call_line}
+use Rattle.hx_script.specs.Grammar.{step_line, heading_line, line_for, command, toks_from, line_of_toks, line_of}
 use Rattle.hx_script.specs.Texts.{empty_draft, may_end, lines_of, at_line, read_lines, script_of}
 
 -- any reason but Step
@@ -163,7 +168,8 @@ steps_at {B} u next h zero b ts = by_end (is_at u ts)
     by_end : (t : Bool) → Told {A = B × List Tok} (cond t (Ok (b, ts)) (Err reasons.Order))
     by_end true = tt
     by_end false = tt
-steps_at {B} u next h (suc fuel) b ts = by_end (is_at u ts) (told_then (next b ts) (λ x. steps u next fuel x.0 x.1) ((h b).at ts) (λ x. steps_at u next h fuel x.0 x.1))
+steps_at {B} u next h (suc fuel) b ts = by_end (is_at u ts)
+    (told_then (next b ts) (λ x. steps u next fuel x.0 x.1) ((h b).at ts) (λ x. steps_at u next h fuel x.0 x.1))
   where
     by_end : (t : Bool) → Told ((next b >>= steps u next fuel) ts) → Told (cond t (Ok (b, ts)) ((next b >>= steps u next fuel) ts))
     by_end true more = tt
@@ -183,7 +189,9 @@ tells_name = tells_then tells_named (λ w. tells_then (tells_check _ reasons.Lim
 
 tells_new_name : (space : Space) → Tells (new_name space)
 unfolding new_name
-tells_new_name space = tells_then tells_named (λ w. tells_then (tells_check (not (is_declared space w)) reasons.Twice tt) (λ u. tells_then (tells_check (nat_le (length w) 32) reasons.Limit tt) (λ v. tells_give w)))
+tells_new_name space = tells_then tells_named (λ w. tells_then
+    (tells_check (not (is_declared space w)) reasons.Twice tt)
+    (λ u. tells_then (tells_check (nat_le (length w) 32) reasons.Limit tt) (λ v. tells_give w)))
 
 told_numbered : (o : Option ℕ) → Told (numbered o)
 told_numbered None = tt
@@ -216,15 +224,19 @@ tells_any_value = record { at = any_value_at }
 
 tells_value : (kind : Kind) → Tells (value kind)
 unfolding value
-tells_value kind = tells_then tells_any_value (λ v. tells_then (tells_check (is_of kind v) reasons.TypeOf tt) (λ u. tells_then (tells_check (is_short v) reasons.Limit tt) (λ t. tells_give v)))
+tells_value kind = tells_then tells_any_value (λ v. tells_then (tells_check (is_of kind v) reasons.TypeOf tt)
+    (λ u. tells_then (tells_check (is_short v) reasons.Limit tt) (λ t. tells_give v)))
 
 tells_free_attribute : (space : Space) (assigns : List Assign) → Tells (free_attribute space assigns)
 unfolding free_attribute
-tells_free_attribute space assigns = tells_then tells_named (λ w. tells_then (tells_judged (declared_number space w) (told_declared space w)) (λ a. tells_then (tells_check (not (has_assign assigns a)) reasons.Twice tt) (λ u. tells_give a)))
+tells_free_attribute space assigns = tells_then tells_named
+    (λ w. tells_then (tells_judged (declared_number space w) (told_declared space w))
+    (λ a. tells_then (tells_check (not (has_assign assigns a)) reasons.Twice tt) (λ u. tells_give a)))
 
 tells_assign : (space : Space) (assigns : List Assign) → Tells (assign space assigns)
 unfolding assign
-tells_assign space assigns = tells_then (tells_free_attribute space assigns) (λ a. tells_then (tells_sign _) (λ u. tells_then (tells_value (kind_at space a)) (λ v. tells_give _)))
+tells_assign space assigns = tells_then (tells_free_attribute space assigns)
+    (λ a. tells_then (tells_sign _) (λ u. tells_then (tells_value (kind_at space a)) (λ v. tells_give _)))
 
 tells_one_more : (space : Space) (assigns : List Assign) → Tells (one_more space assigns)
 unfolding one_more
@@ -239,7 +251,9 @@ tells_some_assigns space u = tells_then (tells_one_more space []) (λ first. tel
 
 tells_free_known : (space : Space) (terms : List Term) → Tells (free_known space terms)
 unfolding free_known
-tells_free_known space terms = tells_then tells_named (λ w. tells_then (tells_judged (known_number space w) (told_known space w)) (λ a. tells_then (tells_check (not (has_term terms a)) reasons.Twice tt) (λ u. tells_give a)))
+tells_free_known space terms = tells_then tells_named
+    (λ w. tells_then (tells_judged (known_number space w) (told_known space w))
+    (λ a. tells_then (tells_check (not (has_term terms a)) reasons.Twice tt) (λ u. tells_give a)))
 
 tells_range : (a : ℕ) (lo : ℤ) → Tells (range a lo)
 unfolding range
@@ -258,7 +272,8 @@ tells_rest_of_term a v = record { at = rest_of_term_at a v }
 
 tells_term : (space : Space) (terms : List Term) → Tells (term space terms)
 unfolding term
-tells_term space terms = tells_then (tells_free_known space terms) (λ a. tells_then (tells_sign _) (λ u. tells_then (tells_value (kind_at space a)) (λ v. tells_rest_of_term a v)))
+tells_term space terms = tells_then (tells_free_known space terms)
+    (λ a. tells_then (tells_sign _) (λ u. tells_then (tells_value (kind_at space a)) (λ v. tells_rest_of_term a v)))
 
 tells_one_more_term : (space : Space) (terms : List Term) → Tells (one_more_term space terms)
 unfolding one_more_term
@@ -315,7 +330,10 @@ tells_some_edits space = tells_then (tells_one_more_edit space []) (λ first. te
 -- subspaces
 tells_free_axis : (space : Space) (axes : List Axis) → Tells (free_axis space axes)
 unfolding free_axis
-tells_free_axis space axes = tells_then tells_named (λ w. tells_then (tells_judged (declared_number space w) (told_declared space w)) (λ a. tells_then (tells_check (not (has_axis axes a)) reasons.Twice tt) (λ u. tells_then (tells_check _ reasons.Limit tt) (λ v. tells_give a))))
+tells_free_axis space axes = tells_then tells_named
+    (λ w. tells_then (tells_judged (declared_number space w) (told_declared space w))
+    (λ a. tells_then (tells_check (not (has_axis axes a)) reasons.Twice tt)
+    (λ u. tells_then (tells_check _ reasons.Limit tt) (λ v. tells_give a))))
 
 tells_parts : (regions size : ℕ) → Tells (parts regions size)
 unfolding parts
@@ -331,7 +349,8 @@ tells_next_axis space regions draft = tells_then (tells_sign _) (λ u. tells_axi
 
 tells_subspace : (space : Space) (regions : ℕ) → Tells (subspace space regions)
 unfolding subspace
-tells_subspace space regions = tells_then (tells_axis space regions no_axes_yet) (λ first. tells_repeat until.End (next_axis space regions) (tells_next_axis space regions) first)
+tells_subspace space regions = tells_then (tells_axis space regions no_axes_yet)
+    (λ first. tells_repeat until.End (next_axis space regions) (tells_next_axis space regions) first)
 
 -- actors
 told_number_word : (most : ℕ) (digits : List ℕ) → Told (number_word most digits)
@@ -344,9 +363,12 @@ told_number_word most digits = by (not (is_decimal digits)) (nat_le 1 (value_of 
 
 told_actor_word : (servers sessions : ℕ) (w : List ℕ) → Told (actor_word servers sessions w)
 told_actor_word servers sessions [] = tt
-told_actor_word servers sessions (b ∷ digits) = by (b == 99 && length digits == 0) (b == 115) (b == 117) _ _ _ (told_then (number_word servers digits) _ (told_number_word servers digits) (λ n. tt)) (told_then (number_word sessions digits) _ (told_number_word sessions digits) (λ n. tt))
+told_actor_word servers sessions (b ∷ digits) = by (b == 99 && length digits == 0) (b == 115) (b == 117) _ _ _
+    (told_then (number_word servers digits) _ (told_number_word servers digits) (λ n. tt))
+    (told_then (number_word sessions digits) _ (told_number_word sessions digits) (λ n. tt))
   where
-    by : (c s u : Bool) (one : Actor) (server session : Result Actor Reason) → Told server → Told session → Told (cond c (Ok one) (cond s server (cond u session (Err reasons.Order))))
+    by : (c s u : Bool) (one : Actor) (server session : Result Actor Reason) → Told server → Told session
+        → Told (cond c (Ok one) (cond s server (cond u session (Err reasons.Order))))
     by true s u one server session h g = tt
     by false true u one server session h g = h
     by false false true one server session h g = g
@@ -362,15 +384,20 @@ unfolding put get del cput search_call stop add atomic
 tells_call space regions call_words.Put = tells_then tells_short_text (λ key. tells_then (tells_more_assigns space until.End []) (λ sets. tells_give _))
 tells_call space regions call_words.Get = tells_then tells_short_text (λ key. tells_then tells_end (λ u. tells_give _))
 tells_call space regions call_words.Del = tells_then tells_short_text (λ key. tells_then tells_end (λ u. tells_give _))
-tells_call space regions call_words.Cput = tells_then tells_short_text (λ key. tells_then (tells_fixed _) (λ u. tells_then (tells_some_assigns space until.Set) (λ tests. tells_then (tells_fixed _) (λ v. tells_then (tells_some_assigns space until.End) (λ sets. tells_give _)))))
+tells_call space regions call_words.Cput = tells_then tells_short_text
+    (λ key. tells_then (tells_fixed _) (λ u. tells_then (tells_some_assigns space until.Set)
+    (λ tests. tells_then (tells_fixed _) (λ v. tells_then (tells_some_assigns space until.End) (λ sets. tells_give _)))))
 tells_call space regions call_words.Search = tells_then (tells_all_terms space) (λ terms. tells_give _)
 tells_call space regions call_words.Stop = tells_then (tells_number_in _ _) (λ n. tells_then tells_end (λ u. tells_give _))
-tells_call space regions call_words.Add = tells_then (tells_number_in _ _) (λ n. tells_then (tells_number_in _ _) (λ g. tells_then tells_end (λ u. tells_give _)))
+tells_call space regions call_words.Add = tells_then (tells_number_in _ _)
+    (λ n. tells_then (tells_number_in _ _) (λ g. tells_then tells_end (λ u. tells_give _)))
 tells_call space regions call_words.Atomic = tells_then tells_short_text (λ key. tells_then (tells_some_edits space) (λ edits. tells_give _))
 
 pub tells_step : (servers sessions : ℕ) (w : StepWord) → Tells (step servers sessions w)
 unfolding deliver tick halt
-tells_step servers sessions step_words.Deliver = tells_then tells_natural (λ n. tells_then (tells_sign _) (λ u. tells_then (tells_number_in _ _) (λ p. tells_then tells_end (λ v. tells_give _))))
+tells_step servers sessions step_words.Deliver =
+    tells_then tells_natural (λ n. tells_then (tells_sign _)
+    (λ u. tells_then (tells_number_in _ _) (λ p. tells_then tells_end (λ v. tells_give _))))
 tells_step servers sessions step_words.Tick = tells_then (tells_actor servers sessions) (λ a. tells_then tells_end (λ u. tells_give _))
 tells_step servers sessions step_words.Halt = tells_then (tells_actor servers sessions) (λ a. tells_then tells_end (λ u. tells_give _))
 
@@ -381,7 +408,8 @@ tells_string space = tells_then (tells_new_name space) (λ w. tells_then tells_e
 
 tells_int : (space : Space) → Tells (int_attribute space)
 unfolding int_attribute
-tells_int space = tells_then (tells_new_name space) (λ w. tells_then tells_number (λ lo. tells_then (tells_number_from lo) (λ hi. tells_then tells_end (λ u. tells_give _))))
+tells_int space = tells_then (tells_new_name space)
+    (λ w. tells_then tells_number (λ lo. tells_then (tells_number_from lo) (λ hi. tells_then tells_end (λ u. tells_give _))))
 
 tells_attribute : (d : Draft) (attribute : Space → Reader Attribute) → Tells (attribute d.space) → Tells (attribute_line d attribute)
 unfolding attribute_line
@@ -424,8 +452,11 @@ tells_heading d _ _ = record { at = λ ts. tt }
 tells_line : (n : ℕ) (d : Draft) (s : Section) (k : Option Keyword) → Tells (line_for n d s k)
 unfolding call_line step_line
 tells_line n d s (Some (keywords.Heading h)) = tells_heading d s h
-tells_line n d sections.Calls (Some (keywords.Call c)) = tells_then (tells_check _ reasons.Limit tt) (λ u. tells_then (tells_call d.space d.regions c) (λ op. tells_give _))
-tells_line n d sections.Steps (Some (keywords.Step w)) = tells_then (tells_check _ reasons.Limit tt) (λ u. tells_then (tells_step d.space.servers (length d.sessions) w) (λ s. tells_give _))
+tells_line n d sections.Calls (Some (keywords.Call c)) =
+    tells_then (tells_check _ reasons.Limit tt) (λ u. tells_then (tells_call d.space d.regions c) (λ op. tells_give _))
+tells_line n d sections.Steps (Some (keywords.Step w)) =
+    tells_then (tells_check _ reasons.Limit tt) (λ u. tells_then (tells_step d.space.servers (length d.sessions) w)
+    (λ s. tells_give _))
 tells_line n d _ _ = record { at = λ ts. tt }
 
 tells_command : (n : ℕ) (d : Draft) → Tells (command n d)
@@ -453,7 +484,8 @@ by_end : (b : Bool) (s : Script) (n : ℕ) → IsRefusedByLine (cond b (Ok s) (E
 by_end true s n = tt
 by_end false s n = tt
 
-by_line : (n : ℕ) (r : Result Draft Reason) (f : Draft → Result Script ScriptError) → Told r → ((d : Draft) → IsRefusedByLine (f d)) → IsRefusedByLine (at_line n r f)
+by_line : (n : ℕ) (r : Result Draft Reason) (f : Draft → Result Script ScriptError) → Told r
+    → ((d : Draft) → IsRefusedByLine (f d)) → IsRefusedByLine (at_line n r f)
 by_line n (Ok d) f h more = more d
 by_line n (Err r) f h more = h
 

@@ -27,7 +27,9 @@ differ_push (x ∷ rest) n d a = (All-push (λ m. m ≢ x) rest n d.0 (All-head 
 
 none_differ : {A : Type 0} (f : A → ℕ) (xs : List A) (n : ℕ) → list_any (λ x. f x == n) xs ≡ false → All (λ m. n ≢ m) (map f xs)
 none_differ f [] n e = All-nil (λ m. n ≢ m)
-none_differ f (x ∷ xs) n e = All-cons (λ m. n ≢ m) (f x) (map f xs) (λ same. eqb-false (f x) n (or_left (f x == n) (list_any (λ y. f y == n) xs) e) (sym same)) (none_differ f xs n (or_right (f x == n) (list_any (λ y. f y == n) xs) e))
+none_differ f (x ∷ xs) n e = All-cons (λ m. n ≢ m) (f x) (map f xs)
+    (λ same. eqb-false (f x) n (or_left (f x == n) (list_any (λ y. f y == n) xs) e) (sym same))
+    (none_differ f xs n (or_right (f x == n) (list_any (λ y. f y == n) xs) e))
 
 -- one more, with a number that none has
 pub once_more : {A : Type 0} (f : A → ℕ) (xs : List A) (x : A) → AllDiffer (map f xs) → list_any (λ y. f y == f x) xs ≡ false → AllDiffer (map f (xs ++ x ∷ []))
@@ -46,8 +48,13 @@ names_push (x ∷ rest) n d a = (All-push (λ m. m ≢ x) rest n d.0 (All-head (
 
 pub none_named : {A : Type 0} (f : A → List ℕ) (xs : List A) (n : List ℕ) → list_any (λ x. bytes_eq (f x) n) xs ≡ false → All (λ m. n ≢ m) (map f xs)
 none_named f [] n e = All-nil (λ m. n ≢ m)
-none_named f (x ∷ xs) n e = All-cons (λ m. n ≢ m) (f x) (map f xs) (λ same. bytes_differ (f x) n (or_left (bytes_eq (f x) n) (list_any (λ y. bytes_eq (f y) n) xs) e) (sym same)) (none_named f xs n (or_right (bytes_eq (f x) n) (list_any (λ y. bytes_eq (f y) n) xs) e))
+none_named f (x ∷ xs) n e = All-cons (λ m. n ≢ m) (f x) (map f xs)
+    (λ same. bytes_differ (f x) n (or_left (bytes_eq (f x) n) (list_any (λ y. bytes_eq (f y) n) xs) e) (sym same))
+    (none_named f xs n (or_right (bytes_eq (f x) n) (list_any (λ y. bytes_eq (f y) n) xs) e))
 
 -- one more name behind the key's, which none has
-pub named_once : {A : Type 0} (f : A → List ℕ) (key : List ℕ) (xs : List A) (x : A) → NamesDiffer (key ∷ map f xs) → bytes_eq key (f x) ≡ false → list_any (λ y. bytes_eq (f y) (f x)) xs ≡ false → NamesDiffer (key ∷ map f (xs ++ x ∷ []))
-named_once f key xs x d k e = rw (map-append f xs (x ∷ [])) (names_push (key ∷ map f xs) (f x) d (All-cons (λ m. f x ≢ m) key (map f xs) (λ same. bytes_differ key (f x) k (sym same)) (none_named f xs (f x) e)))
+pub named_once : {A : Type 0} (f : A → List ℕ) (key : List ℕ) (xs : List A) (x : A) → NamesDiffer (key ∷ map f xs)
+    → bytes_eq key (f x) ≡ false → list_any (λ y. bytes_eq (f y) (f x)) xs ≡ false → NamesDiffer (key ∷ map f (xs ++ x ∷ []))
+named_once f key xs x d k e = rw (map-append f xs (x ∷ []))
+    (names_push (key ∷ map f xs) (f x) d (All-cons (λ m. f x ≢ m) key (map f xs)
+    (λ same. bytes_differ key (f x) k (sym same)) (none_named f xs (f x) e)))

@@ -1,5 +1,6 @@
 -- The steps of a script are of its servers and sessions, so a script alone is a bundle.
-use Rattle.std.proofs.Common.{◌≡◌, ℕ, zero, suc, ◌+◌, ◌-◌, ◌<◌, ◌≤◌, Bool, true, false, cond, List, [], ◌∷◌, ◌++◌, length, map, min, Option, Some, Result, Ok, Err, refl, subst, arith}
+use Rattle.std.proofs.Common.{◌≡◌, ℕ, zero, suc, ◌+◌, ◌-◌, ◌<◌, ◌≤◌, Bool, true, false, cond, List, [], ◌∷◌, ◌++◌}
+use Rattle.std.proofs.Common.{length, map, min, Option, Some, Result, Ok, Err, refl, subst, arith}
 use Rattle.std.specs.Prelude.{IfSome, nat_lt, slice_get, sum_by, ◌==◌}
 use Rattle.std.specs.List.{All, AllZip}
 use Rattle.std.proofs.lemmas.List.{length-map}
@@ -32,7 +33,10 @@ use Rattle.hx_script.specs.declared.keyword.Keyword.{Keyword}
 use Rattle.hx_script.specs.declared.keyword.Keyword.TheVariants as keywords
 use Rattle.hx_script.specs.declared.keyword.StepWord.{StepWord}
 use Rattle.hx_script.specs.BundleTexts.{bundle_by, bundle_of, first_space_step, first_space_turns, one_space, read_first, version_of, read_second}
-use Rattle.hx_script.specs.Grammar.{attribute_line, call_line, command, heading_line, hx_line, int_attribute, key_line, line_for, line_of, line_of_toks, push_to_last, servers_line, session_line, space_line, step_line, steps_line, string_attribute, subspace_line, toks_from, tolerate_line}
+use Rattle.hx_script.specs.Grammar.{attribute_line, call_line, command, heading_line, hx_line, int_attribute, key_line}
+use Rattle.hx_script.specs.Grammar.{line_for, line_of, line_of_toks, push_to_last, servers_line, session_line}
+use Rattle.hx_script.specs.Grammar.{space_line, step_line, steps_line, string_attribute, subspace_line, toks_from}
+use Rattle.hx_script.specs.Grammar.{tolerate_line}
 use Rattle.hx_script.specs.Keywords.{keyword_of}
 use Rattle.hx_script.specs.Readers.{Reader}
 use Rattle.hx_script.specs.Texts.{at_line, empty_draft, lines_of, may_end, read_lines, script_of}
@@ -54,21 +58,39 @@ use Rattle.hx_script.proofs.Yields.{AllToks, Any, Yields, yields_check, yields_e
 abbrev None_yet : Draft → Type 0
 None_yet d = d.steps ≡ []
 
-attribute_none : (d : Draft) (attribute : Space → Reader Attribute) → None_yet d → Yields (attribute d.space) (IsNextAttribute d.space) → Yields (attribute_line d attribute) None_yet
+attribute_none : (d : Draft) (attribute : Space → Reader Attribute) → None_yet d
+    → Yields (attribute d.space) (IsNextAttribute d.space) → Yields (attribute_line d attribute) None_yet
 unfolding attribute_line
-attribute_none d attribute e y = yields_then (λ u. nat_lt (length d.space.attributes) 16 ≡ true) (yields_check (nat_lt (length d.space.attributes) 16) Limit) (λ u room. yields_then (IsNextAttribute d.space) y (λ a n. yields_give (record d { space = record d.space { attributes = d.space.attributes ++ a ∷ [] } }) e))
+attribute_none d attribute e y = yields_then (λ u. nat_lt (length d.space.attributes) 16 ≡ true)
+    (yields_check (nat_lt (length d.space.attributes) 16) Limit)
+    (λ u room. yields_then (IsNextAttribute d.space) y
+    (λ a n. yields_give (record d { space = record d.space { attributes = d.space.attributes ++ a ∷ [] } }) e))
 
 subspace_none : (d : Draft) → None_yet d → Yields (subspace_line d) None_yet
 unfolding subspace_line
-subspace_none d e = yields_then (λ u. nat_lt (length d.space.subspaces) 8 ≡ true) (yields_check (nat_lt (length d.space.subspaces) 8) Limit) (λ u room. yields_then (DraftFits d.space d.regions) (yields_subspace d.space d.regions) (λ x f. yields_give (record d { section = sections.Subspaces; regions = d.regions + x.size; space = record d.space { subspaces = d.space.subspaces ++ x.axes ∷ [] } }) e))
+subspace_none d e = yields_then (λ u. nat_lt (length d.space.subspaces) 8 ≡ true)
+    (yields_check (nat_lt (length d.space.subspaces) 8) Limit)
+    (λ u room. yields_then (DraftFits d.space d.regions) (yields_subspace d.space d.regions)
+    (λ x f. yields_give (record d {
+      section = sections.Subspaces;
+      regions = d.regions + x.size;
+      space = record d.space { subspaces = d.space.subspaces ++ x.axes ∷ [] };
+    }) e))
 
 servers_none : (d : Draft) → None_yet d → Yields (servers_line d) None_yet
 unfolding servers_line
-servers_none d e = yields_then (λ n. (1 ≤ n) × (n ≤ 16)) (yields_number_in 1 16) (λ n h. yields_then Any yields_end (λ u t. yields_give (record d { section = sections.Tolerance; space = record d.space { servers = n } }) e))
+servers_none d e = yields_then (λ n. (1 ≤ n) × (n ≤ 16)) (yields_number_in 1 16)
+    (λ n h. yields_then Any yields_end (λ u t. yields_give
+    (record d { section = sections.Tolerance; space = record d.space { servers = n } }) e))
 
 session_none : (d : Draft) → None_yet d → Yields (session_line d) None_yet
 unfolding session_line
-session_none d e = yields_then (λ u. nat_lt (length d.sessions) 16 ≡ true) (yields_check (nat_lt (length d.sessions) 16) Limit) (λ u room. yields_then (λ n. (length d.sessions + 1 ≤ n) × (n ≤ length d.sessions + 1)) (yields_number_in (length d.sessions + 1) (length d.sessions + 1)) (λ n h. yields_then Any yields_end (λ v t. yields_give (record d { section = sections.Calls; sessions = d.sessions ++ [] ∷ [] }) e)))
+session_none d e = yields_then (λ u. nat_lt (length d.sessions) 16 ≡ true)
+    (yields_check (nat_lt (length d.sessions) 16) Limit)
+    (λ u room. yields_then (λ n. (length d.sessions + 1 ≤ n) × (n ≤ length d.sessions + 1))
+    (yields_number_in (length d.sessions + 1) (length d.sessions + 1))
+    (λ n h. yields_then Any yields_end (λ v t. yields_give
+    (record d { section = sections.Calls; sessions = d.sessions ++ [] ∷ [] }) e)))
 
 steps_none : (d : Draft) → None_yet d → Yields (steps_line d) None_yet
 unfolding steps_line
@@ -76,16 +98,25 @@ steps_none d e = yields_then Any yields_end (λ u t. yields_give (record d { sec
 
 heading_none : (d : Draft) (sec : Section) (h : Heading) → None_yet d → Yields (heading_line d sec h) None_yet
 unfolding hx_line space_line key_line tolerate_line
-heading_none d sections.Start headings.Hx e = yields_then (λ n. (1 ≤ n) × (n ≤ 1)) (yields_number_in 1 1) (λ n h. yields_then Any yields_end (λ u t. yields_give (record d { section = sections.Naming }) e))
-heading_none d sections.Naming headings.Space e = yields_then IsName yields_name (λ w i. yields_then Any yields_end (λ u t. yields_give (record d { section = sections.Keying; space = record d.space { name = w } }) e))
-heading_none d sections.Keying headings.Key e = yields_then IsName yields_name (λ w k. yields_then (λ n. (1 ≤ n) × (n ≤ 256)) (yields_number_in 1 256) (λ n h. yields_then Any yields_end (λ u t. yields_give (record d { section = sections.Attributes; regions = n; space = record d.space { key_name = w; key_parts = n } }) e)))
+heading_none d sections.Start headings.Hx e = yields_then (λ n. (1 ≤ n) × (n ≤ 1)) (yields_number_in 1 1)
+    (λ n h. yields_then Any yields_end (λ u t. yields_give (record d { section = sections.Naming }) e))
+heading_none d sections.Naming headings.Space e =
+    yields_then IsName yields_name (λ w i. yields_then Any yields_end
+    (λ u t. yields_give (record d { section = sections.Keying; space = record d.space { name = w } }) e))
+heading_none d sections.Keying headings.Key e = yields_then IsName yields_name
+    (λ w k. yields_then (λ n. (1 ≤ n) × (n ≤ 256)) (yields_number_in 1 256)
+    (λ n h. yields_then Any yields_end (λ u t. yields_give
+    (record d { section = sections.Attributes; regions = n; space = record d.space { key_name = w; key_parts = n } }) e)))
 heading_none d sections.Attributes headings.String e = attribute_none d string_attribute e (yields_string d.space)
 heading_none d sections.Attributes headings.Int e = attribute_none d int_attribute e (yields_int d.space)
 heading_none d sections.Attributes headings.Subspace e = subspace_none d e
 heading_none d sections.Subspaces headings.Subspace e = subspace_none d e
 heading_none d sections.Attributes headings.Servers e = servers_none d e
 heading_none d sections.Subspaces headings.Servers e = servers_none d e
-heading_none d sections.Tolerance headings.Tolerate e = yields_then (λ n. (0 ≤ n) × (n ≤ min (d.space.servers - 1) 4)) (yields_number_in 0 (min (d.space.servers - 1) 4)) (λ n h. yields_then Any yields_end (λ u t. yields_give (record d { section = sections.Sessions; space = record d.space { tolerate = n } }) e))
+heading_none d sections.Tolerance headings.Tolerate e =
+    yields_then (λ n. (0 ≤ n) × (n ≤ min (d.space.servers - 1) 4)) (yields_number_in 0 (min (d.space.servers - 1) 4))
+    (λ n h. yields_then Any yields_end (λ u t. yields_give
+    (record d { section = sections.Sessions; space = record d.space { tolerate = n } }) e))
 heading_none d sections.Sessions headings.Session e = session_none d e
 heading_none d sections.Calls headings.Session e = session_none d e
 heading_none d sections.Sessions headings.Steps e = steps_none d e
@@ -116,11 +147,17 @@ call_none : (d : Draft) (w : CallWord) → d.section ≡ sections.Calls → Soun
 unfolding call_line
 call_none d w e so none =
     let st : Complete d = rw e at so.stage in
-    yields_then (λ u. nat_lt d.calls 16384 ≡ true) (yields_check (nat_lt d.calls 16384) Limit) (λ u room. yields_then (Fits d.space) (yields_call d.space d.regions w so.space.count (some_regions d so.space st.0.2)) (λ op f. yields_give (record d { sessions = push_to_last d.sessions op; calls = d.calls + 1 }) none))
+    yields_then (λ u. nat_lt d.calls 16384 ≡ true) (yields_check (nat_lt d.calls 16384) Limit)
+    (λ u room. yields_then (Fits d.space) (yields_call d.space d.regions w so.space.count
+    (some_regions d so.space st.0.2)) (λ op f. yields_give
+    (record d { sessions = push_to_last d.sessions op; calls = d.calls + 1 }) none))
 
 step_more : (n : ℕ) (d : Draft) (w : StepWord) → d.section ≡ sections.Steps → ByPart sections.Steps d → Yields (step_line n d w) Stepped
 unfolding step_line
-step_more n d w e all = yields_then (λ u. nat_lt (length d.steps) 65536 ≡ true) (yields_check (nat_lt (length d.steps) 65536) Limit) (λ u room. yields_then (IsStepBy d.space.servers (length d.sessions)) (yields_step_by d.space.servers (length d.sessions) w) (λ x is. yields_give (record d { steps = d.steps ++ (n, x) ∷ [] })
+step_more n d w e all = yields_then (λ u. nat_lt (length d.steps) 65536 ≡ true)
+    (yields_check (nat_lt (length d.steps) 65536) Limit)
+    (λ u room. yields_then (IsStepBy d.space.servers (length d.sessions))
+    (yields_step_by d.space.servers (length d.sessions) w) (λ x is. yields_give (record d { steps = d.steps ++ (n, x) ∷ [] })
     (record { steps = rw e (All-push (λ (y : ℕ × Step). IsStepBy d.space.servers (length d.sessions) y.1) d.steps (n, x) all is) })))
 
 -- the steps may not be begun twice
@@ -178,12 +215,15 @@ abbrev as_script : Draft → Script
 as_script d = record { space = d.space; sessions = d.sessions; steps = d.steps }
 
 ends : (n : ℕ) (d : Draft) (sec : Section) (s : Script) → ByPart sec d → cond (may_end sec) (Ok (as_script d)) (Err (errors.Refused n Order)) ≡ Ok s → StepsOf s
-ends n d sections.Sessions s st e = subst StepsOf (script_is (as_script d) s e) (all_none (λ (x : ℕ × Step). IsStepBy d.space.servers (length d.sessions) x.1) d.steps st)
-ends n d sections.Calls s st e = subst StepsOf (script_is (as_script d) s e) (all_none (λ (x : ℕ × Step). IsStepBy d.space.servers (length d.sessions) x.1) d.steps st)
+ends n d sections.Sessions s st e = subst StepsOf (script_is (as_script d) s e)
+    (all_none (λ (x : ℕ × Step). IsStepBy d.space.servers (length d.sessions) x.1) d.steps st)
+ends n d sections.Calls s st e = subst StepsOf (script_is (as_script d) s e)
+    (all_none (λ (x : ℕ × Step). IsStepBy d.space.servers (length d.sessions) x.1) d.steps st)
 ends n d sections.Steps s st e = subst StepsOf (script_is (as_script d) s e) st
 ends n d sec s st e = absurd cc
 
-at_line_ok : (n : ℕ) (r : Result Draft Reason) (f : Draft → Result Script ScriptError) (s : Script) → at_line n r f ≡ Ok s → (d : Draft) × (r ≡ Ok d) × (f d ≡ Ok s)
+at_line_ok : (n : ℕ) (r : Result Draft Reason) (f : Draft → Result Script ScriptError) (s : Script)
+    → at_line n r f ≡ Ok s → (d : Draft) × (r ≡ Ok d) × (f d ≡ Ok s)
 at_line_ok n (Ok d) f s e = (d, refl, e)
 at_line_ok n (Err r) f s e = absurd cc
 
@@ -216,18 +256,27 @@ turns_below (op ∷ ops) = All-cons (λ (k : ℕ). k < 1) 0 (first_space_turns o
 
 all_below : (sessions : List (List Op)) → All (λ (l : List ℕ). All (λ (k : ℕ). k < 1) l) (map first_space_turns sessions)
 all_below [] = All-nil (λ (l : List ℕ). All (λ (k : ℕ). k < 1) l)
-all_below (ops ∷ sessions) = All-cons (λ (l : List ℕ). All (λ (k : ℕ). k < 1) l) (first_space_turns ops) (map first_space_turns sessions) (turns_below ops) (all_below sessions)
+all_below (ops ∷ sessions) = All-cons (λ (l : List ℕ). All (λ (k : ℕ). k < 1) l) (first_space_turns ops)
+    (map first_space_turns sessions) (turns_below ops) (all_below sessions)
 
 one_sum : {A : Type 0} (x : List A) (xs : List (List A)) → sum_by (λ (l : List A). length l) (x ∷ xs) ≡ length x + sum_by (λ (l : List A). length l) xs
 one_sum {A} x xs =
-    let e : sum_by (λ (l : List A). length l) (x ∷ xs) ≡ 0 + length x + sum_by (λ (l : List A). length l) xs = sum_by-append (λ (l : List A). length l) (x ∷ []) xs in
+    let e : sum_by (λ (l : List A). length l) (x ∷ xs) ≡ 0 + length x + sum_by (λ (l : List A). length l) xs =
+    sum_by-append (λ (l : List A). length l) (x ∷ []) xs in
     omega (arith, e)
 
 as_many : (sessions : List (List Op)) → sum_by (λ (l : List ℕ). length l) (map first_space_turns sessions) ≡ sum_by (λ (l : List Op). length l) sessions
 as_many [] = refl
-as_many (ops ∷ sessions) = omega (arith, one_sum (first_space_turns ops) (map first_space_turns sessions), one_sum ops sessions, as_many sessions, length-map {B = ℕ} ops (λ (op : Op). 0))
+as_many (ops ∷ sessions) = omega (
+  arith,
+  one_sum (first_space_turns ops) (map first_space_turns sessions),
+  one_sum ops sessions,
+  as_many sessions,
+  length-map {B = ℕ} ops (λ (op : Op). 0),
+)
 
-alone_at : (s : Script) (k : ℕ) → IfSome (slice_get (record s { steps = [] } ∷ []) k) (λ (x : Script). AllZip (AreDealt k) x.sessions (map first_space_turns s.sessions))
+alone_at : (s : Script) (k : ℕ) → IfSome (slice_get (record s { steps = [] } ∷ []) k)
+    (λ (x : Script). AllZip (AreDealt k) x.sessions (map first_space_turns s.sessions))
 alone_at s zero = dealt_alone s.sessions
 alone_at s (suc k) = tt
 
@@ -246,15 +295,25 @@ alone_valid s is steps =
     record {
       some = omega arith;
       few = omega arith;
-      scripts = All-cons IsScript alone [] (record { space = is.space; sessions = is.sessions; calls = is.calls; few_calls = is.few_calls; few_steps = omega arith }) (All-nil IsScript);
+      scripts = All-cons IsScript alone [] (record {
+        space = is.space;
+        sessions = is.sessions;
+        calls = is.calls;
+        few_calls = is.few_calls;
+        few_steps = omega arith;
+      }) (All-nil IsScript);
       no_steps = All-cons (λ (x : Script). x.steps ≡ []) alone [] refl (All-nil (λ (x : Script). x.steps ≡ []));
-      alike = All-cons (λ (x : Script). All (AreAlike x) (alone ∷ [])) alone [] (All-cons (AreAlike alone) alone [] (record { servers = refl; tolerate = refl }) (All-nil (AreAlike alone))) (All-nil (λ (x : Script). All (AreAlike x) (alone ∷ [])));
+      alike = All-cons (λ (x : Script). All (AreAlike x) (alone ∷ [])) alone []
+          (All-cons (AreAlike alone) alone [] (record { servers = refl; tolerate = refl }) (All-nil (AreAlike alone)))
+          (All-nil (λ (x : Script). All (AreAlike x) (alone ∷ [])));
       names_differ = (All-nil (λ (m : List ℕ). m ≡ s.space.name → ⊥), tt);
       dealt = alone_at s;
       turns = all_below s.sessions;
       few_calls = omega (arith, as_many s.sessions, is.few_calls);
       few_steps = omega (arith, length-map s.steps first_space_step, is.few_steps);
-      steps = All-map (IsStepIn (alone ∷ [])) first_space_step s.steps (All-weaker (λ (x : ℕ × Step). IsStepBy s.space.servers (length s.sessions) x.1) (λ (x : ℕ × Step). IsStepIn (alone ∷ []) (first_space_step x)) (λ x h. has_step s x.1 h) s.steps steps);
+      steps = All-map (IsStepIn (alone ∷ [])) first_space_step s.steps
+          (All-weaker (λ (x : ℕ × Step). IsStepBy s.space.servers (length s.sessions) x.1)
+          (λ (x : ℕ × Step). IsStepIn (alone ∷ []) (first_space_step x)) (λ x h. has_step s x.1 h) s.steps steps);
     }
 
 abbrev bundle : Bundle → Result Bundle ScriptError

@@ -35,13 +35,17 @@ use Rattle.hx_script.specs.Words.{is_declared, has_attribute}
 use Rattle.hx_script.specs.Actors.{actor, actor_word}
 use Rattle.hx_script.specs.Calls.{deliver, tick, halt, step}
 use Rattle.hx_script.specs.Keywords.{keyword_of}
-use Rattle.hx_script.specs.Grammar.{hx_line, space_line, key_line, string_attribute, int_attribute, attribute_line, subspace_line, servers_line, tolerate_line, session_line, steps_line, push_to_last, call_line, step_line, heading_line, line_for, command}
+use Rattle.hx_script.specs.Grammar.{hx_line, space_line, key_line, string_attribute, int_attribute, attribute_line}
+use Rattle.hx_script.specs.Grammar.{subspace_line, servers_line, tolerate_line, session_line, steps_line, push_to_last}
+use Rattle.hx_script.specs.Grammar.{call_line, step_line, heading_line, line_for, command}
 use Rattle.hx_script.proofs.FittingCalls.{yields_call}
 use Rattle.hx_script.proofs.FittingAxes.{DraftFits, yields_subspace, sizes_push}
 use Rattle.hx_script.proofs.Naming.{IsNew, yields_name, yields_new_name}
 use Rattle.hx_script.proofs.Once.{or_left, or_right, named_once}
 use Rattle.hx_script.proofs.Sections.{AreAxes, Spaced, SpaceSoFar, Called, CallsSoFar, Fresh, Headed, HasServers, Complete, BySection, Sound}
-use Rattle.hx_script.proofs.Yields.{Yields, Any, yields_then, yields_give, yields_refuse, yields_check, yields_judged, yields_word, yields_number, yields_number_in, yields_number_from, yields_natural, yields_sign, yields_end}
+use Rattle.hx_script.proofs.Yields.{Yields, Any, yields_then, yields_give, yields_refuse, yields_check, yields_judged}
+use Rattle.hx_script.proofs.Yields.{yields_word, yields_number, yields_number_in, yields_number_from, yields_natural}
+use Rattle.hx_script.proofs.Yields.{yields_sign, yields_end}
 
 pub all_none : {A : Type 0} (P : A → Type 0) (xs : List A) → xs ≡ [] → All P xs
 all_none P [] e = All-nil P
@@ -52,14 +56,20 @@ shorter xs x n lt = omega (arith, lt, length_push xs x)
 
 yields_hx : (d : Draft) → SpaceSoFar d → CallsSoFar d → Fresh d → Yields (hx_line d) Sound
 unfolding hx_line
-yields_hx d s c f = yields_then (λ n. (1 ≤ n) × (n ≤ 1)) (yields_number_in 1 1) (λ n h. yields_then Any yields_end (λ u t. yields_give (record d { section = sections.Naming }) (record { space = s; calls = c; stage = f })))
+yields_hx d s c f = yields_then (λ n. (1 ≤ n) × (n ≤ 1)) (yields_number_in 1 1)
+    (λ n h. yields_then Any yields_end (λ u t. yields_give (record d { section = sections.Naming })
+    (record { space = s; calls = c; stage = f })))
 
 yields_space : (d : Draft) → SpaceSoFar d → CallsSoFar d → Fresh d → Yields (space_line d) Sound
 unfolding space_line
-yields_space d s c f = yields_then IsName yields_name (λ w i. yields_then Any yields_end (λ u t. yields_give (record d { section = sections.Keying; space = record d.space { name = w } }) (record { space = s; calls = c; stage = (f, i) })))
+yields_space d s c f = yields_then IsName yields_name
+    (λ w i. yields_then Any yields_end (λ u t. yields_give
+    (record d { section = sections.Keying; space = record d.space { name = w } })
+    (record { space = s; calls = c; stage = (f, i) })))
 
 -- the space with its key alone
-key_alone : (w : List ℕ) (parts : ℕ) (attributes : List Attribute) (subspaces : List (List Axis)) → ArePart parts → attributes ≡ [] → subspaces ≡ [] → Spaced w parts attributes subspaces parts
+key_alone : (w : List ℕ) (parts : ℕ) (attributes : List Attribute) (subspaces : List (List Axis)) → ArePart parts
+    → attributes ≡ [] → subspaces ≡ [] → Spaced w parts attributes subspaces parts
 key_alone w parts [] [] p ea es = record {
   names = All-nil (λ (a : Attribute). IsName a.name × IsKind a.kind);
   differ = (All-nil (λ (m : List ℕ). m ≡ w → ⊥), tt);
@@ -74,7 +84,11 @@ key_alone w parts (x ∷ xs) ys p ea es = absurd cc
 
 yields_key : (d : Draft) → CallsSoFar d → Fresh d → IsName d.space.name → Yields (key_line d) Sound
 unfolding key_line
-yields_key d c f i = yields_then IsName yields_name (λ w k. yields_then (λ n. (1 ≤ n) × (n ≤ 256)) (yields_number_in 1 256) (λ n h. yields_then Any yields_end (λ u t. yields_give (record d { section = sections.Attributes; regions = n; space = record d.space { key_name = w; key_parts = n } }) (record { space = key_alone w n d.space.attributes d.space.subspaces h f.0 f.1; calls = c; stage = ((i, k, h), f.1, f.2) }))))
+yields_key d c f i = yields_then IsName yields_name
+    (λ w k. yields_then (λ n. (1 ≤ n) × (n ≤ 256)) (yields_number_in 1 256)
+    (λ n h. yields_then Any yields_end (λ u t. yields_give
+    (record d { section = sections.Attributes; regions = n; space = record d.space { key_name = w; key_parts = n } })
+    (record { space = key_alone w n d.space.attributes d.space.subspaces h f.0 f.1; calls = c; stage = ((i, k, h), f.1, f.2) }))))
 
 pub record IsNextAttribute (space : Space) (a : Attribute) : Type 0 where
   pub name : IsName a.name
@@ -83,16 +97,25 @@ pub record IsNextAttribute (space : Space) (a : Attribute) : Type 0 where
 
 pub yields_string : (space : Space) → Yields (string_attribute space) (IsNextAttribute space)
 unfolding string_attribute
-yields_string space = yields_then (IsNew space) (yields_new_name space) (λ w n. yields_then Any yields_end (λ u t. yields_give (record { name = w; kind = kinds.Text }) (record { name = n.name; new = n.new; kind = tt })))
+yields_string space = yields_then (IsNew space) (yields_new_name space)
+    (λ w n. yields_then Any yields_end (λ u t. yields_give (record { name = w; kind = kinds.Text })
+    (record { name = n.name; new = n.new; kind = tt })))
 
 pub yields_int : (space : Space) → Yields (int_attribute space) (IsNextAttribute space)
 unfolding int_attribute
-yields_int space = yields_then (IsNew space) (yields_new_name space) (λ w n. yields_then Any yields_number (λ lo u. yields_then (λ hi. int_le lo hi ≡ true) (yields_number_from lo) (λ hi h. yields_then Any yields_end (λ v t. yields_give (record { name = w; kind = kinds.Int lo hi }) (record { name = n.name; new = n.new; kind = le_z_yes (T_from_true (int_le lo hi) h) })))))
+yields_int space = yields_then (IsNew space) (yields_new_name space)
+    (λ w n. yields_then Any yields_number (λ lo u. yields_then (λ hi. int_le lo hi ≡ true) (yields_number_from lo)
+    (λ hi h. yields_then Any yields_end (λ v t. yields_give (record { name = w; kind = kinds.Int lo hi })
+    (record { name = n.name; new = n.new; kind = le_z_yes (T_from_true (int_le lo hi) h) })))))
 
-one_attribute_more : (d : Draft) (a : Attribute) → SpaceSoFar d → d.space.subspaces ≡ [] → length d.space.attributes < 16 → IsNextAttribute d.space a → Spaced d.space.key_name d.space.key_parts (d.space.attributes ++ a ∷ []) d.space.subspaces d.regions
+one_attribute_more : (d : Draft) (a : Attribute) → SpaceSoFar d → d.space.subspaces ≡ []
+    → length d.space.attributes < 16 → IsNextAttribute d.space a
+    → Spaced d.space.key_name d.space.key_parts (d.space.attributes ++ a ∷ []) d.space.subspaces d.regions
 one_attribute_more d a s none room next = record {
   names = All-push (λ (x : Attribute). IsName x.name × IsKind x.kind) d.space.attributes a s.names (next.name, next.kind);
-  differ = named_once (λ (x : Attribute). x.name) d.space.key_name d.space.attributes a s.differ (or_left (bytes_eq d.space.key_name a.name) (has_attribute d.space a.name) next.new) (or_right (bytes_eq d.space.key_name a.name) (has_attribute d.space a.name) next.new);
+  differ = named_once (λ (x : Attribute). x.name) d.space.key_name d.space.attributes a s.differ
+      (or_left (bytes_eq d.space.key_name a.name) (has_attribute d.space a.name) next.new)
+      (or_right (bytes_eq d.space.key_name a.name) (has_attribute d.space a.name) next.new);
   few = shorter d.space.attributes a 16 room;
   axes = all_none (AreAxes (length (d.space.attributes ++ a ∷ []))) d.space.subspaces none;
   few_subspaces = s.few_subspaces;
@@ -100,13 +123,26 @@ one_attribute_more d a s none room next = record {
   few_regions = s.few_regions;
 }
 
-yields_attribute : (d : Draft) (attribute : Space → Reader Attribute) → d.section ≡ sections.Attributes → SpaceSoFar d → CallsSoFar d → Headed d × (d.space.subspaces ≡ []) × (d.sessions ≡ []) → Yields (attribute d.space) (IsNextAttribute d.space) → Yields (attribute_line d attribute) Sound
+yields_attribute : (d : Draft) (attribute : Space → Reader Attribute) → d.section ≡ sections.Attributes → SpaceSoFar d
+    → CallsSoFar d → Headed d × (d.space.subspaces ≡ []) × (d.sessions ≡ [])
+    → Yields (attribute d.space) (IsNextAttribute d.space) → Yields (attribute_line d attribute) Sound
 unfolding attribute_line
-yields_attribute d attribute e s c st y = yields_then (λ u. nat_lt (length d.space.attributes) 16 ≡ true) (yields_check (nat_lt (length d.space.attributes) 16) Limit) (λ u room. yields_then (IsNextAttribute d.space) y (λ a n. yields_give (record d { space = record d.space { attributes = d.space.attributes ++ a ∷ [] } }) (record { space = one_attribute_more d a s st.1 (ltb-true (length d.space.attributes) 16 room) n; calls = c; stage = rw e st })))
+yields_attribute d attribute e s c st y = yields_then (λ u. nat_lt (length d.space.attributes) 16 ≡ true)
+    (yields_check (nat_lt (length d.space.attributes) 16) Limit)
+    (λ u room. yields_then (IsNextAttribute d.space) y
+    (λ a n. yields_give (record d { space = record d.space { attributes = d.space.attributes ++ a ∷ [] } })
+    (record {
+      space = one_attribute_more d a s st.1 (ltb-true (length d.space.attributes) 16 room) n;
+      calls = c;
+      stage = rw e st;
+    })))
 
-one_subspace_more : (d : Draft) (axes_draft : AxesDraft) → SpaceSoFar d → length d.space.subspaces < 8 → DraftFits d.space d.regions axes_draft → Spaced d.space.key_name d.space.key_parts d.space.attributes (d.space.subspaces ++ axes_draft.axes ∷ []) (d.regions + axes_draft.size)
+one_subspace_more : (d : Draft) (axes_draft : AxesDraft) → SpaceSoFar d → length d.space.subspaces < 8
+    → DraftFits d.space d.regions axes_draft → Spaced d.space.key_name d.space.key_parts d.space.attributes
+    (d.space.subspaces ++ axes_draft.axes ∷ []) (d.regions + axes_draft.size)
 one_subspace_more d axes_draft s room fits =
-    let sum : sizes_sum (d.space.subspaces ++ axes_draft.axes ∷ []) ≡ sizes_sum d.space.subspaces + size_of axes_draft.axes = sizes_push d.space.subspaces axes_draft.axes in
+    let sum : sizes_sum (d.space.subspaces ++ axes_draft.axes ∷ [])
+    ≡ sizes_sum d.space.subspaces + size_of axes_draft.axes = sizes_push d.space.subspaces axes_draft.axes in
     let count : d.regions ≡ d.space.key_parts * 1 + sizes_sum d.space.subspaces = s.count in
     let size : axes_draft.size ≡ size_of axes_draft.axes = fits.size in
     record {
@@ -121,20 +157,45 @@ one_subspace_more d axes_draft s room fits =
 
 yields_subspace_line : (d : Draft) → SpaceSoFar d → CallsSoFar d → Headed d × (d.sessions ≡ []) → Yields (subspace_line d) Sound
 unfolding subspace_line
-yields_subspace_line d s c st = yields_then (λ u. nat_lt (length d.space.subspaces) 8 ≡ true) (yields_check (nat_lt (length d.space.subspaces) 8) Limit) (λ u room. yields_then (DraftFits d.space d.regions) (yields_subspace d.space d.regions) (λ x f. yields_give (record d { section = sections.Subspaces; regions = d.regions + x.size; space = record d.space { subspaces = d.space.subspaces ++ x.axes ∷ [] } }) (record { space = one_subspace_more d x s (ltb-true (length d.space.subspaces) 8 room) f; calls = c; stage = st })))
+yields_subspace_line d s c st = yields_then (λ u. nat_lt (length d.space.subspaces) 8 ≡ true)
+    (yields_check (nat_lt (length d.space.subspaces) 8) Limit)
+    (λ u room. yields_then (DraftFits d.space d.regions) (yields_subspace d.space d.regions)
+    (λ x f. yields_give (record d {
+      section = sections.Subspaces;
+      regions = d.regions + x.size;
+      space = record d.space { subspaces = d.space.subspaces ++ x.axes ∷ [] };
+    })
+    (record { space = one_subspace_more d x s (ltb-true (length d.space.subspaces) 8 room) f; calls = c; stage = st })))
 
 yields_servers : (d : Draft) → SpaceSoFar d → CallsSoFar d → Headed d × (d.sessions ≡ []) → Yields (servers_line d) Sound
 unfolding servers_line
-yields_servers d s c st = yields_then (λ n. (1 ≤ n) × (n ≤ 16)) (yields_number_in 1 16) (λ n h. yields_then Any yields_end (λ u t. yields_give (record d { section = sections.Tolerance; space = record d.space { servers = n } }) (record { space = s; calls = c; stage = (st.0, st.1, h) })))
+yields_servers d s c st = yields_then (λ n. (1 ≤ n) × (n ≤ 16)) (yields_number_in 1 16)
+    (λ n h. yields_then Any yields_end (λ u t. yields_give
+    (record d { section = sections.Tolerance; space = record d.space { servers = n } })
+    (record { space = s; calls = c; stage = (st.0, st.1, h) })))
 
 pub below_servers : (servers n : ℕ) → 0 < servers → n ≤ min (servers - 1) 4 → (n ≤ 4) × (n < servers)
 below_servers servers n low h = (omega (arith, low, h), omega (arith, low, h))
 
 yields_tolerate : (d : Draft) → SpaceSoFar d → CallsSoFar d → Headed d × (d.sessions ≡ []) × HasServers d → Yields (tolerate_line d) Sound
 unfolding tolerate_line
-yields_tolerate d s c st = yields_then (λ n. (0 ≤ n) × (n ≤ min (d.space.servers - 1) 4)) (yields_number_in 0 (min (d.space.servers - 1) 4)) (λ n h. yields_then Any yields_end (λ u t. yields_give (record d { section = sections.Sessions; space = record d.space { tolerate = n } }) (record { space = s; calls = c; stage = (st.0, st.2, below_servers d.space.servers n st.2.0 h.1, all_none (λ (ops : List Op). All (Fits (record d.space { tolerate = n })) ops) d.sessions st.1) })))
+yields_tolerate d s c st = yields_then (λ n. (0 ≤ n) × (n ≤ min (d.space.servers - 1) 4))
+    (yields_number_in 0 (min (d.space.servers - 1) 4))
+    (λ n h. yields_then Any yields_end (λ u t. yields_give
+    (record d { section = sections.Sessions; space = record d.space { tolerate = n } })
+    (record {
+      space = s;
+      calls = c;
+      stage = (
+        st.0,
+        st.2,
+        below_servers d.space.servers n st.2.0 h.1,
+        all_none (λ (ops : List Op). All (Fits (record d.space { tolerate = n })) ops) d.sessions st.1,
+      );
+    })))
 
-pub one_session_more : (sessions : List (List Op)) (calls : ℕ) (steps : List (ℕ × Step)) → length sessions < 16 → Called sessions calls steps → Called (sessions ++ [] ∷ []) calls steps
+pub one_session_more : (sessions : List (List Op)) (calls : ℕ) (steps : List (ℕ × Step)) → length sessions < 16
+    → Called sessions calls steps → Called (sessions ++ [] ∷ []) calls steps
 one_session_more sessions calls steps room c = record {
   few_sessions = shorter sessions [] 16 room;
   counted = omega (arith, c.counted, sum_by-append (λ (ops : List Op). length ops) sessions ([] ∷ []));
@@ -144,7 +205,23 @@ one_session_more sessions calls steps room c = record {
 
 yields_session : (d : Draft) → SpaceSoFar d → CallsSoFar d → Complete d → Yields (session_line d) Sound
 unfolding session_line
-yields_session d s c st = yields_then (λ u. nat_lt (length d.sessions) 16 ≡ true) (yields_check (nat_lt (length d.sessions) 16) Limit) (λ u room. yields_then (λ n. (length d.sessions + 1 ≤ n) × (n ≤ length d.sessions + 1)) (yields_number_in (length d.sessions + 1) (length d.sessions + 1)) (λ n h. yields_then Any yields_end (λ v t. yields_give (record d { section = sections.Calls; sessions = d.sessions ++ [] ∷ [] }) (record { space = s; calls = one_session_more d.sessions d.calls d.steps (ltb-true (length d.sessions) 16 room) c; stage = (st.0, st.1, st.2, All-push (λ (ops : List Op). All (Fits d.space) ops) d.sessions [] st.3 (All-nil (Fits d.space))) }))))
+yields_session d s c st = yields_then (λ u. nat_lt (length d.sessions) 16 ≡ true)
+    (yields_check (nat_lt (length d.sessions) 16) Limit)
+    (λ u room. yields_then (λ n. (length d.sessions + 1 ≤ n) × (n ≤ length d.sessions + 1))
+    (yields_number_in (length d.sessions + 1) (length d.sessions + 1))
+    (λ n h. yields_then Any yields_end (λ v t. yields_give
+    (record d { section = sections.Calls; sessions = d.sessions ++ [] ∷ [] })
+    (record {
+      space = s;
+      calls = one_session_more d.sessions d.calls d.steps (ltb-true (length d.sessions) 16 room) c;
+      stage = (
+        st.0,
+        st.1,
+        st.2,
+        All-push (λ (ops : List Op). All (Fits d.space) ops) d.sessions [] st.3
+            (All-nil (Fits d.space)),
+      );
+    }))))
 
 yields_steps : (d : Draft) → SpaceSoFar d → CallsSoFar d → Complete d → Yields (steps_line d) Sound
 unfolding steps_line
@@ -153,24 +230,30 @@ yields_steps d s c st = yields_then Any yields_end (λ u t. yields_give (record 
 pub all_last : {A : Type 0} (P : A → Type 0) (sessions : List (List A)) (x : A) → All (All P) sessions → P x → All (All P) (push_to_last sessions x)
 all_last P [] x a p = a
 all_last P (xs ∷ []) x a p = All-cons (All P) (xs ++ x ∷ []) [] (All-push P xs x (All-head (All P) xs [] a) p) (All-nil (All P))
-all_last P (xs ∷ ys ∷ rest) x a p = All-cons (All P) xs (push_to_last (ys ∷ rest) x) (All-head (All P) xs (ys ∷ rest) a) (all_last P (ys ∷ rest) x (All-tail (All P) xs (ys ∷ rest) a) p)
+all_last P (xs ∷ ys ∷ rest) x a p = All-cons (All P) xs (push_to_last (ys ∷ rest) x)
+    (All-head (All P) xs (ys ∷ rest) a) (all_last P (ys ∷ rest) x (All-tail (All P) xs (ys ∷ rest) a) p)
 
 pub same_count : {A : Type 0} (sessions : List (List A)) (x : A) → length (push_to_last sessions x) ≡ length sessions
 same_count [] x = refl
 same_count (xs ∷ []) x = refl
 same_count (xs ∷ ys ∷ rest) x = ap suc (same_count (ys ∷ rest) x)
 
-sum_cons : {A : Type 0} (xs : List A) (sessions : List (List A)) → sum_by (λ (ops : List A). length ops) (xs ∷ sessions) ≡ length xs + sum_by (λ (ops : List A). length ops) sessions
+sum_cons : {A : Type 0} (xs : List A) (sessions : List (List A))
+    → sum_by (λ (ops : List A). length ops) (xs ∷ sessions) ≡ length xs + sum_by (λ (ops : List A). length ops) sessions
 sum_cons {A} xs sessions =
-    let e : sum_by (λ (ops : List A). length ops) (xs ∷ sessions) ≡ 0 + length xs + sum_by (λ (ops : List A). length ops) sessions = sum_by-append (λ (ops : List A). length ops) (xs ∷ []) sessions in
+    let e : sum_by (λ (ops : List A). length ops) (xs ∷ sessions)
+    ≡ 0 + length xs + sum_by (λ (ops : List A). length ops) sessions =
+    sum_by-append (λ (ops : List A). length ops) (xs ∷ []) sessions in
     omega (arith, e)
 
-pub one_counted : {A : Type 0} (sessions : List (List A)) (x : A) → sum_by (λ (ops : List A). length ops) (push_to_last sessions x) ≤ sum_by (λ (ops : List A). length ops) sessions + 1
+pub one_counted : {A : Type 0} (sessions : List (List A)) (x : A)
+    → sum_by (λ (ops : List A). length ops) (push_to_last sessions x) ≤ sum_by (λ (ops : List A). length ops) sessions + 1
 one_counted [] x = omega arith
 one_counted (xs ∷ []) x = omega (arith, sum_cons (xs ++ x ∷ []) [], sum_cons xs [], length_push xs x)
 one_counted (xs ∷ ys ∷ rest) x = omega (arith, sum_cons xs (push_to_last (ys ∷ rest) x), sum_cons xs (ys ∷ rest), one_counted (ys ∷ rest) x)
 
-one_call_more : (sessions : List (List Op)) (calls : ℕ) (steps : List (ℕ × Step)) (op : Op) → calls < 16384 → Called sessions calls steps → Called (push_to_last sessions op) (calls + 1) steps
+one_call_more : (sessions : List (List Op)) (calls : ℕ) (steps : List (ℕ × Step)) (op : Op) → calls < 16384
+    → Called sessions calls steps → Called (push_to_last sessions op) (calls + 1) steps
 one_call_more sessions calls steps op room c = record {
   few_sessions = rw (same_count sessions op) c.few_sessions;
   counted = omega (arith, c.counted, one_counted sessions op);
@@ -185,19 +268,32 @@ some_regions d s p =
 
 pub yields_call_line : (d : Draft) (w : CallWord) → d.section ≡ sections.Calls → SpaceSoFar d → CallsSoFar d → Complete d → Yields (call_line d w) Sound
 unfolding call_line
-yields_call_line d w e s c st = yields_then (λ u. nat_lt d.calls 16384 ≡ true) (yields_check (nat_lt d.calls 16384) Limit) (λ u room. yields_then (Fits d.space) (yields_call d.space d.regions w s.count (some_regions d s st.0.2)) (λ op f. yields_give (record d { sessions = push_to_last d.sessions op; calls = d.calls + 1 }) (record { space = s; calls = one_call_more d.sessions d.calls d.steps op (ltb-true d.calls 16384 room) c; stage = rw e (st.0, st.1, st.2, all_last (Fits d.space) d.sessions op st.3 f) })))
+yields_call_line d w e s c st = yields_then (λ u. nat_lt d.calls 16384 ≡ true)
+    (yields_check (nat_lt d.calls 16384) Limit) (λ u room. yields_then (Fits d.space)
+    (yields_call d.space d.regions w s.count (some_regions d s st.0.2))
+    (λ op f. yields_give (record d { sessions = push_to_last d.sessions op; calls = d.calls + 1 })
+    (record {
+      space = s;
+      calls = one_call_more d.sessions d.calls d.steps op (ltb-true d.calls 16384 room) c;
+      stage = rw e (st.0, st.1, st.2, all_last (Fits d.space) d.sessions op st.3 f);
+    })))
 
 yields_actor : (servers sessions : ℕ) → Yields (actor servers sessions) Any
 unfolding actor
-yields_actor servers sessions = yields_then IsWord yields_word (λ w i. record { at = λ ts x all e. (tt, ((yields_judged (actor_word servers sessions w)).at ts x all e).1) })
+yields_actor servers sessions = yields_then IsWord yields_word
+    (λ w i. record { at = λ ts x all e. (tt, ((yields_judged (actor_word servers sessions w)).at ts x all e).1) })
 
 yields_step : (servers sessions : ℕ) (w : StepWord) → Yields (step servers sessions w) Any
 unfolding deliver tick halt
-yields_step servers sessions step_words.Deliver = yields_then Any yields_natural (λ n u. yields_then Any (yields_sign _) (λ v t. yields_then (λ p. (0 ≤ p) × (p ≤ 4294967295)) (yields_number_in 0 4294967295) (λ p h. yields_then Any yields_end (λ x y. yields_give _ tt))))
+yields_step servers sessions step_words.Deliver =
+    yields_then Any yields_natural (λ n u. yields_then Any (yields_sign _)
+    (λ v t. yields_then (λ p. (0 ≤ p) × (p ≤ 4294967295)) (yields_number_in 0 4294967295)
+    (λ p h. yields_then Any yields_end (λ x y. yields_give _ tt))))
 yields_step servers sessions step_words.Tick = yields_then Any (yields_actor servers sessions) (λ a u. yields_then Any yields_end (λ x y. yields_give _ tt))
 yields_step servers sessions step_words.Halt = yields_then Any (yields_actor servers sessions) (λ a u. yields_then Any yields_end (λ x y. yields_give _ tt))
 
-one_step_more : (sessions : List (List Op)) (calls : ℕ) (steps : List (ℕ × Step)) (x : ℕ × Step) → length steps < 65536 → Called sessions calls steps → Called sessions calls (steps ++ x ∷ [])
+one_step_more : (sessions : List (List Op)) (calls : ℕ) (steps : List (ℕ × Step)) (x : ℕ × Step)
+    → length steps < 65536 → Called sessions calls steps → Called sessions calls (steps ++ x ∷ [])
 one_step_more sessions calls steps x room c = record {
   few_sessions = c.few_sessions;
   counted = c.counted;
@@ -207,9 +303,19 @@ one_step_more sessions calls steps x room c = record {
 
 yields_step_line : (n : ℕ) (d : Draft) (w : StepWord) → d.section ≡ sections.Steps → SpaceSoFar d → CallsSoFar d → Complete d → Yields (step_line n d w) Sound
 unfolding step_line
-yields_step_line n d w e s c st = yields_then (λ u. nat_lt (length d.steps) 65536 ≡ true) (yields_check (nat_lt (length d.steps) 65536) Limit) (λ u room. yields_then Any (yields_step d.space.servers (length d.sessions) w) (λ x f. yields_give (record d { steps = d.steps ++ (n, x) ∷ [] }) (record { space = s; calls = one_step_more d.sessions d.calls d.steps (n, x) (ltb-true (length d.steps) 65536 room) c; stage = rw e st })))
+yields_step_line n d w e s c st = yields_then (λ u. nat_lt (length d.steps) 65536 ≡ true)
+    (yields_check (nat_lt (length d.steps) 65536) Limit)
+    (λ u room. yields_then Any (yields_step d.space.servers (length d.sessions) w)
+    (λ x f. yields_give (record d { steps = d.steps ++ (n, x) ∷ [] })
+    (record {
+      space = s;
+      calls = one_step_more d.sessions d.calls d.steps (n, x)
+          (ltb-true (length d.steps) 65536 room) c;
+      stage = rw e st;
+    })))
 
-pub yields_heading : (d : Draft) (sec : Section) (h : Heading) → d.section ≡ sec → SpaceSoFar d → CallsSoFar d → BySection sec d → Yields (heading_line d sec h) Sound
+pub yields_heading : (d : Draft) (sec : Section) (h : Heading) → d.section ≡ sec → SpaceSoFar d → CallsSoFar d
+    → BySection sec d → Yields (heading_line d sec h) Sound
 yields_heading d sections.Start headings.Hx e s c st = yields_hx d s c st
 yields_heading d sections.Start headings.Space e s c st = yields_refuse Order
 yields_heading d sections.Start headings.Key e s c st = yields_refuse Order
@@ -301,7 +407,8 @@ yields_heading d sections.Steps headings.Tolerate e s c st = yields_refuse Order
 yields_heading d sections.Steps headings.Session e s c st = yields_refuse Order
 yields_heading d sections.Steps headings.Steps e s c st = yields_refuse Order
 
-yields_line : (n : ℕ) (d : Draft) (sec : Section) (k : Option Keyword) → d.section ≡ sec → SpaceSoFar d → CallsSoFar d → BySection sec d → Yields (line_for n d sec k) Sound
+yields_line : (n : ℕ) (d : Draft) (sec : Section) (k : Option Keyword) → d.section ≡ sec → SpaceSoFar d → CallsSoFar d
+    → BySection sec d → Yields (line_for n d sec k) Sound
 yields_line n d sec (Some (keywords.Heading h)) e s c st = yields_heading d sec h e s c st
 yields_line n d sections.Start (Some (keywords.Call w)) e s c st = yields_refuse Order
 yields_line n d sections.Naming (Some (keywords.Call w)) e s c st = yields_refuse Order

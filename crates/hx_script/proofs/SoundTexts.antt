@@ -63,7 +63,8 @@ a_script d s c st = record {
     names_differ = s.differ;
     attributes = s.few;
     key_parts = st.0.2;
-    subspaces = All-weaker (AreAxes (length d.space.attributes)) (IsSubspaceOf d.space) (λ axes a. record { some = a.some; few = a.fit.few; declared = a.fit.each; once = a.fit.once }) d.space.subspaces s.axes;
+    subspaces = All-weaker (AreAxes (length d.space.attributes)) (IsSubspaceOf d.space)
+        (λ axes a. record { some = a.some; few = a.fit.few; declared = a.fit.each; once = a.fit.once }) d.space.subspaces s.axes;
     few_subspaces = s.few_subspaces;
     regions = subst (λ r. r ≤ 4096) s.count s.few_regions;
     servers = st.1;
@@ -81,18 +82,22 @@ script s = Ok s
 script_is : (s t : Script) → script s ≡ script t → s ≡ t
 script_is s t e = cc
 
-ends : (n : ℕ) (d : Draft) (sec : Section) (s : Script) → SpaceSoFar d → CallsSoFar d → BySection sec d → cond (may_end sec) (Ok (record { space = d.space; sessions = d.sessions; steps = d.steps })) (Err (errors.Refused n Order)) ≡ Ok s → IsScript s
+ends : (n : ℕ) (d : Draft) (sec : Section) (s : Script) → SpaceSoFar d → CallsSoFar d → BySection sec d
+    → cond (may_end sec) (Ok (record { space = d.space; sessions = d.sessions; steps = d.steps }))
+    (Err (errors.Refused n Order)) ≡ Ok s → IsScript s
 ends n d sections.Start s sp c st e = absurd cc
 ends n d sections.Naming s sp c st e = absurd cc
 ends n d sections.Keying s sp c st e = absurd cc
 ends n d sections.Attributes s sp c st e = absurd cc
 ends n d sections.Subspaces s sp c st e = absurd cc
 ends n d sections.Tolerance s sp c st e = absurd cc
-ends n d sections.Sessions s sp c st e = subst IsScript (script_is (record { space = d.space; sessions = d.sessions; steps = d.steps }) s e) (a_script d sp c st)
+ends n d sections.Sessions s sp c st e = subst IsScript
+    (script_is (record { space = d.space; sessions = d.sessions; steps = d.steps }) s e) (a_script d sp c st)
 ends n d sections.Calls s sp c st e = subst IsScript (script_is (record { space = d.space; sessions = d.sessions; steps = d.steps }) s e) (a_script d sp c st)
 ends n d sections.Steps s sp c st e = subst IsScript (script_is (record { space = d.space; sessions = d.sessions; steps = d.steps }) s e) (a_script d sp c st)
 
-at_line_ok : (n : ℕ) (r : Result Draft Reason) (f : Draft → Result Script ScriptError) (s : Script) → at_line n r f ≡ Ok s → (d : Draft) × (r ≡ Ok d) × (f d ≡ Ok s)
+at_line_ok : (n : ℕ) (r : Result Draft Reason) (f : Draft → Result Script ScriptError) (s : Script)
+    → at_line n r f ≡ Ok s → (d : Draft) × (r ≡ Ok d) × (f d ≡ Ok s)
 at_line_ok n (Ok d) f s e = (d, refl, e)
 at_line_ok n (Err r) f s e = absurd cc
 

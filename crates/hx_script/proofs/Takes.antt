@@ -104,7 +104,8 @@ judged_shrinks (Ok x) = give_shrinks x
 judged_shrinks (Err e) = refuse_shrinks e
 
 -- enough fuel is as good as more
-steps_more : {B : Type 0} (u : Until) (step : B → Reader B) → ((b : B) → Consumes (step b)) → (m n : ℕ) (b : B) (ts : List Tok) → length ts ≤ m → length ts ≤ n → steps u step m b ts ≡ steps u step n b ts
+steps_more : {B : Type 0} (u : Until) (step : B → Reader B) → ((b : B) → Consumes (step b))
+    → (m n : ℕ) (b : B) (ts : List Tok) → length ts ≤ m → length ts ≤ n → steps u step m b ts ≡ steps u step n b ts
 unfolding steps
 steps_more u step c zero zero b [] hm hn = refl
 steps_more u step c zero (suc n) b [] hm hn = refl
@@ -116,13 +117,16 @@ steps_more u step c (suc m) (suc n) b (t ∷ ts) hm hn =
     ap (λ r. cond (is_at u (t ∷ ts)) (Ok (b, t ∷ ts)) r) (on_ok_same (step b (t ∷ ts)) (λ x. steps u step m x.0 x.1) (λ x. steps u step n x.0 x.1)
     (λ x e. steps_more u step c m n x.0 x.1 (omega (arith, (c b).at (t ∷ ts) x e)) (omega (arith, (c b).at (t ∷ ts) x e))))
 
-pub goes_on : {B : Type 0} (u : Until) (step : B → Reader B) → ((b : B) → Consumes (step b)) → (b : B) (ts : List Tok) (b' : B) (rest : List Tok) → is_at u ts ≡ false → step b ts ≡ Ok (b', rest) → repeat u step b ts ≡ repeat u step b' rest
+pub goes_on : {B : Type 0} (u : Until) (step : B → Reader B) → ((b : B) → Consumes (step b))
+    → (b : B) (ts : List Tok) (b' : B) (rest : List Tok) → is_at u ts ≡ false → step b ts ≡ Ok (b', rest)
+    → repeat u step b ts ≡ repeat u step b' rest
 unfolding steps
 goes_on u step c b [] b' rest h e = absurd (omega (arith, (c b).at [] (b', rest) e))
 goes_on u step c b (t ∷ ts) b' rest h e =
     rw (h, e) (steps_more u step c (length ts) (length rest) b' rest (omega (arith, (c b).at (t ∷ ts) (b', rest) e)) (omega arith))
 
-pub stops : {B : Type 0} (u : Until) (step : B → Reader B) (b : B) (ts : List Tok) (r : Reason) → is_at u ts ≡ false → step b ts ≡ Err r → repeat u step b ts ≡ Err r
+pub stops : {B : Type 0} (u : Until) (step : B → Reader B) (b : B) (ts : List Tok) (r : Reason) → is_at u ts ≡ false
+    → step b ts ≡ Err r → repeat u step b ts ≡ Err r
 unfolding steps
 stops u step b [] r h e = absurd cc
 stops u step b (t ∷ ts) r h e = rw (h, e) refl
@@ -133,8 +137,21 @@ ends u step b [] h = refl
 ends u step b (t ∷ ts) h = rw h refl
 
 -- the error of a step is that of the repetition
-pub fails : {B : Type 0} (e : Stop) (u : Until) (step : B → Reader B) (b : B) (ts : List Tok) (total : Result (B × List Tok) Reason) → is_at u ts ≡ false → Fails e (step b ts) → repeat u step b ts ≡ total → Fails e total
+pub fails : {B : Type 0} (e : Stop) (u : Until) (step : B → Reader B) (b : B) (ts : List Tok)
+    (total : Result (B × List Tok) Reason) → is_at u ts ≡ false → Fails e (step b ts) → repeat u step b ts ≡ total → Fails e total
 fails Memory u step b ts total h f so_far = tt
 fails (Fault r) u step b ts total h f so_far = sym so_far ∙ stops u step b ts r h f
 
-pub ruleset takes = (consumes_then, shrinks_then, shrinks, check_shrinks, give_shrinks, refuse_shrinks, judged_shrinks, word_consumes, number_consumes, text_consumes, sign_consumes)
+pub ruleset takes = (
+  consumes_then,
+  shrinks_then,
+  shrinks,
+  check_shrinks,
+  give_shrinks,
+  refuse_shrinks,
+  judged_shrinks,
+  word_consumes,
+  number_consumes,
+  text_consumes,
+  sign_consumes,
+)

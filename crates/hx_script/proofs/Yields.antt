@@ -7,7 +7,8 @@ use Rattle.hx_script.specs.declared.errors.Reason.{Reason}
 use Rattle.hx_script.specs.declared.errors.Reason.TheVariants.{Order, Bounds}
 use Rattle.hx_script.specs.declared.line.Until.{Until}
 use Rattle.hx_script.specs.Toks.{Tok, Word, Number, Text, Sign}
-use Rattle.hx_script.specs.Readers.{◌>>=◌, Reader, give, refuse, judged, check, word, number, text, end, sign, fixed, is_between, nat_of, number_in, natural, number_from, is_at, steps, repeat}
+use Rattle.hx_script.specs.Readers.{◌>>=◌, Reader, give, refuse, judged, check, word, number, text, end, sign, fixed}
+use Rattle.hx_script.specs.Readers.{is_between, nat_of, number_in, natural, number_from, is_at, steps, repeat}
 use Rattle.hx_script.proofs.Takes.{on_ok_ok, ok_is}
 
 -- each word is one
@@ -25,7 +26,8 @@ pub record Yields {A : Type 0} (p : Reader A) (Q : A → Type 0) : Type 0 where
 abbrev pub Any : {A : Type 0} → A → Type 0
 Any x = Unit {0}
 
-pub yields_then : {A B : Type 0} {p : Reader A} {f : A → Reader B} (P : A → Type 0) {Q : B → Type 0} → Yields p P → ((a : A) → P a → Yields (f a) Q) → Yields (p >>= f) Q
+pub yields_then : {A B : Type 0} {p : Reader A} {f : A → Reader B} (P : A → Type 0) {Q : B → Type 0} → Yields p P
+    → ((a : A) → P a → Yields (f a) Q) → Yields (p >>= f) Q
 yields_then {A} {B} {p} {f} P {Q} yp yf = record {
   at = λ ts x all e.
       let o = on_ok_ok (p ts) (λ y. f y.0 y.1) x e in
@@ -121,18 +123,24 @@ between_is lo hi (negsuc n) h = absurd cc
 
 pub yields_number_in : (lo hi : ℕ) → Yields (number_in lo hi) (λ n. (lo ≤ n) × (n ≤ hi))
 unfolding number_in
-yields_number_in lo hi = yields_then Any yields_number (λ n u. yields_then (λ u. is_between lo hi n ≡ true) (yields_check (is_between lo hi n) Bounds) (λ u h. yields_give (nat_of n) (between_is lo hi n h)))
+yields_number_in lo hi = yields_then Any yields_number
+    (λ n u. yields_then (λ u. is_between lo hi n ≡ true) (yields_check (is_between lo hi n) Bounds)
+    (λ u h. yields_give (nat_of n) (between_is lo hi n h)))
 
 pub yields_natural : Yields natural Any
 unfolding natural
-yields_natural = yields_then Any yields_number (λ n u. yields_then (λ u. int_le (pos 0) n ≡ true) (yields_check (int_le (pos 0) n) Bounds) (λ u h. yields_give (nat_of n) tt))
+yields_natural = yields_then Any yields_number (λ n u. yields_then (λ u. int_le (pos 0) n ≡ true)
+    (yields_check (int_le (pos 0) n) Bounds) (λ u h. yields_give (nat_of n) tt))
 
 pub yields_number_from : (lo : ℤ) → Yields (number_from lo) (λ hi. int_le lo hi ≡ true)
 unfolding number_from
-yields_number_from lo = yields_then Any yields_number (λ hi u. yields_then (λ u. int_le lo hi ≡ true) (yields_check (int_le lo hi) Bounds) (λ u h. yields_give hi h))
+yields_number_from lo = yields_then Any yields_number
+    (λ hi u. yields_then (λ u. int_le lo hi ≡ true) (yields_check (int_le lo hi) Bounds) (λ u h. yields_give hi h))
 
 -- what each step keeps stands behind a repetition
-steps_yield : {B : Type 0} (Q : B → Type 0) (u : Until) (step : B → Reader B) → ((b : B) → Q b → Yields (step b) Q) → (fuel : ℕ) (b : B) → Q b → (ts : List Tok) (x : B × List Tok) → AllToks ts → steps u step fuel b ts ≡ Ok x → Q x.0 × AllToks x.1
+steps_yield : {B : Type 0} (Q : B → Type 0) (u : Until) (step : B → Reader B) → ((b : B) → Q b → Yields (step b) Q)
+    → (fuel : ℕ) (b : B) → Q b → (ts : List Tok) (x : B × List Tok) → AllToks ts → steps u step fuel b ts ≡ Ok x
+    → Q x.0 × AllToks x.1
 unfolding steps
 steps_yield {B} Q u step y zero b q ts x all e = by_end (is_at u ts) e
   where
@@ -141,12 +149,15 @@ steps_yield {B} Q u step y zero b q ts x all e = by_end (is_at u ts) e
     by_end false e = absurd cc
 steps_yield {B} Q u step y (suc fuel) b q ts x all e = by_end (is_at u ts) (λ c r us z more f. steps_yield Q u step y fuel c r us z more f) e
   where
-    by_end : (t : Bool) → ((c : B) → Q c → (us : List Tok) (z : B × List Tok) → AllToks us → steps u step fuel c us ≡ Ok z → Q z.0 × AllToks z.1) → cond t (Ok (b, ts)) ((step b >>= steps u step fuel) ts) ≡ Ok x → Q x.0 × AllToks x.1
+    by_end : (t : Bool) → ((c : B) → Q c → (us : List Tok) (z : B × List Tok) → AllToks us
+        → steps u step fuel c us ≡ Ok z → Q z.0 × AllToks z.1)
+        → cond t (Ok (b, ts)) ((step b >>= steps u step fuel) ts) ≡ Ok x → Q x.0 × AllToks x.1
     by_end true again e = subst (λ (y : B × List Tok). Q y.0 × AllToks y.1) (ok_is (b, ts) x e) (q, all)
     by_end false again e =
         let o = on_ok_ok (step b ts) (λ y. steps u step fuel y.0 y.1) x e in
         let a = (y b q).at ts o.0 all o.1 in
         again o.0.0 a.0 o.0.1 x a.1 o.2
 
-pub yields_repeat : {B : Type 0} (Q : B → Type 0) (u : Until) (step : B → Reader B) → ((b : B) → Q b → Yields (step b) Q) → (b : B) → Q b → Yields (repeat u step b) Q
+pub yields_repeat : {B : Type 0} (Q : B → Type 0) (u : Until) (step : B → Reader B)
+    → ((b : B) → Q b → Yields (step b) Q) → (b : B) → Q b → Yields (repeat u step b) Q
 yields_repeat Q u step y b q = record { at = λ ts x all e. steps_yield Q u step y (length ts) b q ts x all e }

@@ -1,5 +1,7 @@
--- The lines of a script of several spaces, each told by the draft of what was read before. A space has a draft of its own, whose lines and calls are those of a script of one space.
-use Rattle.std.specs.Prelude.{ℕ, ◌+◌, ◌-◌, Bool, true, false, not, List, [], ◌∷◌, ◌++◌, map, length, nat_le, nat_lt, min, position, slice_get, slice_set, Option, Some, None, Result, Ok, Err}
+-- The lines of a script of several spaces, each told by the draft of what was read before. A space
+-- has a draft of its own, whose lines and calls are those of a script of one space.
+use Rattle.std.specs.Prelude.{ℕ, ◌+◌, ◌-◌, Bool, true, false, not, List, [], ◌∷◌, ◌++◌, map, length, nat_le, nat_lt}
+use Rattle.std.specs.Prelude.{min, position, slice_get, slice_set, Option, Some, None, Result, Ok, Err}
 use Rattle.std.specs.List.{list_all, list_any}
 use Rattle.std.specs.Str.{bytes_eq}
 use Rattle.hx_lex.specs.Lines.{tokens_of}
@@ -79,7 +81,10 @@ have_keys spaces = list_all has_key spaces
 
 -- a space of which only the name was read
 abbrev pub named_draft : ℕ → ℕ → List ℕ → Draft
-named_draft servers tolerate w = record empty_draft { section = sections.Keying; space = record empty_draft.space { name = w; servers = servers; tolerate = tolerate } }
+named_draft servers tolerate w = record empty_draft {
+  section = sections.Keying;
+  space = record empty_draft.space { name = w; servers = servers; tolerate = tolerate };
+}
 
 -- one more session has no calls yet
 abbrev pub with_session : Draft → Draft

@@ -1,5 +1,6 @@
 -- Reading the tokens of a line from left to right: the first token that doesn't serve gives the reason.
-use Rattle.std.specs.Prelude.{◌≡◌, ℕ, ℤ, pos, negsuc, zero, suc, nat_le, int_le, ◌&&◌, length, codes, Bool, true, false, List, [], ◌∷◌, Result, Ok, Err, if◌then◌else◌}
+use Rattle.std.specs.Prelude.{◌≡◌, ℕ, ℤ, pos, negsuc, zero, suc, nat_le, int_le, ◌&&◌, length, codes, Bool, true}
+use Rattle.std.specs.Prelude.{false, List, [], ◌∷◌, Result, Ok, Err, if◌then◌else◌}
 use Rattle.std.specs.Str.{bytes_eq}
 use Rattle.hx_script.specs.declared.errors.Reason.{Reason}
 use Rattle.hx_script.specs.declared.errors.Reason.TheVariants.{Order, Bounds}

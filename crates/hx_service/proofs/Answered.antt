@@ -1,5 +1,6 @@
 -- What the receipts of a session are after one more call of it was submitted and the world was drained.
-use Rattle.std.proofs.Common.{◌≡◌, ℕ, zero, suc, ◌+◌, ◌≤◌, inl, inr, true, false, List, [], ◌∷◌, ◌++◌, length, map, Option, Some, None, refl, sym, ap, ◌∙◌, subst, arith}
+use Rattle.std.proofs.Common.{◌≡◌, ℕ, zero, suc, ◌+◌, ◌≤◌, inl, inr, true, false, List, [], ◌∷◌, ◌++◌, length, map}
+use Rattle.std.proofs.Common.{Option, Some, None, refl, sym, ap, ◌∙◌, subst, arith}
 use Rattle.std.specs.Prelude.{drop, reverse}
 use Rattle.std.specs.List.{filter}
 use Rattle.std.proofs.lemmas.Bool.{eq-eqb}
@@ -28,15 +29,19 @@ pub drained-from : (script : Script) (old : List Entry) (n : ℕ) → (newer : L
 drained-from script old zero = ([], refl)
 drained-from script old (suc n) = by (drained-from script old n) (next_entry script (scheduled script old n))
   where
-    by : (newer : List Entry) × (scheduled script old n ≡ newer ++ old) → (o : Option Entry) → (newer : List Entry) × (with_entry (scheduled script old n) o ≡ newer ++ old)
+    by : (newer : List Entry) × (scheduled script old n ≡ newer ++ old) → (o : Option Entry) → (newer : List Entry)
+        × (with_entry (scheduled script old n) o ≡ newer ++ old)
     by p None = p
     by p (Some x) = (x ∷ p.0, ap (λ (t : List Entry). x ∷ t) p.1)
 
 -- so the older is a prefix where the oldest entry stands first
 pub prefix-of : (script : Script) (old new : List Entry) → IsDrained script (reverse old) (reverse new) → IsPrefix old new
 prefix-of script old new d =
-    let p = drained-from script (reverse old) d.0 in
-    (reverse p.0, sym (sym (reverse-reverse new) ∙ ap reverse (d.1 ∙ p.1) ∙ reverse-append p.0 (reverse old) ∙ ap (λ (l : List Entry). l ++ reverse p.0) (reverse-reverse old)))
+    let p = drained-from script (reverse old) d.0 in (
+      reverse p.0,
+      sym (sym (reverse-reverse new) ∙ ap reverse (d.1 ∙ p.1) ∙ reverse-append p.0 (reverse old)
+          ∙ ap (λ (l : List Entry). l ++ reverse p.0) (reverse-reverse old)),
+    )
 
 -- the receipts of the older stand first
 pub later-of : (newer old : List Entry) → (later : List Receipt) × (receipts_of (newer ++ old) ≡ receipts_of old ++ later)
@@ -106,8 +111,10 @@ module _ (script more : Script) (u : SessionId) (op : Op) (here : calls_of more 
       let a : length (receipts_by u new) ≡ ended_count (session_of more u new)
       = sym (mapped number_of (receipts_by u new)) ∙ ap length ((keeps more new run-new).of u).numbers ∙ length-numbers (ended_count (session_of more u new)) in
       let b : length (receipts_by u old) ≡ ended_count (session_of script u old)
-      = sym (mapped number_of (receipts_by u old)) ∙ ap length ((keeps script old run-old).of u).numbers ∙ length-numbers (ended_count (session_of script u old)) in
-      let d : length (receipts_by u new) ≡ length (receipts_by u old) + length (filter (is_by u) later) = ap length split-by ∙ length-append (receipts_by u old) (filter (is_by u) later) in
+      = sym (mapped number_of (receipts_by u old)) ∙ ap length ((keeps script old run-old).of u).numbers
+      ∙ length-numbers (ended_count (session_of script u old)) in
+      let d : length (receipts_by u new) ≡ length (receipts_by u old) + length (filter (is_by u) later) =
+      ap length split-by ∙ length-append (receipts_by u old) (filter (is_by u) later) in
       let e = ended-before in
       let f = ended-after in
       omega (arith, a, b, d, e, f)
@@ -121,7 +128,8 @@ module _ (script more : Script) (u : SessionId) (op : Op) (here : calls_of more 
   -- the next call had no receipt before
   new-caller : (r : Receipt) → IsIn r (receipts_of old) → r.caller ≡ next → ⊥
   new-caller r i e =
-      let h = (number-low old u (session_of script u old) ((keeps script old run-old).of u) r i (eq-eqb r.caller.session.0 u.0 (ap (λ (c : Caller). c.session.0) e))).1 in
+      let h = (number-low old u (session_of script u old) ((keeps script old run-old).of u) r i
+      (eq-eqb r.caller.session.0 u.0 (ap (λ (c : Caller). c.session.0) e))).1 in
       let n : number_of r ≡ length (calls_of script u) + 1 = ap (λ (c : Caller). c.number) e in
       let b = ended-before in
       omega (arith, h, n, b)

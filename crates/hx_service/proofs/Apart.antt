@@ -46,14 +46,16 @@ own : (x : Entry) (u : SessionId) → x.actor ≡ Session u → is_session u x.a
 own x u acts = ap (λ (a : Actor). is_session u a) acts ∙ eq-eqb u.0 u.0 refl
 
 pub begin-own : (older : List Entry) (x : Entry) (u : SessionId) (n : ℕ) (ns : List Note) → x.actor ≡ Session u → x.notes ≡ ns
-    → begin_of (record { session = u; number = n }) (x ∷ older) ≡ cond (begins_in n ns) (Some (length older + 1)) (begin_of (record { session = u; number = n }) older)
+    → begin_of (record { session = u; number = n }) (x ∷ older)
+    ≡ cond (begins_in n ns) (Some (length older + 1)) (begin_of (record { session = u; number = n }) older)
 begin-own older x u n ns acts e =
     let c : Caller = record { session = u; number = n } in
     ap (λ (b : Bool). cond (b && begins_in n x.notes) (Some (length older + 1)) (begin_of c older)) (own x u acts)
     ∙ ap (λ (l : List Note). cond (begins_in n l) (Some (length older + 1)) (begin_of c older)) e
 
 pub end-own : (older : List Entry) (x : Entry) (u : SessionId) (n : ℕ) (ns : List Note) → x.actor ≡ Session u → x.notes ≡ ns
-    → note_of_end (record { session = u; number = n }) (x ∷ older) ≡ first_some (ends_in (length older + 1) n ns) (note_of_end (record { session = u; number = n }) older)
+    → note_of_end (record { session = u; number = n }) (x ∷ older)
+    ≡ first_some (ends_in (length older + 1) n ns) (note_of_end (record { session = u; number = n }) older)
 end-own older x u n ns acts e =
     let c : Caller = record { session = u; number = n } in
     ap (λ (b : Bool). cond b (first_some (ends_in (length older + 1) n x.notes) (note_of_end c older)) (note_of_end c older)) (own x u acts)
@@ -88,7 +90,8 @@ among-own t u (a_note.Began n ∷ rest) = among-own t u rest
 among-own t u (a_note.Assigned update ∷ rest) = among-own t u rest
 among-own t u (a_note.Issued config ∷ rest) = among-own t u rest
 
-pub now-is : (t : List Entry) (x : Entry) (u : SessionId) (ns : List Note) → x.actor ≡ Session u → x.notes ≡ ns → receipts_now t x.actor x.notes ≡ receipts_among t u ns
+pub now-is : (t : List Entry) (x : Entry) (u : SessionId) (ns : List Note) → x.actor ≡ Session u → x.notes ≡ ns
+    → receipts_now t x.actor x.notes ≡ receipts_among t u ns
 now-is t x u ns acts e = ap (λ (a : Actor). receipts_now t a x.notes) acts ∙ ap (receipts_among t u) e
 
 pub now-own : (t : List Entry) (x : Entry) (u : SessionId) (ns : List Note) → x.actor ≡ Session u → x.notes ≡ ns

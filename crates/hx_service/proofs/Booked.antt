@@ -1,5 +1,6 @@
 -- Every run keeps what its receipts tell.
-use Rattle.std.proofs.Common.{◌≡◌, ℕ, ◌+◌, ◌-◌, ◌<◌, ◌≤◌, inl, inr, Bool, true, false, ◌||◌, List, [], ◌∷◌, ◌++◌, length, map, cond, Option, Some, None, refl, sym, ap, ◌∙◌, subst, arith, eqb}
+use Rattle.std.proofs.Common.{◌≡◌, ℕ, ◌+◌, ◌-◌, ◌<◌, ◌≤◌, inl, inr, Bool, true, false, ◌||◌, List, [], ◌∷◌, ◌++◌}
+use Rattle.std.proofs.Common.{length, map, cond, Option, Some, None, refl, sym, ap, ◌∙◌, subst, arith, eqb}
 use Rattle.std.specs.Prelude.{unwrap_or}
 use Rattle.std.specs.List.{filter}
 use Rattle.std.proofs.lemmas.Bool.{cond-true, eq-eqb, eqb-true, true≢false}
@@ -56,7 +57,8 @@ module _ (script : Script) (older : List Entry) (x : Entry) (had : Keeps script 
   now = x ∷ older
 
   -- the receipts of a session, those of the entry last
-  by-parts : (u : SessionId) → map number_of (receipts_by u now) ≡ map number_of (receipts_by u older) ++ map number_of (filter (is_by u) (receipts_now now x.actor x.notes))
+  by-parts : (u : SessionId) → map number_of (receipts_by u now) ≡ map number_of (receipts_by u older)
+      ++ map number_of (filter (is_by u) (receipts_now now x.actor x.notes))
   by-parts u =
       ap (map number_of) (filter-append (is_by u) (receipts_of older) (receipts_now now x.actor x.notes))
       ∙ map-append number_of (receipts_by u older) (filter (is_by u) (receipts_now now x.actor x.notes))
@@ -114,7 +116,8 @@ module _ (script : Script) (older : List Entry) (x : Entry) (had : Keeps script 
         let n : ℕ = s.begun + 1 in
         let here : begin_of (caller_of u (s.begun + 1)) now ≡ Some (length older + 1)
         = begin-own older x u (s.begun + 1) (a_note.Began (s.begun + 1) ∷ []) acts m.notes_are
-        ∙ ap (λ (b : Bool). cond (b || false) (Some (length older + 1)) (begin_of (caller_of u (s.begun + 1)) older)) (eq-eqb (s.begun + 1) (s.begun + 1) refl) in
+        ∙ ap (λ (b : Bool). cond (b || false) (Some (length older + 1)) (begin_of (caller_of u (s.begun + 1)) older))
+        (eq-eqb (s.begun + 1) (s.begun + 1) refl) in
         let count : ended_count t ≡ ended_count s
         = ended-is t true (s.begun + 1) m.way m.begun ∙ (let q : s.begun + 1 - 1 ≡ s.begun = omega arith in q) ∙ sym (ended-is s false s.begun m.was refl) in
         record {
@@ -190,18 +193,26 @@ module _ (script : Script) (older : List Entry) (x : Entry) (had : Keeps script 
       acted acts = elim (move script older x u step acts) [
         | inl m ↦ record { began = begin-own older x u k [] acts m.notes_are ∙ was.began; ended = end-own older x u k [] acts m.notes_are ∙ was.ended }
         | inr (inl m) ↦ record {
-          began = begin-own older x u k _ acts m.notes_are ∙ ap (λ (b : Bool). cond (b || false) (Some (length older + 1)) (begin_of r.caller older)) (apart k (s.begun + 1) (omega (arith, high, few))) ∙ was.began;
+          began = begin-own older x u k _ acts m.notes_are
+              ∙ ap (λ (b : Bool). cond (b || false) (Some (length older + 1)) (begin_of r.caller older))
+              (apart k (s.begun + 1) (omega (arith, high, few))) ∙ was.began;
           ended = end-own older x u k _ acts m.notes_are ∙ was.ended;
         }
         | inr (inr (inl m)) ↦ record {
           began = begin-own older x u k _ acts m.notes_are ∙ was.began;
           ended = end-own older x u k _ acts m.notes_are
-              ∙ ap (λ (b : Bool). first_some (cond b (Some (record { entry = length older + 1; version = m.stop.version; answer = m.stop.answer })) None) (note_of_end r.caller older)) (apart k s.begun (omega (arith, high, fewer m.was))) ∙ was.ended;
+              ∙ ap (λ (b : Bool). first_some (cond b (Some
+              (record { entry = length older + 1; version = m.stop.version; answer = m.stop.answer })) None)
+              (note_of_end r.caller older)) (apart k s.begun (omega (arith, high, fewer m.was))) ∙ was.ended;
         }
         | inr (inr (inr m)) ↦ record {
-          began = begin-own older x u k _ acts m.notes_are ∙ ap (λ (b : Bool). cond (b || false) (Some (length older + 1)) (begin_of r.caller older)) (apart k (s.begun + 1) (omega (arith, high, few))) ∙ was.began;
+          began = begin-own older x u k _ acts m.notes_are
+              ∙ ap (λ (b : Bool). cond (b || false) (Some (length older + 1)) (begin_of r.caller older))
+              (apart k (s.begun + 1) (omega (arith, high, few))) ∙ was.began;
           ended = end-own older x u k _ acts m.notes_are
-              ∙ ap (λ (b : Bool). first_some (cond b (Some (record { entry = length older + 1; version = m.stop.version; answer = m.stop.answer })) None) (note_of_end r.caller older)) (apart k (s.begun + 1) (omega (arith, high, few))) ∙ was.ended;
+              ∙ ap (λ (b : Bool). first_some (cond b (Some
+              (record { entry = length older + 1; version = m.stop.version; answer = m.stop.answer })) None)
+              (note_of_end r.caller older)) (apart k (s.begun + 1) (omega (arith, high, few))) ∙ was.ended;
         }
       ]
         where
@@ -247,7 +258,8 @@ module _ (script : Script) (older : List Entry) (x : Entry) (had : Keeps script 
           end-own older x u n ns acts e ∙ ap (λ (o : Option CallEnd). first_some o (note_of_end (caller_of u n) older)) f
           ∙ ap (λ (m : ℕ). Some (record { entry = m; version = stop.version; answer = stop.answer })) last
 
-      this : (n : ℕ) (stop : CallStop) → ends_in (length older + 1) n (a_note.Ended n stop.version stop.answer ∷ []) ≡ Some (record { entry = length older + 1; version = stop.version; answer = stop.answer })
+      this : (n : ℕ) (stop : CallStop) → ends_in (length older + 1) n (a_note.Ended n stop.version stop.answer ∷ [])
+          ≡ Some (record { entry = length older + 1; version = stop.version; answer = stop.answer })
       this n stop = cond-true (eqb n n) (Some (record { entry = length older + 1; version = stop.version; answer = stop.answer })) None (eq-eqb n n refl)
 
       only : (q : Receipt) → IsReceiptOf (x ∷ older) q → IsIn r (q ∷ []) → IsReceiptOf (x ∷ older) r
@@ -260,12 +272,14 @@ module _ (script : Script) (older : List Entry) (x : Entry) (had : Keeps script 
         | inr (inl m) ↦ absurd (subst (λ (l : List Note). IsIn r (receipts_among (x ∷ older) u l)) m.notes_are i)
         | inr (inr (inl m)) ↦ (let n = (session_of script u older).begun in let b = (had.of u).begin m.was in
             only (receipt_at (x ∷ older) (caller_of u n) m.stop.version m.stop.answer)
-            (made (x ∷ older) (caller_of u n) m.stop.version m.stop.answer b.0 (begin-own older x u n _ acts m.notes_are ∙ b.1) (noted u n m.stop _ acts m.notes_are (this n m.stop)))
+            (made (x ∷ older) (caller_of u n) m.stop.version m.stop.answer b.0
+            (begin-own older x u n _ acts m.notes_are ∙ b.1) (noted u n m.stop _ acts m.notes_are (this n m.stop)))
             (subst (λ (l : List Note). IsIn r (receipts_among (x ∷ older) u l)) m.notes_are i))
         | inr (inr (inr m)) ↦ (let n = (session_of script u older).begun + 1 in
             only (receipt_at (x ∷ older) (caller_of u n) m.stop.version m.stop.answer)
             (made (x ∷ older) (caller_of u n) m.stop.version m.stop.answer (length older + 1)
-            (begin-own older x u n _ acts m.notes_are ∙ ap (λ (b : Bool). cond (b || false) (Some (length older + 1)) (begin_of (caller_of u n) older)) (eq-eqb n n refl))
+            (begin-own older x u n _ acts m.notes_are ∙ ap
+            (λ (b : Bool). cond (b || false) (Some (length older + 1)) (begin_of (caller_of u n) older)) (eq-eqb n n refl))
             (noted u n m.stop _ acts m.notes_are (this n m.stop)))
             (subst (λ (l : List Note). IsIn r (receipts_among (x ∷ older) u l)) m.notes_are i))
       ]
@@ -306,7 +320,8 @@ among-in t u n v a (a_note.Assigned update ∷ rest) (inl e) = absurd (cc)
 among-in t u n v a (a_note.Issued config ∷ rest) (inl e) = absurd (cc)
 
 -- each call that ended has a receipt
-pub ended-booked : (t : List Entry) (c : Caller) (v : Version) (a : Answer) (n : ℕ) → EndedAt t c v a n → (r : Receipt) × IsIn r (receipts_of t) × (r.caller ≡ c)
+pub ended-booked : (t : List Entry) (c : Caller) (v : Version) (a : Answer) (n : ℕ) → EndedAt t c v a n
+    → (r : Receipt) × IsIn r (receipts_of t) × (r.caller ≡ c)
 ended-booked [] c v a n h = absurd h
 ended-booked (x ∷ older) c v a n (inr h) =
     let r = ended-booked older c v a n h in (r.0, in_left (receipts_of older) (receipts_now (x ∷ older) x.actor x.notes) r.0 r.1, r.2)

@@ -64,12 +64,15 @@ end-note (x ∷ older) c e q = by (is_session c.session x.actor) refl q (λ r. f
           noted = ap (λ (n : ℕ). ends_in n c.number x.notes) at ∙ found;
         }
 
-    by : (b : Bool) → is_session c.session x.actor ≡ b → note_of_end c (x ∷ older) ≡ Some e → (note_of_end c older ≡ Some e → EndNote (x ∷ older) c e) → EndNote (x ∷ older) c e
+    by : (b : Bool) → is_session c.session x.actor ≡ b → note_of_end c (x ∷ older) ≡ Some e
+        → (note_of_end c older ≡ Some e → EndNote (x ∷ older) c e) → EndNote (x ∷ older) c e
     by true s r below =
         here (ends_in (length older + 1) c.number x.notes) refl
-        (sym (cond-true (is_session c.session x.actor) (first_some (ends_in (length older + 1) c.number x.notes) (note_of_end c older)) (note_of_end c older) s) ∙ r) below
+        (sym (cond-true (is_session c.session x.actor)
+        (first_some (ends_in (length older + 1) c.number x.notes) (note_of_end c older)) (note_of_end c older) s) ∙ r) below
     by false s r below =
-        below (sym (cond-false (is_session c.session x.actor) (first_some (ends_in (length older + 1) c.number x.notes) (note_of_end c older)) (note_of_end c older) s) ∙ r)
+        below (sym (cond-false (is_session c.session x.actor)
+        (first_some (ends_in (length older + 1) c.number x.notes) (note_of_end c older)) (note_of_end c older) s) ∙ r)
 
 -- the same in a trace that stands oldest first
 pub end-at : (trace : List Entry) (c : Caller) (e : CallEnd) → note_of_end c (reverse trace) ≡ Some e

@@ -1,5 +1,6 @@
 -- The receipt that is found for a call.
-use Rattle.std.proofs.Common.{◌≡◌, ℕ, zero, suc, ◌-◌, Bool, true, false, ◌&&◌, List, [], ◌∷◌, length, map, cond, Option, Some, None, refl, sym, ap, ◌∙◌, subst, arith, eqb, inl, inr}
+use Rattle.std.proofs.Common.{◌≡◌, ℕ, zero, suc, ◌-◌, Bool, true, false, ◌&&◌, List, [], ◌∷◌, length, map, cond}
+use Rattle.std.proofs.Common.{Option, Some, None, refl, sym, ap, ◌∙◌, subst, arith, eqb, inl, inr}
 use Rattle.std.specs.Prelude.{drop, slice_get, take, ◌≤◌}
 use Rattle.std.proofs.Math.Seq.{take-length}
 use Rattle.std.specs.List.{find}
@@ -65,7 +66,8 @@ of-call c d e =
     let n = eqb-true d.number c.number p.1 in
     λ i. record { session = record { 0 = s i }; number = n i }
 
-module _ (script : Script) (trace : List Entry) (run : IsRun script trace) (booked : List Booked) (booked_is : booked ≡ map booked_as (receipts_of trace)) (n : ℕ)
+module _ (script : Script) (trace : List Entry) (run : IsRun script trace) (booked : List Booked)
+    (booked_is : booked ≡ map booked_as (receipts_of trace)) (n : ℕ)
     (later : List Booked) (later_is : later ≡ drop n booked) (c : Caller) where
   laters : later ≡ map booked_as (drop n (receipts_of trace))
   laters = later_is ∙ ap (drop n) booked_is ∙ drop-map booked_as n (receipts_of trace)
@@ -103,9 +105,14 @@ module _ (script : Script) (trace : List Entry) (run : IsRun script trace) (book
       → note_of_end b.caller trace ≡ Some (record { entry = b.end; version = v; answer = a })
       → IsIn (record { caller = caller; begin = begin; end = end; version = v; answer = a }) (drop n (receipts_of trace)) × (caller ≡ c)
   read-is b f caller begin end v a e g h noted =
-      let same : Some (record { entry = b.end; version = v; answer = a }) ≡ Some (record { entry = f.receipt.end; version = f.receipt.version; answer = f.receipt.answer })
+      let same : Some (record { entry = b.end; version = v; answer = a })
+      ≡ Some (record { entry = f.receipt.end; version = f.receipt.version; answer = f.receipt.answer })
       = sym noted ∙ ap (λ (d : Booked). note_of_end d.caller trace) f.booked_so ∙ f.ended in
-      let p : (record { entry = b.end; version = v; answer = a }) ≡ record { entry = f.receipt.end; version = f.receipt.version; answer = f.receipt.answer } = cc in
+      let p : (record { entry = b.end; version = v; answer = a }) ≡ record {
+        entry = f.receipt.end;
+        version = f.receipt.version;
+        answer = f.receipt.answer;
+      } = cc in
       let vs : v ≡ f.receipt.version = ap (λ (d : CallEnd). d.version) p in
       let answers : a ≡ f.receipt.answer = ap (λ (d : CallEnd). d.answer) p in
       let cs : caller ≡ f.receipt.caller = e ∙ ap (λ (d : Booked). d.caller) f.booked_so in
@@ -133,7 +140,8 @@ pub record Placed (trace : List Entry) (place : ℕ) (b : Booked) : Type 0 where
   pub booked_so : b ≡ booked_as receipt
   pub ended : note_of_end receipt.caller trace ≡ Some (record { entry = receipt.end; version = receipt.version; answer = receipt.answer })
 
-pub placed : (trace : List Entry) (booked : List Booked) → AreReceipts trace booked → (place : ℕ) (b : Booked) → slice_get booked place ≡ Some b → Placed trace place b
+pub placed : (trace : List Entry) (booked : List Booked) → AreReceipts trace booked → (place : ℕ) (b : Booked)
+    → slice_get booked place ≡ Some b → Placed trace place b
 placed trace booked a place b e = by (slice_get (receipts_of trace) place) refl
   where
     brought : option_map booked_as (slice_get (receipts_of trace) place) ≡ Some b
@@ -168,7 +176,8 @@ read-at trace place b p caller begin end v a e g h noted =
     ap (λ (x : Receipt). Some x) t ∙ sym p.stands
 
 -- past the end there is none
-pub none-at : (trace : List Entry) (booked : List Booked) → AreReceipts trace booked → (place : ℕ) → length booked ≤ place → None ≡ slice_get (receipts_of trace) place
+pub none-at : (trace : List Entry) (booked : List Booked) → AreReceipts trace booked → (place : ℕ)
+    → length booked ≤ place → None ≡ slice_get (receipts_of trace) place
 none-at trace booked a place le =
     let q : length booked ≡ length (receipts_of trace) = ap length a.booked_is ∙ mapped booked_as (receipts_of trace) in
     sym (past (receipts_of trace) place (omega (arith, q, le)))

@@ -1,5 +1,6 @@
 -- Which sessions are free.
-use Rattle.std.proofs.Common.{◌≡◌, ℕ, ◌-◌, ◌<◌, ◌≤◌, zero, suc, Bool, true, false, List, [], ◌∷◌, length, cond, Option, Some, None, refl, sym, ap, ◌∙◌, subst, arith, eqb}
+use Rattle.std.proofs.Common.{◌≡◌, ℕ, ◌-◌, ◌<◌, ◌≤◌, zero, suc, Bool, true, false, List, [], ◌∷◌, length, cond, Option}
+use Rattle.std.proofs.Common.{Some, None, refl, sym, ap, ◌∙◌, subst, arith, eqb}
 use Rattle.std.specs.Prelude.{IsSome, is_none, slice_get}
 use Rattle.std.proofs.lemmas.Bool.{and_from, and_parts, eq-eqb, eqb-true, true≢false}
 use Rattle.hx_model.specs.Types.{Actor, Coordinator, Entry, Op, Script, Server, Session, SessionId}
@@ -23,7 +24,8 @@ pub within : (script : Script) (u : SessionId) (t : List Entry) → Within (call
 within script u [] = record { calls_stay = refl; within = omega arith }
 within script u (x ∷ older) = by (within script u older) x.actor
   where
-    after : Within (calls_of script u) (session_of script u older) → Within (calls_of script u) (session_step script.space (session_of script u older) x.input).state
+    after : Within (calls_of script u) (session_of script u older)
+        → Within (calls_of script u) (session_step script.space (session_of script u older) x.input).state
     after before =
         let s = session_of script u older in
         let w = steps script.space s x.input (subst (λ (l : List Op). s.begun ≤ length l) (sym before.calls_stay) before.within) in
@@ -34,7 +36,8 @@ within script u (x ∷ older) = by (within script u older) x.actor
     cases before true = after before
     cases before false = before
 
-    by : Within (calls_of script u) (session_of script u older) → (a : Actor) → Within (calls_of script u) (session_after script.space u a x.input (session_of script u older))
+    by : Within (calls_of script u) (session_of script u older) → (a : Actor)
+        → Within (calls_of script u) (session_after script.space u a x.input (session_of script u older))
     by before Coordinator = before
     by before (Server s) = before
     by before (Session w) = cases before (same_session w u)
@@ -93,7 +96,9 @@ module _ (script : Script) (trace : List Entry) (run : IsRun script trace) (u : 
           all : (n : ℕ) → length (calls_of script u) ≡ n → length (calls_of script u) ≤ ended_count s
           all zero e = omega (arith, e)
           all (suc n) e =
-              let r = ended-number (length (calls_of script u)) (free (length (calls_of script u)) (there (calls_of script u) (length (calls_of script u)) (omega (arith, e)) (omega arith))) in r.1
+              let r = ended-number (length (calls_of script u))
+              (free (length (calls_of script u)) (there (calls_of script u) (length (calls_of script u))
+              (omega (arith, e)) (omega arith))) in r.1
 
       few : (ended_count s ≤ s.begun) × (s.under_way ≡ true → ended_count s < s.begun)
       few = few-ended s (k.of u).low
@@ -133,7 +138,8 @@ free-told script trace run u p calls e f = (λ r. told r, λ r. tells ((free_ses
         by : (b : Bool) → (session_of script u trace).under_way ≡ b → IsAtRest script trace u
         by true w =
             let b = k.begin w in
-            let q : p.under_way ≡ Some b.0 = ap (λ (x : Progress). x.under_way) same ∙ ap (λ (t : Bool). cond t (begin_of (caller_of u (session_of script u trace).begun) trace) None) w ∙ b.1 in
+            let q : p.under_way ≡ Some b.0 = ap (λ (x : Progress). x.under_way) same
+            ∙ ap (λ (t : Bool). cond t (begin_of (caller_of u (session_of script u trace).begun) trace) None) w ∙ b.1 in
             absurd (true≢false (sym parts.0 ∙ ap (λ (o : Option ℕ). is_none o) q))
         by false w = record {
           ended = w;
@@ -143,7 +149,8 @@ free-told script trace run u p calls e f = (λ r. told r, λ r. tells ((free_ses
     tells : IsAtRest script trace u → is_resting p calls ≡ true
     tells r =
         let same : p ≡ progress_by trace u (session_of script u trace) = e ∙ ((keeps script trace run).of u).progress in
-        let way : p.under_way ≡ None = ap (λ (x : Progress). x.under_way) same ∙ ap (λ (t : Bool). cond t (begin_of (caller_of u (session_of script u trace).begun) trace) None) r.ended in
+        let way : p.under_way ≡ None = ap (λ (x : Progress). x.under_way) same
+        ∙ ap (λ (t : Bool). cond t (begin_of (caller_of u (session_of script u trace).begun) trace) None) r.ended in
         and_from (is_none p.under_way) (eqb p.begun calls) (ap (λ (o : Option ℕ). is_none o) way)
         (eq-eqb p.begun calls (ap (λ (x : Progress). x.begun) same ∙ r.begun ∙ sym f))
 

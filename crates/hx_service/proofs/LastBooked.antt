@@ -1,5 +1,6 @@
 -- What booking the newest entry of a run leaves.
-use Rattle.std.proofs.Common.{◌≡◌, ℕ, ◌+◌, ◌-◌, ◌<◌, ◌≤◌, inl, inr, zero, suc, Bool, true, false, ◌||◌, List, [], ◌∷◌, ◌++◌, length, map, cond, Option, Some, refl, sym, ap, ◌∙◌, subst, arith, eqb}
+use Rattle.std.proofs.Common.{◌≡◌, ℕ, ◌+◌, ◌-◌, ◌<◌, ◌≤◌, inl, inr, zero, suc, Bool, true, false, ◌||◌, List, [], ◌∷◌}
+use Rattle.std.proofs.Common.{◌++◌, length, map, cond, Option, Some, refl, sym, ap, ◌∙◌, subst, arith, eqb}
 use Rattle.std.specs.Prelude.{reverse, slice_get, slice_set, unwrap_or}
 use Rattle.std.proofs.lemmas.Bool.{eq-eqb, eqb-true}
 use Rattle.std.proofs.lemmas.List.{append-nil, length-reverse, map-append, reverse-append, reverse-reverse}
@@ -84,13 +85,15 @@ module _ (script : Script) (trace : List Entry) (progress : List Progress) (book
         subst (λ (t : List Entry). AreProgress (length script.sessions) t progress) (sym lacks.trace_is)
         (record {
           count = lacks.progress_is.count;
-          each = λ place lt. lacks.progress_is.each place lt ∙ ap (λ (p : Progress). Some p) (sym (progress-apart older x (session_at place) (apart (session_at place))));
+          each = λ place lt. lacks.progress_is.each place lt
+              ∙ ap (λ (p : Progress). Some p) (sym (progress-apart older x (session_at place) (apart (session_at place))));
         })
 
     pub booked-stays : booked ≡ map booked_as (receipts_of (reverse trace))
     booked-stays =
         lacks.booked_is
-        ∙ ap (map booked_as) (sym (append-nil (receipts_of older)) ∙ ap (λ l. receipts_of older ++ l) (sym (nothing-now x.actor apart)) ∙ sym (ap receipts_of lacks.trace_is))
+        ∙ ap (map booked_as) (sym (append-nil (receipts_of older))
+        ∙ ap (λ l. receipts_of older ++ l) (sym (nothing-now x.actor apart)) ∙ sym (ap receipts_of lacks.trace_is))
 
   -- a session's entry
   module _ (u : SessionId) (acts : e.actor ≡ Session u) where
@@ -168,7 +171,8 @@ module _ (script : Script) (trace : List Entry) (progress : List Progress) (book
       where
         at : (ns : List Note) → x.notes ≡ ns → map booked_as (receipts_among (x ∷ older) u ns) ≡ booked_among u (length older + 1) ns (progress_of u older)
             → map booked_as (receipts_among (x ∷ older) u x.notes) ≡ booked_among u (length older + 1) x.notes (progress_of u older)
-        at ns f g = subst (λ (l : List Note). map booked_as (receipts_among (x ∷ older) u l) ≡ booked_among u (length older + 1) l (progress_of u older)) (sym f) g
+        at ns f g = subst (λ (l : List Note). map booked_as (receipts_among (x ∷ older) u l)
+            ≡ booked_among u (length older + 1) l (progress_of u older)) (sym f) g
 
         single : ℕ → ℕ → ℕ → List Booked
         single k b n = record { caller = caller_of u k; begin = b; end = n } ∷ []
@@ -191,7 +195,8 @@ module _ (script : Script) (trace : List Entry) (progress : List Progress) (book
             (one (s.begun + 1) (unwrap_or (begin_of (caller_of u (s.begun + 1)) (x ∷ older)) 0) (length older + 1)
             (ap (λ (o : Option ℕ). unwrap_or o 0)
             (begin-own older x u (s.begun + 1) _ acted m.notes_are
-            ∙ ap (λ (b : Bool). cond (b || false) (Some (length older + 1)) (begin_of (caller_of u (s.begun + 1)) older)) (eq-eqb (s.begun + 1) (s.begun + 1) refl))))
+            ∙ ap (λ (b : Bool). cond (b || false) (Some (length older + 1))
+            (begin_of (caller_of u (s.begun + 1)) older)) (eq-eqb (s.begun + 1) (s.begun + 1) refl))))
 
     pub booked-now : (p : Progress) (b : List Booked) → slice_get progress (u.0 - 1) ≡ Some p → b ≡ booked ++ booked_among u n e.notes p
         → b ≡ map booked_as (receipts_of (reverse trace))

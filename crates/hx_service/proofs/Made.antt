@@ -85,8 +85,10 @@ one old new u op r actor answered grows =
 pub free-after : (old new : ServiceState) (u : SessionId) (op : Op) (r : Receipt) → is_actor old.script (Session u) ≡ true → IsAnswered old u op new r
     → IsRun new.script (newest new) → IsFree new.script (newest new) u
 free-after old new u op r actor answered run number some =
-    let calls : calls_of new.script u ≡ calls_of old.script u ++ op ∷ [] = ap (λ (s : Script). calls_of s u) answered.submitted ∙ (calls_grow old.script u op actor).here in
-    let long : length (calls_of new.script u) ≡ length (calls_of old.script u) + 1 = ap (λ (l : List Op). length l) calls ∙ length-append (calls_of old.script u) (op ∷ []) in
+    let calls : calls_of new.script u ≡ calls_of old.script u ++ op ∷ [] =
+    ap (λ (s : Script). calls_of s u) answered.submitted ∙ (calls_grow old.script u op actor).here in
+    let long : length (calls_of new.script u) ≡ length (calls_of old.script u) + 1 =
+    ap (λ (l : List Op). length l) calls ∙ length-append (calls_of old.script u) (op ∷ []) in
     let n = number-high (calls_of new.script u) number some in
     let low : 0 < number = n.0 in
     let high : number ≤ length (calls_of new.script u) = n.1 in
@@ -101,7 +103,8 @@ pub answered-call : (old new : ServiceState) (u : SessionId) (op : Op) (r : Rece
     → call_of new.script r.caller ≡ Some op
 answered-call old new u op r actor answered =
     ap (call_of new.script) answered.caller
-    ∙ ap (λ (l : List Op). numbered l (length (calls_of old.script u) + 1)) (ap (λ (s : Script). calls_of s u) answered.submitted ∙ (calls_grow old.script u op actor).here)
+    ∙ ap (λ (l : List Op). numbered l (length (calls_of old.script u) + 1))
+    (ap (λ (s : Script). calls_of s u) answered.submitted ∙ (calls_grow old.script u op actor).here)
     ∙ next-behind (calls_of old.script u) (op ∷ [])
 
 -- one put more that was done, or left
@@ -141,7 +144,8 @@ pub few-made : (old new : ServiceState) (u : SessionId) (ops : List Op) (receipt
     → HasMade old u ops new receipts → length receipts ≤ MOST_CALLS
 few-made old new u ops receipts actor valid made =
     let a = few_calls_of new.script u actor in
-    let b : length (calls_of new.script u) ≡ length (calls_of old.script u) + length ops = ap (λ (l : List Op). length l) made.calls ∙ length-append (calls_of old.script u) ops in
+    let b : length (calls_of new.script u) ≡ length (calls_of old.script u) + length ops =
+    ap (λ (l : List Op). length l) made.calls ∙ length-append (calls_of old.script u) ops in
     let c : calls_in new.script ≤ MOST_CALLS = valid.few_calls in
     let d = made.each in
     omega (arith, a, b, c, d)

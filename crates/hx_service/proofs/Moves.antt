@@ -64,7 +64,8 @@ module _ (script : Script) (older : List Entry) (x : Entry) (u : SessionId) (ste
   pub move : Move before after x.notes
   move = by turn.start refl turn.turn.stop refl
     where
-      noted : (b : Bool) → turn.start ≡ b → (o : Option CallStop) → turn.turn.stop ≡ o → x.notes ≡ began_notes b (before.begun + 1) ++ end_notes (started b before).begun o
+      noted : (b : Bool) → turn.start ≡ b → (o : Option CallStop) → turn.turn.stop ≡ o
+          → x.notes ≡ began_notes b (before.begun + 1) ++ end_notes (started b before).begun o
       noted b e o f =
           all_notes x.input before _ turn
           ∙ ap (λ (k : Bool). began_notes k (before.begun + 1) ++ end_notes (started k before).begun turn.turn.stop) e

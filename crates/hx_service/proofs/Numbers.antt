@@ -19,11 +19,12 @@ numbers-last n low =
 -- what stands among them
 pub in-numbers : (n k : ℕ) → IsIn k (numbers_to n) → (0 < k) × (k ≤ n)
 in-numbers zero k i = absurd i
-in-numbers (suc n) k i = elim (in-append (numbers_to n) ((n + 1) ∷ []) k (subst (λ (l : List ℕ). IsIn k l) (map-append (λ (place : ℕ). place + 1) (below n) (n ∷ [])) i)) [
-  | inl j ↦ (let r = in-numbers n k j in (r.0, (let h : k ≤ n = r.1 in omega (arith, h))))
-  | inr (inl e) ↦ (omega (arith, e), omega (arith, e))
-  | inr (inr j) ↦ absurd j
-]
+in-numbers (suc n) k i = elim (in-append (numbers_to n) ((n + 1) ∷ []) k
+    (subst (λ (l : List ℕ). IsIn k l) (map-append (λ (place : ℕ). place + 1) (below n) (n ∷ [])) i)) [
+      | inl j ↦ (let r = in-numbers n k j in (r.0, (let h : k ≤ n = r.1 in omega (arith, h))))
+      | inr (inl e) ↦ (omega (arith, e), omega (arith, e))
+      | inr (inr j) ↦ absurd j
+    ]
 
 -- and stands among them
 pub numbers-in : (n k : ℕ) → 0 < k → k ≤ n → IsIn k (numbers_to n)

@@ -27,7 +27,8 @@ full-exact old u op new (Ok r) h = (λ e. absurd (cc), λ e. absurd (let l : cal
 full-exact old u op new (Err an_error.Memory) h = (λ e. absurd (cc), λ e. absurd (let l : calls_in old.script < MOST_CALLS = h.few in omega (arith, l, e)))
 full-exact old u op new (Err an_error.Full) h = (λ e. h.most, λ e. refl)
 full-exact old u op new (Err (an_error.Worn a)) h = (λ e. absurd (cc), λ e. absurd (let l : calls_in old.script < MOST_CALLS = h.1 in omega (arith, l, e)))
-full-exact old u op new (Err (an_error.Unanswered n)) h = (λ e. absurd (cc), λ e. absurd (let l : calls_in old.script < MOST_CALLS = h.1 in omega (arith, l, e)))
+full-exact old u op new (Err (an_error.Unanswered n)) h =
+    (λ e. absurd (cc), λ e. absurd (let l : calls_in old.script < MOST_CALLS = h.1 in omega (arith, l, e)))
 
 module _ (old : ServiceState) (u : SessionId) (op : Op) (new : ServiceState) (actor : is_actor old.script (Session u) ≡ true) where
   -- a script isn't the one with a call more
@@ -50,7 +51,10 @@ module _ (old : ServiceState) (u : SessionId) (op : Op) (new : ServiceState) (ac
     ]),
   )
   unanswered-exact (Err an_error.Full) h n = (λ e. absurd (cc), λ w. absurd (not-same h.same w.submitted))
-  unanswered-exact (Err (an_error.Worn a)) h n = (λ e. absurd (cc), λ w. absurd (let x = h.0.worn_out.next in let q = w.quiet in by (next_entry new.script (newest new)) x q))
+  unanswered-exact (Err (an_error.Worn a)) h n = (
+    λ e. absurd (cc),
+    λ w. absurd (let x = h.0.worn_out.next in let q = w.quiet in by (next_entry new.script (newest new)) x q),
+  )
     where
       by : (o : Option Entry) → IsSomeAnd o (λ (x : Entry). x.actor ≡ a) → o ≡ None → ⊥
       by None x q = x

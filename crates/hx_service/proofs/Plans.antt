@@ -1,5 +1,6 @@
 -- The next call of a plan.
-use Rattle.std.proofs.Common.{◌≡◌, ℕ, zero, suc, ◌+◌, ◌<◌, ◌≤◌, inl, inr, Bool, true, false, List, [], ◌∷◌, ◌++◌, length, Option, Some, None, refl, sym, ap, ◌∙◌, subst, arith, eqb}
+use Rattle.std.proofs.Common.{◌≡◌, ℕ, zero, suc, ◌+◌, ◌<◌, ◌≤◌, inl, inr, Bool, true, false, List, [], ◌∷◌, ◌++◌}
+use Rattle.std.proofs.Common.{length, Option, Some, None, refl, sym, ap, ◌∙◌, subst, arith, eqb}
 use Rattle.std.specs.Prelude.{Result, nat_le, nat_lt, slice_get, sum_by, ◌&&◌, ◌-◌}
 use Rattle.std.proofs.lemmas.Bool.{eq-eqb, eqb-true, true≢false}
 use Rattle.std.proofs.lemmas.List.{append-nil, append_assoc, length-append}
@@ -49,7 +50,8 @@ module _ (script plan : Script) (g : GrowsTo script plan) (u : SessionId) where
 
   -- where there is none all were submitted
   pub none-left : call_of plan (next_caller script u) ≡ None → calls_of script u ≡ calls_of plan u
-  none-left e = let q = none-first rest (sym next-is ∙ e) in sym (append-nil (calls_of script u)) ∙ ap (λ (l : List Op). calls_of script u ++ l) (sym q) ∙ (g.calls u).1
+  none-left e = let q = none-first rest (sym next-is ∙ e) in
+      sym (append-nil (calls_of script u)) ∙ ap (λ (l : List Op). calls_of script u ++ l) (sym q) ∙ (g.calls u).1
 
   module _ (op : Op) (actor : is_actor script (Session u) ≡ true) (planned : call_of plan (next_caller script u) ≡ Some op) where
     -- with it the script still grows to the plan
@@ -68,7 +70,8 @@ module _ (script plan : Script) (g : GrowsTo script plan) (u : SessionId) where
             )
 
         by : (v : SessionId) → (b : Bool) → eqb v.0 u.0 ≡ b → IsPrefix (calls_of (with_call_of script u op) v) (calls_of plan v)
-        by v true e = subst (λ (w : SessionId). IsPrefix (calls_of (with_call_of script u op) w) (calls_of plan w)) (sym (same_session v u (eqb-true v.0 u.0 e))) here
+        by v true e = subst (λ (w : SessionId). IsPrefix (calls_of (with_call_of script u op) w) (calls_of plan w))
+            (sym (same_session v u (eqb-true v.0 u.0 e))) here
         by v false e =
             let ne : v ≡ u → ⊥ = λ q. true≢false (sym (eq-eqb v.0 u.0 (ap (λ (w : SessionId). w.0) q)) ∙ e) in
             subst (λ (l : List Op). IsPrefix l (calls_of plan v)) (sym ((calls_grow script u op actor).elsewhere v ne)) (g.calls v)
@@ -90,7 +93,8 @@ sum-grows (x ∷ xs) (y ∷ ys) e f =
 
 -- a script that grows has no fewer calls
 pub calls-grow-in : (a b : Script) → GrowsTo a b → calls_in a ≤ calls_in b
-calls-grow-in a b g = sum-grows a.sessions b.sessions (sym g.sessions) (λ i. longer (calls_at a.sessions i) (calls_at b.sessions i) (g.calls (record { 0 = suc i })))
+calls-grow-in a b g = sum-grows a.sessions b.sessions (sym g.sessions)
+    (λ i. longer (calls_at a.sessions i) (calls_at b.sessions i) (g.calls (record { 0 = suc i })))
   where
     longer : (xs ys : List Op) → IsPrefix xs ys → length xs ≤ length ys
     longer xs ys p = let q = ap length p.1 in let r = length-append xs p.0 in omega (arith, q, r)

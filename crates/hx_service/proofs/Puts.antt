@@ -39,7 +39,8 @@ module _ (old : ServiceState) (u : SessionId) (sets : List Assign) where
   fits-here may r row op e = subst (Fits old.script.space) (sym e) (put-fits old.script.space r row sets may.sets_fit may.some)
 
   -- after a call that was answered more can be put
-  pub may-on : (new : ServiceState) (op : Op) (r : Receipt) → is_actor old.script (Session u) ≡ true → IsAnswered old u op new r → IsRun new.script (newest new) → Grows old new
+  pub may-on : (new : ServiceState) (op : Op) (r : Receipt) → is_actor old.script (Session u) ≡ true
+      → IsAnswered old u op new r → IsRun new.script (newest new) → Grows old new
       → AssignsFit old.script.space sets → 0 < length sets → MayPut new u sets
   may-on new op r actor answered run grows fit some = record {
     session = actor-on old new u grows actor;
@@ -50,12 +51,14 @@ module _ (old : ServiceState) (u : SessionId) (sets : List Assign) where
   }
 
   -- the same by a call's result
-  pub made-ok : (new : ServiceState) (op : Op) (r : Row) → op ≡ put_of sets r → MayPut old u sets → Grows old new → (result : Result Receipt ServiceError) → Calls old u op new result
+  pub made-ok : (new : ServiceState) (op : Op) (r : Row) → op ≡ put_of sets r → MayPut old u sets → Grows old new
+      → (result : Result Receipt ServiceError) → Calls old u op new result
       → IfOk result (λ (x : Receipt). HasMade old u (put_of sets r ∷ []) new (x ∷ []))
   made-ok new op r e may grows (Ok x) calls = subst (λ (o : Op). HasMade old u (o ∷ []) new (x ∷ [])) e (one old new u op x may.session calls.0 grows)
   made-ok new op r e may grows (Err y) calls = tt
 
-  pub may-ok : (new : ServiceState) (op : Op) → MayPut old u sets → Grows old new → IsRun new.script (newest new) → (result : Result Receipt ServiceError) → Calls old u op new result
+  pub may-ok : (new : ServiceState) (op : Op) → MayPut old u sets → Grows old new → IsRun new.script (newest new)
+      → (result : Result Receipt ServiceError) → Calls old u op new result
       → IfOk result (λ (x : Receipt). MayPut new u sets)
   may-ok new op may grows run (Ok x) calls = may-on new op x may.session calls.0 run grows may.sets_fit may.some
   may-ok new op may grows run (Err y) calls = tt
@@ -69,7 +72,8 @@ module _ (old : ServiceState) (u : SessionId) (sets : List Assign) where
   }
 
   -- a row to come is of the space
-  pub row-here : (rows rest after : List Row) (row : Row) (now : ServiceState) (g : Grouped) → IsUpTo old u sets rows rest now g → rest ≡ row ∷ after → All (IsRowOf old.script.space) rows
+  pub row-here : (rows rest after : List Row) (row : Row) (now : ServiceState) (g : Grouped)
+      → IsUpTo old u sets rows rest now g → rest ≡ row ∷ after → All (IsRowOf old.script.space) rows
       → IsRowOf now.script.space row
   row-here rows rest after row now g before e fit =
       let up = subst (λ (xs : List Row). IsUpTo old u sets rows xs now g) e before in
@@ -82,8 +86,10 @@ module _ (old : ServiceState) (u : SessionId) (sets : List Assign) where
   map-append (x ∷ xs) ys = ap (λ l. put_of sets x ∷ l) (map-append xs ys)
 
   -- one row more
-  pub further : (rows rest after : List Row) (row : Row) (now new : ServiceState) (g h : Grouped) (r : Receipt) → IsUpTo old u sets rows rest now g → rest ≡ row ∷ after
-      → HasMade now u (put_of sets row ∷ []) new (r ∷ []) → MayPut new u sets → h.done ≡ g.done + cond (is_done r.answer) 1 0 → h.left ≡ g.left + cond (is_done r.answer) 0 1
+  pub further : (rows rest after : List Row) (row : Row) (now new : ServiceState) (g h : Grouped) (r : Receipt)
+      → IsUpTo old u sets rows rest now g → rest ≡ row ∷ after
+      → HasMade now u (put_of sets row ∷ []) new (r ∷ []) → MayPut new u sets
+      → h.done ≡ g.done + cond (is_done r.answer) 1 0 → h.left ≡ g.left + cond (is_done r.answer) 0 1
       → IsUpTo old u sets rows after new h
   further rows rest after row now new g h r here e made may done left =
       let up = subst (λ (xs : List Row). IsUpTo old u sets rows xs now g) e here in
@@ -103,11 +109,14 @@ module _ (old : ServiceState) (u : SessionId) (sets : List Assign) where
       }
 
   -- there is room to count it
-  pub room : (rows rest after : List Row) (row : Row) (now new : ServiceState) (g : Grouped) (r : Receipt) → IsUpTo old u sets rows rest now g → rest ≡ row ∷ after
+  pub room : (rows rest after : List Row) (row : Row) (now new : ServiceState) (g : Grouped) (r : Receipt)
+      → IsUpTo old u sets rows rest now g → rest ≡ row ∷ after
       → HasMade now u (put_of sets row ∷ []) new (r ∷ []) → MayPut new u sets → IsScript new.script → g.done + g.left < MOST_CALLS
   room rows rest after row now new g r up e made may valid =
       let both = joined old now new u (map (put_of sets) up.before) (put_of sets row ∷ []) up.put.puts (r ∷ []) up.put.made made in
-      let few : length (up.put.puts ++ r ∷ []) ≤ MOST_CALLS = few-made old new u (map (put_of sets) up.before ++ put_of sets row ∷ []) (up.put.puts ++ r ∷ []) may.session valid both in
+      let few : length (up.put.puts ++ r ∷ []) ≤ MOST_CALLS =
+      few-made old new u (map (put_of sets) up.before ++ put_of sets row ∷ [])
+      (up.put.puts ++ r ∷ []) may.session valid both in
       let long = length-append up.put.puts (r ∷ []) in
       let all = all-counted up.put.puts in
       let d = up.put.counts.done in
@@ -134,7 +143,8 @@ module _ (old : ServiceState) (u : SessionId) (sets : List Assign) where
       without-rows g none done left may = record {
         search = r;
         puts = [];
-        made = subst (λ (rows : List Row). HasMade old u (Search terms ∷ map (put_of sets) rows) mid (r ∷ [])) (sym (ap (λ o. when_some o [] (λ (rows : List Row). rows)) none)) made;
+        made = subst (λ (rows : List Row). HasMade old u (Search terms ∷ map (put_of sets) rows) mid (r ∷ []))
+            (sym (ap (λ o. when_some o [] (λ (rows : List Row). rows)) none)) made;
         counts = record { done = done; left = left };
         quiet = may.quiet;
         free = may.free;
@@ -156,7 +166,8 @@ module _ (old : ServiceState) (u : SessionId) (sets : List Assign) where
           free = put.may.free;
         }
 
-        pub all-grouped : (new : ServiceState) (result : Result Grouped ServiceError) → IfOk result (ArePut mid u sets rows new) → IfOk result (IsGrouped old u terms sets new)
+        pub all-grouped : (new : ServiceState) (result : Result Grouped ServiceError)
+            → IfOk result (ArePut mid u sets rows new) → IfOk result (IsGrouped old u terms sets new)
         all-grouped new (Ok g) put = all-put new g put
         all-grouped new (Err e) put = tt
 
@@ -178,7 +189,8 @@ module _ (old : ServiceState) (u : SessionId) (sets : List Assign) where
           grows = stop.grows;
         }
 
-        pub all-stopped : (new : ServiceState) (result : Result Grouped ServiceError) → IfErr result (StopPutting mid u sets rows new) → IfErr result (IsStopped old u terms sets new)
+        pub all-stopped : (new : ServiceState) (result : Result Grouped ServiceError)
+            → IfErr result (StopPutting mid u sets rows new) → IfErr result (IsStopped old u terms sets new)
         all-stopped new (Ok g) stop = tt
         all-stopped new (Err e) stop = stopped-midst new e stop
 
@@ -200,7 +212,8 @@ no-rows an_answer.Overflow n = refl
 no-rows an_answer.TooLong n = refl
 
 -- the rows that a search was answered are of the space
-pub rows-here : (old new : ServiceState) (u : SessionId) (terms : List Term) (r : Receipt) (rows : List Row) → is_actor old.script (Session u) ≡ true → IsAnswered old u (Search terms) new r
+pub rows-here : (old new : ServiceState) (u : SessionId) (terms : List Term) (r : Receipt) (rows : List Row)
+    → is_actor old.script (Session u) ≡ true → IsAnswered old u (Search terms) new r
     → IsScript new.script → IsLawful new.script (newest new) → r.answer ≡ an_answer.Rows rows → All (IsRowOf new.script.space) rows
 rows-here old new u terms r rows actor answered valid lawful answer =
     rows-fit new.script valid (newest new) lawful terms rows r (answered-call old new u (Search terms) r actor answered) answered.receipt answer

@@ -20,7 +20,8 @@ next-served old mid new same script made law run served =
     (subst (λ (w : WorldState). IsServed (reverse w.trace)) (sym same) served))
 
 -- one more entry
-pub drained-more : (script : Script) (old mid new : List Entry) (made : Bool) → IsDrained script old mid → Advances script mid new made → IsDrained script old new
+pub drained-more : (script : Script) (old mid new : List Entry) (made : Bool) → IsDrained script old mid
+    → Advances script mid new made → IsDrained script old new
 drained-more script old mid new made before advances =
     (suc before.0, advances.trace ∙ ap (λ (t : List Entry). with_entry t (next_entry script t)) before.1)
 

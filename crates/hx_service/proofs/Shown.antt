@@ -21,7 +21,8 @@ cut-in newer (x ∷ older) c (inl e) = inl (ap (λ (d : ItemWithNewer). d.item) 
 cut-in newer (x ∷ older) c (inr i) = inr (cut-in (x ∷ newer) older c i)
 
 -- the object after items whose operations fit is of the space
-object-after : (space : Space) (items : List Item) → IsLegal space items → ((x : Item) → IsIn x items → Fits space x.op) → IsMaybeObjectOf space (object_now items)
+object-after : (space : Space) (items : List Item) → IsLegal space items
+    → ((x : Item) → IsIn x items → Fits space x.op) → IsMaybeObjectOf space (object_now items)
 object-after space [] legal fit = tt
 object-after space (x ∷ older) legal fit =
     subst (IsMaybeObjectOf space) (sym legal.0.object)
@@ -37,9 +38,12 @@ object-of space (y ∷ older) legal fit x (inr i) = object-of space older legal.
 -- each call of a script fits its space
 call-fits : (script : Script) → IsScript script → (c : Caller) (op : Op) → call_of script c ≡ Some op → Fits script.space op
 call-fits script valid c op =
-    when_some_both (numbered script.sessions c.session.0) [] (λ (calls : List Op). calls) (λ (calls : List Op). numbered calls c.number ≡ Some op → Fits script.space op)
+    when_some_both (numbered script.sessions c.session.0) [] (λ (calls : List Op). calls)
+    (λ (calls : List Op). numbered calls c.number ≡ Some op → Fits script.space op)
     (λ e. none c.number)
-    (λ (calls : List Op) e f. all-in (Fits script.space) calls op (all-in (λ (cs : List Op). All (Fits script.space) cs) script.sessions calls valid.calls (numbered-in script.sessions c.session.0 calls e)) (numbered-in calls c.number op f))
+    (λ (calls : List Op) e f. all-in (Fits script.space) calls op
+    (all-in (λ (cs : List Op). All (Fits script.space) cs) script.sessions calls valid.calls
+    (numbered-in script.sessions c.session.0 calls e)) (numbered-in calls c.number op f))
   where
     none : (n : ℕ) → numbered [] n ≡ Some op → Fits script.space op
     none zero f = absurd (cc)
@@ -54,7 +58,8 @@ module _ (script : Script) (valid : IsScript script) (trace : List Entry) (lawfu
   row-fits : (s : FinishedSearch) (r : Row) → IsTrueRow script trace s r → IsRowOf script.space r
   row-fits s r t =
       let linear = lawful.linear r.key in
-      let fit : (x : Item) → IsIn x (history_of script r.key trace) → Fits script.space x.op = λ x i. call-fits script valid x.caller x.op (linear.honest.calls x i).called in
+      let fit : (x : Item) → IsIn x (history_of script r.key trace) → Fits script.space x.op =
+      λ x i. call-fits script valid x.caller x.op (linear.honest.calls x i).called in
       let i = cut-in [] (history_of script r.key trace) t.cut t.stands in
       record {
         key = fits-key script.space t.cut.item.op r.key (fit t.cut.item i) (linear.honest.calls t.cut.item i).on_key;
@@ -62,12 +67,14 @@ module _ (script : Script) (valid : IsScript script) (trace : List Entry) (lawfu
       }
 
   -- a search that was answered with rows is finished
-  finished : (terms : List Term) (rows : List Row) (r : Receipt) → call_of script r.caller ≡ Some (Search terms) → IsReceiptOf trace r → r.answer ≡ an_answer.Rows rows
+  finished : (terms : List Term) (rows : List Row) (r : Receipt) → call_of script r.caller ≡ Some (Search terms)
+      → IsReceiptOf trace r → r.answer ≡ an_answer.Rows rows
       → search_of script trace r.caller ≡ Some (record { terms = terms; begin = r.begin; end = r.end; rows = rows })
   finished terms rows r called receipt answer = rw called (rw receipt.began (rw receipt.ended (rw answer refl)))
 
   -- its rows are of the space
-  pub rows-fit : (terms : List Term) (rows : List Row) (r : Receipt) → call_of script r.caller ≡ Some (Search terms) → IsReceiptOf trace r → r.answer ≡ an_answer.Rows rows
+  pub rows-fit : (terms : List Term) (rows : List Row) (r : Receipt) → call_of script r.caller ≡ Some (Search terms)
+      → IsReceiptOf trace r → r.answer ≡ an_answer.Rows rows
       → All (IsRowOf script.space) rows
   rows-fit terms rows r called receipt answer =
       let s : FinishedSearch = record { terms = terms; begin = r.begin; end = r.end; rows = rows } in

@@ -64,7 +64,8 @@ module _ (space : Space) (r : Row) (row : IsRowOf space r) where
   some-attribute [] fit some = absurd (omega (arith, some))
   some-attribute (a ∷ rest) fit some = by space.attributes (a.attribute - 1) (All-head (AssignFits space) a rest fit.each).1
     where
-      by : (attributes : List Attribute) (i : ℕ) → IsSomeAnd (slice_get attributes i) (λ (declared : Attribute). IsOfKind declared.kind a.value) → 0 < length attributes
+      by : (attributes : List Attribute) (i : ℕ) → IsSomeAnd (slice_get attributes i)
+          (λ (declared : Attribute). IsOfKind declared.kind a.value) → 0 < length attributes
       by [] i s = absurd s
       by (x ∷ xs) i s = omega arith
 

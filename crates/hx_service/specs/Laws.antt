@@ -23,7 +23,8 @@ ended_count s = if s.under_way then s.begun - 1 else s.begun
 abbrev pub progress_by : List Entry → SessionId → SessionState → Progress
 progress_by trace u s = record { begun = s.begun; under_way = if s.under_way then begin_of (caller_of u s.begun) trace else None }
 
--- in every run each receipt is its call's record, those of a session are of its calls 1, 2, 3 and so on up to the last that ended, and each call that ended has one
+-- in every run each receipt is its call's record, those of a session are of its calls 1, 2, 3 and
+-- so on up to the last that ended, and each call that ended has one
 pub record IsBooked (script : Script) (trace : List Entry) : Type 0 where
   pub each : (r : Receipt) → IsIn r (receipts_of trace) → IsReceiptOf trace r
   pub numbers : (u : SessionId) → map (λ (r : Receipt). r.caller.number) (receipts_by u trace) ≡ numbers_to (ended_count (session_of script u trace))

@@ -61,7 +61,8 @@ pub record IsUnanswered (old : ServiceState) (u : SessionId) (op : Op) (new : Se
 -- want of memory: before the call was submitted, in the midst of the drain, or for the copy of the answer
 pub record IsCutShort (old : ServiceState) (u : SessionId) (op : Op) (new : ServiceState) : Type 0 where
   pub few : calls_in old.script < MOST_CALLS
-  pub left : (new ≡ old) ⊎ (IsSubmitted old u op new × (IsSome (next_entry new.script (newest new)) ⊎ IsSome (note_of_end (next_caller old.script u) (newest new))))
+  pub left : (new ≡ old) ⊎ (IsSubmitted old u op new
+      × (IsSome (next_entry new.script (newest new)) ⊎ IsSome (note_of_end (next_caller old.script u) (newest new))))
 
 -- an actor made all its entries
 pub record IsWorn (old : ServiceState) (u : SessionId) (op : Op) (new : ServiceState) (a : Actor) : Type 0 where

@@ -8,7 +8,8 @@ use Rattle.hx_types.specs.declared.calls.Answer.TheVariants as an_answer
 use Rattle.hx_model.specs.Types.{Epoch, Note, RegionId, Row}
 use Rattle.hx_types.specs.declared.traces.Note.TheVariants as a_note
 use Rattle.hx_types.specs.Spaces.{IsAscending}
-use Rattle.hx_model.specs.SessionSteps.{Part as PartSeen, SessionState, SessionStep, all_parts, awaits, end_with_parts, ending, found_step, is_search, lacks_part, merged_parts, staying, with_part}
+use Rattle.hx_model.specs.SessionSteps.{Part as PartSeen, SessionState, SessionStep, all_parts, awaits, end_with_parts}
+use Rattle.hx_model.specs.SessionSteps.{ending, found_step, is_search, lacks_part, merged_parts, staying, with_part}
 use Rattle.hx_session.specs.declared.parts.SearchPart.{SearchPart}
 use Rattle.hx_session.specs.declared.prepared.Change.{Change}
 use Rattle.hx_session.specs.declared.sessions.Session.TheInside.{Inside}

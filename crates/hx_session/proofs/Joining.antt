@@ -1,5 +1,7 @@
 -- Rows that are joined one before the other, and a pass over the same rows in order of keys.
-use Rattle.std.proofs.Common.{◌≡◌, ℕ, zero, suc, ◌<◌, Bool, true, false, ◌&&◌, not, cond, nat_lt, List, [], ◌∷◌, ◌++◌, length, get_or, flat_map, filter, refl, ap, sym, subst, ◌∙◌, append_assoc, arith, lt-ltb, ltb-true, ltb-false, le-ltb, ◌≤◌}
+use Rattle.std.proofs.Common.{◌≡◌, ℕ, zero, suc, ◌<◌, Bool, true, false, ◌&&◌, not, cond, nat_lt, List, [], ◌∷◌, ◌++◌}
+use Rattle.std.proofs.Common.{length, get_or, flat_map, filter, refl, ap, sym, subst, ◌∙◌, append_assoc, arith, lt-ltb}
+use Rattle.std.proofs.Common.{ltb-true, ltb-false, le-ltb, ◌≤◌}
 use Rattle.std.specs.Prelude.{⊤}
 use Rattle.std.specs.Borrow.{Bor}
 use Rattle.std.specs.Cmp.Lexicographic.{slice_cmp}

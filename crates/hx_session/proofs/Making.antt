@@ -13,15 +13,22 @@ use Rattle.hx_types.specs.Spaces.{IsRegionOf}
 use Rattle.hx_types.specs.Words.{IsIn, post, provided, when_some}
 use Rattle.hx_model.specs.Planning.{plan_of}
 use Rattle.hx_model.specs.Regions.{key_region}
-use Rattle.hx_model.specs.SessionSteps.{Part, SessionState, SessionStep, all_parts, ask_regions, ask_to, awaits, begin, call_to, call_under_way, end_with_parts, ending, is_administrative, is_key_call, lost_answer, send, send_to, session_install, session_message, session_step, session_tick, staying, with_part, with_poll}
+use Rattle.hx_model.specs.SessionSteps.{Part, SessionState, SessionStep, all_parts, ask_regions, ask_to, awaits, begin}
+use Rattle.hx_model.specs.SessionSteps.{call_to, call_under_way, end_with_parts, ending, is_administrative}
+use Rattle.hx_model.specs.SessionSteps.{is_key_call, lost_answer, send, send_to, session_install, session_message}
+use Rattle.hx_model.specs.SessionSteps.{session_step, session_tick, staying, with_part, with_poll}
 use Rattle.hx_law_lemmas.proofs.Lemmas.{all-of, in-append, in-flat_map, in-provided, in-slice_get, when_some_both, NamesRegions, plan-regions}
 
 -- a post may be any of those that a session makes of its calls in a configuration
 pub record Allows (space : Space) (id : SessionId) (calls : List Op) (config : Config) (Good : Post → Type 0) : Type 0 where
-  pub call : (number : ℕ) (op : Op) → IsIn op calls → (g : RegionId) (x : ServerId) → head_of config g ≡ Some x → Good (post (Session id) (Server x) (a_message.Call config.epoch number op))
-  pub ask : (number : ℕ) (terms : List Term) → IsIn (Search terms) calls → (g : RegionId) → IsRegionOf space g → (x : ServerId) → head_of config g ≡ Some x → Good (post (Session id) (Server x) (a_message.Ask config.epoch number g terms))
+  pub call : (number : ℕ) (op : Op) → IsIn op calls → (g : RegionId) (x : ServerId) → head_of config g ≡ Some x
+      → Good (post (Session id) (Server x) (a_message.Call config.epoch number op))
+  pub ask : (number : ℕ) (terms : List Term) → IsIn (Search terms) calls → (g : RegionId) → IsRegionOf space g
+      → (x : ServerId) → head_of config g ≡ Some x → Good
+      (post (Session id) (Server x) (a_message.Ask config.epoch number g terms))
   pub stop : (number : ℕ) (server : ServerId) → IsIn (Stop server) calls → Good (post (Session id) Coordinator (a_message.StopServer number server))
-  pub add : (number : ℕ) (server : ServerId) (g : RegionId) → IsIn (Add server g) calls → Good (post (Session id) Coordinator (a_message.AddReplica number server g))
+  pub add : (number : ℕ) (server : ServerId) (g : RegionId) → IsIn (Add server g) calls
+      → Good (post (Session id) Coordinator (a_message.AddReplica number server g))
   pub poll : Good (post (Session id) Coordinator (a_message.Poll config.epoch))
 
 -- the configuration is the one that the input brings
@@ -49,19 +56,23 @@ module _ (space : Space) (Good : Post → Type 0) where
   one-good q h p (inl e) = subst Good (sym e) h
   one-good q h p (inr i) = absurd i
 
-  called : (st : SessionState) → AllowsOwn st → (op : Op) → IsIn op st.calls → (g : RegionId) (o : Option ServerId) → head_of st.config g ≡ o → (p : Post) → IsIn p (call_to st op o) → Good p
+  called : (st : SessionState) → AllowsOwn st → (op : Op) → IsIn op st.calls → (g : RegionId) (o : Option ServerId)
+      → head_of st.config g ≡ o → (p : Post) → IsIn p (call_to st op o) → Good p
   called st h op own g None e = none-good
   called st h op own g (Some x) e = one-good _ (h.call st.begun op own g x e)
 
   sent_to : (st : SessionState) → AllowsOwn st → (op : Op) → IsIn op st.calls → (g : RegionId) → AreGood (send_to st op g)
   sent_to st h op own g =
-      cond_both (is_lost st.config g) (ending st _ (lost_answer st op g)) (record { state = record st { sent = true }; posts = call_to st op (head_of st.config g); notes = [] }) AreGood
+      cond_both (is_lost st.config g) (ending st _ (lost_answer st op g))
+      (record { state = record st { sent = true }; posts = call_to st op (head_of st.config g); notes = [] }) AreGood
       (λ t. none-good)
       (λ t. called st h op own g (head_of st.config g) refl)
 
-  asked : (st : SessionState) → AllowsOwn st → (terms : List Term) → IsIn (Search terms) st.calls → (planned : Planned) → NamesRegions space planned → AreGood (ask_regions st terms planned)
+  asked : (st : SessionState) → AllowsOwn st → (terms : List Term) → IsIn (Search terms) st.calls
+      → (planned : Planned) → NamesRegions space planned → AreGood (ask_regions st terms planned)
   asked st h terms own (a_plan.Lost g) named = none-good
-  asked st h terms own (a_plan.Regions subspace regions) named = λ p i. (let f = in-flat_map (λ (g : RegionId). ask_to st terms g (head_of st.config g)) regions p i in
+  asked st h terms own (a_plan.Regions subspace regions) named =
+      λ p i. (let f = in-flat_map (λ (g : RegionId). ask_to st terms g (head_of st.config g)) regions p i in
       by f.0 (named f.0 f.1) (head_of st.config f.0) refl p f.2)
     where
       by : (g : RegionId) → IsRegionOf space g → (o : Option ServerId) → head_of st.config g ≡ o → (p : Post) → IsIn p (ask_to st terms g o) → Good p
@@ -79,18 +90,23 @@ module _ (space : Space) (Good : Post → Type 0) where
   sent st h (Add server region) own = one-good _ (h.add st.begun server region own)
 
   polled : (step : SessionStep) → AllowsOwn step.state → AreGood step → AreGood (with_poll step)
-  polled step h f = λ p i. elim (in-append step.posts (provided step.state.under_way (post (Session step.state.id) Coordinator (a_message.Poll step.state.config.epoch) ∷ [])) p i) [
-    | inl j ↦ f p j
-    | inr j ↦ one-good _ h.poll p (in-provided step.state.under_way (post (Session step.state.id) Coordinator (a_message.Poll step.state.config.epoch) ∷ []) p j).1
-  ]
+  polled step h f = λ p i. elim (in-append step.posts
+      (provided step.state.under_way (post (Session step.state.id) Coordinator
+      (a_message.Poll step.state.config.epoch) ∷ [])) p i) [
+        | inl j ↦ f p j
+        | inr j ↦ one-good _ h.poll p (in-provided step.state.under_way
+            (post (Session step.state.id) Coordinator (a_message.Poll step.state.config.epoch) ∷ []) p j).1
+      ]
 
   -- sending a call leaves what allows posts
   sent_allows : (st : SessionState) → AllowsOwn st → (op : Op) → AllowsOwn (send space st op).state
   sent_allows st h (Put key sets) = cond_both (is_lost st.config (key_region space key)) _ _ (λ (step : SessionStep). AllowsOwn step.state) (λ t. h) (λ t. h)
   sent_allows st h (Get key) = cond_both (is_lost st.config (key_region space key)) _ _ (λ (step : SessionStep). AllowsOwn step.state) (λ t. h) (λ t. h)
   sent_allows st h (Del key) = cond_both (is_lost st.config (key_region space key)) _ _ (λ (step : SessionStep). AllowsOwn step.state) (λ t. h) (λ t. h)
-  sent_allows st h (Cput key tests sets) = cond_both (is_lost st.config (key_region space key)) _ _ (λ (step : SessionStep). AllowsOwn step.state) (λ t. h) (λ t. h)
-  sent_allows st h (Atomic key edits) = cond_both (is_lost st.config (key_region space key)) _ _ (λ (step : SessionStep). AllowsOwn step.state) (λ t. h) (λ t. h)
+  sent_allows st h (Cput key tests sets) = cond_both (is_lost st.config (key_region space key)) _ _
+      (λ (step : SessionStep). AllowsOwn step.state) (λ t. h) (λ t. h)
+  sent_allows st h (Atomic key edits) = cond_both (is_lost st.config (key_region space key)) _ _
+      (λ (step : SessionStep). AllowsOwn step.state) (λ t. h) (λ t. h)
   sent_allows st h (Search terms) = by (plan_of space st.config terms)
     where
       by : (planned : Planned) → AllowsOwn (ask_regions st terms planned).state
@@ -101,7 +117,9 @@ module _ (space : Space) (Good : Post → Type 0) where
 
   turned : (st : SessionState) → AllowsOwn st → AreGood (session_tick space st)
   turned st h =
-      cond_both st.under_way (when_some (numbered st.calls st.begun) (staying st) (λ (op : Op). with_poll (send space st op))) (when_some (numbered st.calls (st.begun + 1)) (staying st) (begin space st)) AreGood
+      cond_both st.under_way (when_some (numbered st.calls st.begun) (staying st)
+      (λ (op : Op). with_poll (send space st op)))
+      (when_some (numbered st.calls (st.begun + 1)) (staying st) (begin space st)) AreGood
       (
       λ t. when_some_both (numbered st.calls st.begun) (staying st) (λ (op : Op). with_poll (send space st op)) AreGood (λ e. none-good)
       (λ (op : Op) e. polled (send space st op) (sent_allows st h op) (sent st h op (numbered-in st.calls st.begun op e)))
@@ -138,7 +156,8 @@ module _ (space : Space) (Good : Post → Type 0) where
   found_or_not true st parts = ended_or_not (all_parts parts) (record st { parts = parts }) _ _
   found_or_not false st parts = none-good
 
-  heard : (st : SessionState) (m : Message) → ((config : Config) → m ≡ a_message.Install config → Allows space st.id st.calls config Good) → AreGood (session_message space st m)
+  heard : (st : SessionState) (m : Message) → ((config : Config) → m ≡ a_message.Install config
+      → Allows space st.id st.calls config Good) → AreGood (session_message space st m)
   heard st (a_message.Reply number version answer) f = ended_or_not (awaits st number is_key_call) st version answer
   heard st (a_message.Outcome number answer) f = ended_or_not (awaits st number is_administrative) st _ answer
   heard st (a_message.Found epoch number g rows) f = found_or_not _ st (map (with_part g rows) st.parts)
@@ -146,7 +165,9 @@ module _ (space : Space) (Good : Post → Type 0) where
   heard st other f = none-good
 
   -- each post of a step is one of those that a session makes of its calls, in its configuration or in the one that it is given
-  pub stepped : (st : SessionState) → AllowsOwn st → (input : Input) → ((config : Config) → GivenBy config input → Allows space st.id st.calls config Good) → All Good (session_step space st input).posts
+  pub stepped : (st : SessionState) → AllowsOwn st → (input : Input)
+      → ((config : Config) → GivenBy config input → Allows space st.id st.calls config Good)
+      → All Good (session_step space st input).posts
   stepped st h Tick f = all-of Good (session_tick space st).posts (turned st h)
   stepped st h Halt f = All-nil _
   stepped st h (Deliver id from m) f = all-of Good (session_message space st m).posts (heard st m f)

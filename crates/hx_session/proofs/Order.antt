@@ -1,5 +1,6 @@
 -- Every step keeps a session in order.
-use Rattle.std.proofs.Common.{◌≡◌, ℕ, suc, ◌+◌, ◌<◌, ◌≤◌, true, false, cond, List, [], ◌∷◌, map, length, Option, None, Some, refl, ap, sym, ◌∙◌, subst, arith, add-one}
+use Rattle.std.proofs.Common.{◌≡◌, ℕ, suc, ◌+◌, ◌<◌, ◌≤◌, true, false, cond, List, [], ◌∷◌, map, length, Option, None}
+use Rattle.std.proofs.Common.{Some, refl, ap, sym, ◌∙◌, subst, arith, add-one}
 use Rattle.std.specs.List.{All, AllPairs}
 use Rattle.std.specs.Prelude.{unwrap_or}
 use Rattle.std.proofs.lemmas.Bool.{cond_both}
@@ -15,7 +16,9 @@ use Rattle.hx_types.specs.Spaces.{IsAscending}
 use Rattle.hx_types.specs.Words.{when_some}
 use Rattle.hx_model.specs.Planning.{plan_of}
 use Rattle.hx_model.specs.Regions.{key_region}
-use Rattle.hx_model.specs.SessionSteps.{Part as PartSeen, SessionState, SessionStep, all_parts, ask_regions, awaits, begin, call_under_way, end_with_parts, ending, is_administrative, is_key_call, send, send_to, session_message, session_step, staying, with_part, with_poll}
+use Rattle.hx_model.specs.SessionSteps.{Part as PartSeen, SessionState, SessionStep, all_parts, ask_regions, awaits}
+use Rattle.hx_model.specs.SessionSteps.{begin, call_under_way, end_with_parts, ending, is_administrative, is_key_call}
+use Rattle.hx_model.specs.SessionSteps.{send, send_to, session_message, session_step, staying, with_part, with_poll}
 use Rattle.hx_region.proofs.Lemmas.{asked}
 use Rattle.hx_session.specs.declared.parts.SearchPart.{SearchPart}
 use Rattle.hx_session.specs.declared.prepared.Change.{Change}

@@ -12,36 +12,53 @@ use Rattle.hx_model.specs.SessionSteps.{SessionState, session_step}
 use Rattle.hx_law_lemmas.proofs.Lemmas.{all-in, all-of, in-flat, in-slice_get, in_left, in_right}
 use Rattle.hx_law_posts.proofs.Lemmas.{head-server}
 use Rattle.hx_session.specs.Invariant.{IsStateOf}
-use Rattle.hx_types.specs.Posted.{ArePostsOf, InputUpTo, IsPostOf, MessageUpTo, NameOnly, NamesOnly, PostsUpTo, actors_of_config, actors_of_input, actors_of_message, actors_of_op, servers_among}
+use Rattle.hx_types.specs.Posted.{ArePostsOf, InputUpTo, IsPostOf, MessageUpTo, NameOnly, NamesOnly, PostsUpTo}
+use Rattle.hx_types.specs.Posted.{actors_of_config, actors_of_input, actors_of_message, actors_of_op, servers_among}
 use Rattle.hx_session.specs.Sessions.{CanTake, SessionUpTo, known_to}
 use Rattle.hx_session.proofs.Making.{Allows, GivenBy, stepped}
 
 -- ---- of the space
 
-allows_of : (space : Space) (id : SessionId) (calls : List Op) (config : Config) → IsConfigOf space config → All (Fits space) calls → Allows space id calls config (IsPostOf space)
+allows_of : (space : Space) (id : SessionId) (calls : List Op) (config : Config) → IsConfigOf space config
+    → All (Fits space) calls → Allows space id calls config (IsPostOf space)
 allows_of space id calls config of_space fit = record {
-  call = λ number op own g x e. record { sessions = 0; most = config.epoch.0; to = head-server space config of_space g x e; between = refl; message = (omega arith, all-in (Fits space) calls op fit own) };
-  ask = λ number terms own g region x e. record { sessions = 0; most = config.epoch.0; to = head-server space config of_space g x e; between = refl; message = (omega arith, region, all-in (Fits space) calls (Search terms) fit own) };
+  call = λ number op own g x e. record {
+    sessions = 0;
+    most = config.epoch.0;
+    to = head-server space config of_space g x e;
+    between = refl;
+    message = (omega arith, all-in (Fits space) calls op fit own);
+  };
+  ask = λ number terms own g region x e. record {
+    sessions = 0;
+    most = config.epoch.0;
+    to = head-server space config of_space g x e;
+    between = refl;
+    message = (omega arith, region, all-in (Fits space) calls (Search terms) fit own);
+  };
   stop = λ number server own. record { sessions = 0; most = 0; to = tt; between = refl; message = all-in (Fits space) calls (Stop server) fit own };
   add = λ number server g own. record { sessions = 0; most = 0; to = tt; between = refl; message = all-in (Fits space) calls (Add server g) fit own };
   poll = record { sessions = 0; most = config.epoch.0; to = tt; between = refl; message = omega arith };
 }
 
 -- the configuration that an input brings is of the space
-pub given_of_space : (space : Space) (st : SessionState) (input : Input) → CanTake space st input → (config : Config) → GivenBy config input → IsConfigOf space config
+pub given_of_space : (space : Space) (st : SessionState) (input : Input) → CanTake space st input → (config : Config)
+    → GivenBy config input → IsConfigOf space config
 given_of_space space st Tick can config given = absurd given
 given_of_space space st Halt can config given = absurd given
 given_of_space space st (Deliver id from m) can config given =
     (subst (λ (x : Message). IsSoundMessage (record { space = space; sessions = can.sessions; most = can.entry + 1 }) x) given can.sound.message).1
 
-pub posts_of_space : (space : Space) (st : SessionState) → IsStateOf space st → (input : Input) → CanTake space st input → ArePostsOf space (session_step space st input).posts
+pub posts_of_space : (space : Space) (st : SessionState) → IsStateOf space st → (input : Input)
+    → CanTake space st input → ArePostsOf space (session_step space st input).posts
 posts_of_space space st h input can =
     stepped space (IsPostOf space) st (allows_of space st.id st.calls st.config h.config h.calls) input
     (λ config given. allows_of space st.id st.calls config (given_of_space space st input can config given) h.calls)
 
 -- ---- actors
 
-names : (known : List Actor) (from to : Actor) (m : Message) → IsIn to known → ((a : Actor) → IsIn a (actors_of_message m) → IsIn a known) → NamesOnly known (post from to m)
+names : (known : List Actor) (from to : Actor) (m : Message) → IsIn to known
+    → ((a : Actor) → IsIn a (actors_of_message m) → IsIn a known) → NamesOnly known (post from to m)
 names known from to m here f = all-of (λ (a : Actor). IsIn a known) (to ∷ actors_of_message m) (λ a i. by a i)
   where
     by : (a : Actor) → IsIn a (to ∷ actors_of_message m) → IsIn a known
@@ -52,22 +69,33 @@ names known from to m here f = all-of (λ (a : Actor). IsIn a known) (to ∷ act
 head_named : (config : Config) (g : RegionId) (x : ServerId) → head_of config g ≡ Some x → IsIn (Server x) (actors_of_config config)
 head_named config g x e = by (slice_get config.regions g.0) refl e
   where
-    first_is : (members : List Member) → when_some (first_of_list members) None (λ (m : Member). Some m.server) ≡ Some x → IsIn (Server x) (servers_among members)
+    first_is : (members : List Member) → when_some (first_of_list members) None (λ (m : Member). Some m.server)
+        ≡ Some x → IsIn (Server x) (servers_among members)
     first_is [] h = absurd (cc)
     first_is (m ∷ rest) h = inl cc
 
-    by : (o : Option (List Member)) → slice_get config.regions g.0 ≡ o → when_some (first_of_list (when_some o [] (λ (members : List Member). members))) None (λ (m : Member). Some m.server) ≡ Some x → IsIn (Server x) (actors_of_config config)
+    by : (o : Option (List Member)) → slice_get config.regions g.0 ≡ o
+        → when_some (first_of_list (when_some o [] (λ (members : List Member). members))) None
+        (λ (m : Member). Some m.server) ≡ Some x → IsIn (Server x) (actors_of_config config)
     by None at h = absurd (cc)
-    by (Some members) at h = in_right _ (flat_map servers_among config.regions) (Server x) (in-flat servers_among config.regions members (Server x) (in-slice_get config.regions g.0 members at) (first_is members h))
+    by (Some members) at h = in_right _ (flat_map servers_among config.regions) (Server x)
+        (in-flat servers_among config.regions members (Server x) (in-slice_get config.regions g.0 members at)
+        (first_is members h))
 
 module _ (known : List Actor) (coordinator : IsIn Coordinator known) where
-  allows_named : (space : Space) (id : SessionId) (calls : List Op) (config : Config) → ((a : Actor) → IsIn a (actors_of_config config) → IsIn a known) → ((a : Actor) → IsIn a (flat_map actors_of_op calls) → IsIn a known)
+  allows_named : (space : Space) (id : SessionId) (calls : List Op) (config : Config)
+      → ((a : Actor) → IsIn a (actors_of_config config) → IsIn a known)
+      → ((a : Actor) → IsIn a (flat_map actors_of_op calls) → IsIn a known)
       → Allows space id calls config (NamesOnly known)
   allows_named space id calls config members ops = record {
-    call = λ number op own g x e. names known (Session id) (Server x) (a_message.Call config.epoch number op) (members (Server x) (head_named config g x e)) (λ a i. ops a (in-flat actors_of_op calls op a own i));
-    ask = λ number terms own g region x e. names known (Session id) (Server x) (a_message.Ask config.epoch number g terms) (members (Server x) (head_named config g x e)) (λ a i. absurd i);
-    stop = λ number server own. names known (Session id) Coordinator (a_message.StopServer number server) coordinator (λ a i. ops a (in-flat actors_of_op calls (Stop server) a own i));
-    add = λ number server g own. names known (Session id) Coordinator (a_message.AddReplica number server g) coordinator (λ a i. ops a (in-flat actors_of_op calls (Add server g) a own i));
+    call = λ number op own g x e. names known (Session id) (Server x) (a_message.Call config.epoch number op)
+        (members (Server x) (head_named config g x e)) (λ a i. ops a (in-flat actors_of_op calls op a own i));
+    ask = λ number terms own g region x e. names known (Session id) (Server x)
+        (a_message.Ask config.epoch number g terms) (members (Server x) (head_named config g x e)) (λ a i. absurd i);
+    stop = λ number server own. names known (Session id) Coordinator (a_message.StopServer number server) coordinator
+        (λ a i. ops a (in-flat actors_of_op calls (Stop server) a own i));
+    add = λ number server g own. names known (Session id) Coordinator
+        (a_message.AddReplica number server g) coordinator (λ a i. ops a (in-flat actors_of_op calls (Add server g) a own i));
     poll = names known (Session id) Coordinator (a_message.Poll config.epoch) coordinator (λ a i. absurd i);
   }
 
@@ -81,7 +109,8 @@ posts_named space st input =
     stepped space (NamesOnly (known_to st input)) st
     (
     allows_named (known_to st input) (inl refl) space st.id st.calls st.config
-    (λ a i. inr (in_left (actors_of_config st.config ++ flat_map actors_of_op st.calls) (actors_of_input input) a (in_left (actors_of_config st.config) (flat_map actors_of_op st.calls) a i))) ops
+    (λ a i. inr (in_left (actors_of_config st.config ++ flat_map actors_of_op st.calls) (actors_of_input input) a
+    (in_left (actors_of_config st.config) (flat_map actors_of_op st.calls) a i))) ops
     )
     input
     (
@@ -91,11 +120,13 @@ posts_named space st input =
     )
   where
     ops : (a : Actor) → IsIn a (flat_map actors_of_op st.calls) → IsIn a (known_to st input)
-    ops a i = inr (in_left (actors_of_config st.config ++ flat_map actors_of_op st.calls) (actors_of_input input) a (in_right (actors_of_config st.config) (flat_map actors_of_op st.calls) a i))
+    ops a i = inr (in_left (actors_of_config st.config ++ flat_map actors_of_op st.calls) (actors_of_input input) a
+        (in_right (actors_of_config st.config) (flat_map actors_of_op st.calls) a i))
 
 -- ---- epochs
 
-allows_small : (most : ℕ) (space : Space) (id : SessionId) (calls : List Op) (config : Config) → config.epoch.0 ≤ most → Allows space id calls config (λ (p : Post). MessageUpTo most p.message)
+allows_small : (most : ℕ) (space : Space) (id : SessionId) (calls : List Op) (config : Config) → config.epoch.0 ≤ most
+    → Allows space id calls config (λ (p : Post). MessageUpTo most p.message)
 allows_small most space id calls config low = record {
   call = λ number op own g x e. low;
   ask = λ number terms own g region x e. low;
@@ -109,7 +140,8 @@ given_small most Tick low config given = absurd given
 given_small most Halt low config given = absurd given
 given_small most (Deliver id from m) low config given = subst (λ (x : Message). MessageUpTo most x) given low
 
-pub posts_small : (space : Space) (st : SessionState) (input : Input) → (most : ℕ) → SessionUpTo most st → InputUpTo most input → PostsUpTo most (session_step space st input).posts
+pub posts_small : (space : Space) (st : SessionState) (input : Input) → (most : ℕ) → SessionUpTo most st
+    → InputUpTo most input → PostsUpTo most (session_step space st input).posts
 posts_small space st input most low brings =
     stepped space (λ (p : Post). MessageUpTo most p.message) st (allows_small most space st.id st.calls st.config low) input
     (λ config given. allows_small most space st.id st.calls config (given_small most input brings config given))

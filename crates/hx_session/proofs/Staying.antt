@@ -11,7 +11,10 @@ use Rattle.hx_types.specs.Spaces.{IsConfigOf}
 use Rattle.hx_types.specs.Words.{when_some}
 use Rattle.hx_model.specs.Planning.{plan_of}
 use Rattle.hx_model.specs.Regions.{key_region}
-use Rattle.hx_model.specs.SessionSteps.{Part, SessionState, SessionStep, all_parts, ask_regions, awaits, begin, call_under_way, end_with_parts, ending, is_administrative, is_key_call, send, send_to, session_install, session_message, session_step, session_tick, staying, with_part, with_poll}
+use Rattle.hx_model.specs.SessionSteps.{Part, SessionState, SessionStep, all_parts, ask_regions, awaits, begin}
+use Rattle.hx_model.specs.SessionSteps.{call_under_way, end_with_parts, ending, is_administrative, is_key_call, send}
+use Rattle.hx_model.specs.SessionSteps.{send_to, session_install, session_message, session_step, session_tick, staying}
+use Rattle.hx_model.specs.SessionSteps.{with_part, with_poll}
 use Rattle.hx_law_lemmas.proofs.Lemmas.{when_some_both}
 use Rattle.hx_session.specs.Invariant.{IsStateOf}
 use Rattle.hx_session.specs.Sessions.{CanTake}
@@ -41,11 +44,15 @@ module _ (space : Space) where
 
   turned_stays : (st : SessionState) → IsStateOf space st → Stays (session_tick space st)
   turned_stays st h =
-      cond_both st.under_way (when_some (numbered st.calls st.begun) (staying st) (λ (op : Op). with_poll (send space st op))) (when_some (numbered st.calls (st.begun + 1)) (staying st) (begin space st)) Stays
-      (λ t. when_some_both (numbered st.calls st.begun) (staying st) (λ (op : Op). with_poll (send space st op)) Stays (λ e. h) (λ (op : Op) e. sent_stays st h op))
+      cond_both st.under_way (when_some (numbered st.calls st.begun) (staying st)
+      (λ (op : Op). with_poll (send space st op)))
+      (when_some (numbered st.calls (st.begun + 1)) (staying st) (begin space st)) Stays
+      (λ t. when_some_both (numbered st.calls st.begun) (staying st) (λ (op : Op). with_poll (send space st op)) Stays
+      (λ e. h) (λ (op : Op) e. sent_stays st h op))
       (
       λ t. when_some_both (numbered st.calls (st.begun + 1)) (staying st) (begin space st) Stays (λ e. h)
-      (λ (op : Op) e. sent_stays (record st { begun = st.begun + 1; under_way = true; sent = false; parts = [] }) (record { config = h.config; calls = h.calls }) op)
+      (λ (op : Op) e. sent_stays (record st { begun = st.begun + 1; under_way = true; sent = false; parts = [] })
+      (record { config = h.config; calls = h.calls }) op)
       )
 
   installed_stays : (st : SessionState) → IsStateOf space st → (config : Config) → IsConfigOf space config → Stays (session_install space st config)
@@ -63,15 +70,18 @@ module _ (space : Space) where
       )
       (λ t. h)
 
-  ended_stays : (b : Bool) (st : SessionState) → IsStateOf space st → (version : Version) (answer : Answer) → Stays (cond b (ending st version answer) (staying st))
+  ended_stays : (b : Bool) (st : SessionState) → IsStateOf space st → (version : Version) (answer : Answer)
+      → Stays (cond b (ending st version answer) (staying st))
   ended_stays true st h version answer = record { config = h.config; calls = h.calls }
   ended_stays false st h version answer = h
 
-  found_stays : (b : Bool) (st : SessionState) → IsStateOf space st → (parts : List Part) → Stays (cond b (end_with_parts (record st { parts = parts })) (staying st))
+  found_stays : (b : Bool) (st : SessionState) → IsStateOf space st → (parts : List Part)
+      → Stays (cond b (end_with_parts (record st { parts = parts })) (staying st))
   found_stays true st h parts = ended_stays (all_parts parts) (record st { parts = parts }) (record { config = h.config; calls = h.calls }) _ _
   found_stays false st h parts = h
 
-  heard_stays : (st : SessionState) → IsStateOf space st → (m : Message) → ((config : Config) → m ≡ a_message.Install config → IsConfigOf space config) → Stays (session_message space st m)
+  heard_stays : (st : SessionState) → IsStateOf space st → (m : Message)
+      → ((config : Config) → m ≡ a_message.Install config → IsConfigOf space config) → Stays (session_message space st m)
   heard_stays st h (a_message.Reply number version answer) f = ended_stays (awaits st number is_key_call) st h version answer
   heard_stays st h (a_message.Outcome number answer) f = ended_stays (awaits st number is_administrative) st h _ answer
   heard_stays st h (a_message.Found epoch number g rows) f = found_stays _ st h (map (with_part g rows) st.parts)

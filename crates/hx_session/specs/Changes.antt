@@ -4,7 +4,8 @@ use Rattle.std.specs.List.{flat_map}
 use Rattle.hx_model.specs.Types.{Answer, Config, Input, Op, Post, RegionId, Row, Space, Term, Version}
 use Rattle.hx_types.specs.Configs.{head_of}
 use Rattle.hx_types.specs.Words.{same_region, when_some}
-use Rattle.hx_model.specs.SessionSteps.{Part as PartSeen, SessionState, SessionStep, ask_to, awaits, call_under_way, ending, is_administrative, lacks_part, send, session_step, staying, with_part}
+use Rattle.hx_model.specs.SessionSteps.{Part as PartSeen, SessionState, SessionStep, ask_to, awaits, call_under_way}
+use Rattle.hx_model.specs.SessionSteps.{ending, is_administrative, lacks_part, send, session_step, staying, with_part}
 use Rattle.hx_session.specs.declared.kinds.CallKind.{CallKind}
 use Rattle.hx_session.specs.declared.parts.SearchPart.{SearchPart}
 use Rattle.hx_session.specs.declared.parts.PartsChange.{PartsChange}

@@ -29,7 +29,9 @@ sums (x ∷ xs) (y ∷ ys) e h =
     let rest : count xs ≤ count ys = sums xs ys (omega (arith, e)) (λ i. h (suc i)) in
     omega (arith, first, rest, one x xs, one y ys)
 
-sums_less : (xs ys : List (List Op)) (k : ℕ) → length ys ≡ length xs → ((i : ℕ) → length (get_or xs i []) ≤ length (get_or ys i [])) → length (get_or xs k []) < length (get_or ys k []) → count xs < count ys
+sums_less : (xs ys : List (List Op)) (k : ℕ) → length ys ≡ length xs
+    → ((i : ℕ) → length (get_or xs i []) ≤ length (get_or ys i []))
+    → length (get_or xs k []) < length (get_or ys k []) → count xs < count ys
 sums_less [] [] k e h less = absurd (omega (arith, less))
 sums_less [] (y ∷ ys) k e h less = absurd (omega (arith, e))
 sums_less (x ∷ xs) [] k e h less = absurd (omega (arith, e))
@@ -65,12 +67,15 @@ module _ (script more : Script) (g : GrowsTo script more) where
       by : (n : ℕ) → u.0 ≡ n → calls_in script < calls_in more
       by zero e = absurd (omega (arith, further, ap (calls_at script) e, ap (calls_at more) e))
       by (suc n) e =
-          let a : length (calls_of script u) ≡ length (get_or script.sessions n []) = ap (calls_at script) e ∙ ap (λ (l : List Op). length l) (get-or script.sessions n []) in
-          let b : length (calls_of more u) ≡ length (get_or more.sessions n []) = ap (calls_at more) e ∙ ap (λ (l : List Op). length l) (get-or more.sessions n []) in
+          let a : length (calls_of script u) ≡ length (get_or script.sessions n []) =
+          ap (calls_at script) e ∙ ap (λ (l : List Op). length l) (get-or script.sessions n []) in
+          let b : length (calls_of more u) ≡ length (get_or more.sessions n []) =
+          ap (calls_at more) e ∙ ap (λ (l : List Op). length l) (get-or more.sessions n []) in
           sums_less script.sessions more.sessions n g.sessions longer (omega (arith, further, a, b))
 
 -- a call of a session was made
-pub made_more : (old now new : ServiceState) (u : SessionId) → now ≡ old → GrowsTo now.script new.script → length (calls_of new.script u) ≡ length (calls_of now.script u) + 1
+pub made_more : (old now new : ServiceState) (u : SessionId) → now ≡ old → GrowsTo now.script new.script
+    → length (calls_of new.script u) ≡ length (calls_of now.script u) + 1
     → calls_in old.script < calls_in new.script
 made_more old now new u same g further =
     subst (λ (s : ServiceState). calls_in s.script < calls_in new.script) same (grows_further now.script new.script g u further)

@@ -1,5 +1,7 @@
 -- Where nothing is left to do of the calls that were made, and no further call of the plan can be made, nothing is left of the plan.
-use Rattle.std.proofs.Common.{◌≡◌, refl, ℕ, zero, suc, ◌+◌, ◌-◌, ◌<◌, ◌≤◌, Bool, true, false, ◌&&◌, not, ltb, leb, cond, List, [], ◌∷◌, ◌++◌, length, inl, inr, Option, None, Some, sym, ap, ◌∙◌, subst, arith, reverse}
+use Rattle.std.proofs.Common.{◌≡◌, refl, ℕ, zero, suc, ◌+◌, ◌-◌, ◌<◌, ◌≤◌, Bool, true, false, ◌&&◌, not, ltb, leb}
+use Rattle.std.proofs.Common.{cond, List, [], ◌∷◌, ◌++◌, length, inl, inr, Option, None, Some, sym, ap, ◌∙◌, subst}
+use Rattle.std.proofs.Common.{arith, reverse}
 use Rattle.std.specs.Option.{option_map}
 use Rattle.std.proofs.lemmas.Bool.{cases_lt, le-leb, lt-ltb, ltb-false, false≢true}
 use Rattle.std.proofs.lemmas.Option.{slice_get_past}
@@ -38,7 +40,8 @@ below-in (suc n) k l = elim (cases_lt k n) [
 ]
 
 -- where no session is idle, none of them is
-none_idle : (script : Script) (t : List Entry) (ns : List ℕ) → idle_among script t ns ≡ None → (k : ℕ) → IsIn k ns → is_idle (session_of script (record { 0 = k + 1 }) t) ≡ false
+none_idle : (script : Script) (t : List Entry) (ns : List ℕ) → idle_among script t ns ≡ None → (k : ℕ) → IsIn k ns
+    → is_idle (session_of script (record { 0 = k + 1 }) t) ≡ false
 none_idle script t [] e k i = absurd i
 none_idle script t (n ∷ rest) e k i = by (is_idle (session_of script (record { 0 = n + 1 }) t)) refl e i (none_idle script t rest)
   where
@@ -52,7 +55,8 @@ none_idle script t (n ∷ rest) e k i = by (is_idle (session_of script (record {
     by false is f (inr i) more = more f k i
 
 -- a quiet schedule has no idle session
-not_idle : (script : Script) (t : List Entry) → IsQuiet script t → (u : SessionId) → is_actor script (Session u) ≡ true → is_idle (session_of script u t) ≡ false
+not_idle : (script : Script) (t : List Entry) → IsQuiet script t → (u : SessionId)
+    → is_actor script (Session u) ≡ true → is_idle (session_of script u t) ≡ false
 not_idle script t quiet u is = by (first_delivery script t (undelivered t)) (idle_among script t (below (length script.sessions))) refl quiet
   where
     number : (0 < u.0) × (u.0 ≤ length script.sessions)
@@ -61,11 +65,13 @@ not_idle script t quiet u is = by (first_delivery script t (undelivered t)) (idl
     same : (u.0 - 1) + 1 ≡ u.0
     same = omega (arith, number.0)
 
-    by : (d i : Option Next) → idle_among script t (below (length script.sessions)) ≡ i → option_map (entry_by script t) (first_some d i) ≡ None → is_idle (session_of script u t) ≡ false
+    by : (d i : Option Next) → idle_among script t (below (length script.sessions)) ≡ i
+        → option_map (entry_by script t) (first_some d i) ≡ None → is_idle (session_of script u t) ≡ false
     by (Some x) i f z = absurd (cc)
     by None (Some x) f z = absurd (cc)
     by None None f z =
-        let here = none_idle script t (below (length script.sessions)) f (u.0 - 1) (below-in (length script.sessions) (u.0 - 1) (omega (arith, number.0, number.1))) in
+        let here = none_idle script t (below (length script.sessions)) f (u.0 - 1)
+        (below-in (length script.sessions) (u.0 - 1) (omega (arith, number.0, number.1))) in
         ap (λ n. is_idle (session_of script (record { 0 = n }) t)) (sym same) ∙ here
 
 -- a session that isn't one of the script's has no calls
@@ -74,7 +80,8 @@ no_calls script u out = by u.0 refl
   where
     past : (n : ℕ) → u.0 ≡ suc n → length script.sessions ≤ n
     past n e = elim (cases_lt n (length script.sessions)) [
-      | inl less ↦ absurd (false≢true (sym out ∙ (ap (λ b. b && leb u.0 (length script.sessions)) (lt-ltb 0 u.0 (omega (arith, e))) ∙ le-leb u.0 (length script.sessions) (omega (arith, e, less)))))
+      | inl less ↦ absurd (false≢true (sym out ∙ (ap (λ b. b && leb u.0 (length script.sessions))
+          (lt-ltb 0 u.0 (omega (arith, e))) ∙ le-leb u.0 (length script.sessions) (omega (arith, e, less)))))
       | inr more ↦ more
     ]
 
@@ -82,7 +89,8 @@ no_calls script u out = by u.0 refl
     by zero e = refl
     by (suc n) e = ap (λ o. when_some o [] (λ (calls : List Op). calls)) (slice_get_past script.sessions n (past n e))
 
-module _ (plan : Script) (s : ServiceState) (g : GrowsTo s.script plan) (run : IsRun s.script (reverse s.trace)) (quiet : IsQuiet s.script (reverse s.trace)) (rest : FreeSessionsRest) where
+module _ (plan : Script) (s : ServiceState) (g : GrowsTo s.script plan) (run : IsRun s.script (reverse s.trace))
+    (quiet : IsQuiet s.script (reverse s.trace)) (rest : FreeSessionsRest) where
   -- the session after the trace
   abbrev after : SessionId → SessionState
   after u = session_of s.script u (reverse s.trace)
@@ -104,7 +112,8 @@ module _ (plan : Script) (s : ServiceState) (g : GrowsTo s.script plan) (run : I
     where
       by : (b : Bool) → (after u).under_way ≡ b → b ≡ true
       by true e = refl
-      by false e = absurd (not_free ((rest s.script (reverse s.trace) run u).1 (at_rest u e (not_idle s.script (reverse s.trace) quiet u (sym (same_actors u) ∙ is)))))
+      by false e = absurd (not_free ((rest s.script (reverse s.trace) run u).1
+          (at_rest u e (not_idle s.script (reverse s.trace) quiet u (sym (same_actors u) ∙ is)))))
 
   made : ((u : SessionId) → is_actor plan (Session u) ≡ true → HasNone plan s u) → (u : SessionId) → IsMade s.script plan (reverse s.trace) u
   made none u = by (is_actor plan (Session u)) refl
@@ -122,7 +131,8 @@ module _ (plan : Script) (s : ServiceState) (g : GrowsTo s.script plan) (run : I
 
 -- the same where what was made is known under other names
 pub settled : (plan : Script) (old new lent : ServiceState) → new ≡ old → lent ≡ new → GrowsTo new.script plan → IsRun lent.script (reverse lent.trace)
-    → IsQuiet old.script (reverse old.trace) → FreeSessionsRest → QuietStays → ((u : SessionId) → is_actor plan (Session u) ≡ true → HasNone plan old u) → IsQuiet plan (reverse new.trace)
+    → IsQuiet old.script (reverse old.trace) → FreeSessionsRest → QuietStays
+    → ((u : SessionId) → is_actor plan (Session u) ≡ true → HasNone plan old u) → IsQuiet plan (reverse new.trace)
 settled plan old new lent same whole grows run quiet rest stays none =
     let g = subst (λ (s : ServiceState). GrowsTo s.script plan) same grows in
     let r = subst (λ (s : ServiceState). IsRun s.script (reverse s.trace)) (whole ∙ same) run in

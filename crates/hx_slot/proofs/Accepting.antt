@@ -1,5 +1,7 @@
 -- A slot that accepts or holds an update.
-use Rattle.std.proofs.Common.{◌≡◌, ℕ, zero, suc, ◌+◌, ◌<◌, ◌≤◌, true, false, not, List, [], ◌∷◌, ◌++◌, Vec, length, drop, get_or, vec_capacity, vec_len, refl, ap, sym, ◌∙◌, subst, arith, cond, eqb, inl, inr}
+use Rattle.std.proofs.Common.{◌≡◌, ℕ, zero, suc, ◌+◌, ◌<◌, ◌≤◌, true, false, not, List, [], ◌∷◌, ◌++◌, Vec, length}
+use Rattle.std.proofs.Common.{drop, get_or, vec_capacity, vec_len, refl, ap, sym, ◌∙◌, subst, arith, cond, eqb, inl}
+use Rattle.std.proofs.Common.{inr}
 use Rattle.std.specs.List.{AllByRecursion, filter, list_any, remove}
 use Rattle.std.specs.declared.alloc.Global.{Global}
 use Rattle.std.proofs.lemmas.Bool.{cond_both, cond-false, cond-true, eq-eqb, eqb-true, false_from_ne_true, false≢true, or_cases, or_left}
@@ -26,7 +28,9 @@ Ascends-push v [] t h l = (l, tt)
 Ascends-push v (x ∷ ts) t h l = (h.0, Ascends-push x.update.version.0 ts t h.1 l)
 
 -- the line with an update more
-line-push : {g : RegionId} {base : ℕ} {ts : List AcceptedUpdate} {c floor : ℕ} → IsLine g base ts c floor → (t : AcceptedUpdate) → IsPlaced g t.update t.keeps → last_version base ts < t.update.version.0 → IsLine g base (ts ++ t ∷ []) c floor
+line-push : {g : RegionId} {base : ℕ} {ts : List AcceptedUpdate} {c floor : ℕ} → IsLine g base ts c floor
+    → (t : AcceptedUpdate) → IsPlaced g t.update t.keeps → last_version base ts < t.update.version.0
+    → IsLine g base (ts ++ t ∷ []) c floor
 line-push {g = g} {base = base} {ts = ts} {c = c} line t p l =
     let n = length-append ts (t ∷ []) in
     record {
@@ -50,7 +54,8 @@ not_in v w (t ∷ rest) h l =
     )
 
 -- nothing is acknowledged of a version above the last
-unacked : (v w : ℕ) (ts : List AcceptedUpdate) (acked : List ℕ) → Ascends v ts → last_version v ts < w → AllByRecursion (λ n. list_any (is_of_version n) ts ≡ true) acked → list_any (λ n. eqb n w) acked ≡ false
+unacked : (v w : ℕ) (ts : List AcceptedUpdate) (acked : List ℕ) → Ascends v ts → last_version v ts < w
+    → AllByRecursion (λ n. list_any (is_of_version n) ts ≡ true) acked → list_any (λ n. eqb n w) acked ≡ false
 unacked v w ts [] h l known = refl
 unacked v w ts (n ∷ rest) h l known =
     false_from_ne_true (list_any (λ n. eqb n w) (n ∷ rest))
@@ -61,14 +66,23 @@ unacked v w ts (n ∷ rest) h l known =
     ]
     )
 
-known-push : (ts : List AcceptedUpdate) (t : AcceptedUpdate) (acked : List ℕ) → AllByRecursion (λ n. list_any (is_of_version n) ts ≡ true) acked → AllByRecursion (λ n. list_any (is_of_version n) (ts ++ t ∷ []) ≡ true) acked
+known-push : (ts : List AcceptedUpdate) (t : AcceptedUpdate) (acked : List ℕ)
+    → AllByRecursion (λ n. list_any (is_of_version n) ts ≡ true) acked
+    → AllByRecursion (λ n. list_any (is_of_version n) (ts ++ t ∷ []) ≡ true) acked
 known-push ts t [] h = tt
-known-push ts t (n ∷ rest) h = (list_any-append (is_of_version n) ts (t ∷ []) ∙ or_left (list_any (is_of_version n) ts) (list_any (is_of_version n) (t ∷ [])) h.0, known-push ts t rest h.1)
+known-push ts t (n ∷ rest) h = (
+  list_any-append (is_of_version n) ts (t ∷ [])
+      ∙ or_left (list_any (is_of_version n) ts) (list_any (is_of_version n) (t ∷ [])) h.0,
+  known-push ts t rest h.1,
+)
 
-acked-push : (v : ℕ) (acked : List ℕ) (ts : List AcceptedUpdate) (t : AcceptedUpdate) → AreAcked acked ts → Ascends v ts → last_version v ts < t.update.version.0 → t.acknowledged ≡ false → AreAcked acked (ts ++ t ∷ [])
+acked-push : (v : ℕ) (acked : List ℕ) (ts : List AcceptedUpdate) (t : AcceptedUpdate) → AreAcked acked ts
+    → Ascends v ts → last_version v ts < t.update.version.0 → t.acknowledged ≡ false → AreAcked acked (ts ++ t ∷ [])
 acked-push v acked ts t h a l f =
     record {
-      marked = by_recursion-push (λ (x : AcceptedUpdate). x.acknowledged ≡ list_any (λ n. eqb n x.update.version.0) acked) ts t h.marked (f ∙ sym (unacked v t.update.version.0 ts acked a l h.known));
+      marked = by_recursion-push (λ (x : AcceptedUpdate). x.acknowledged
+          ≡ list_any (λ n. eqb n x.update.version.0) acked) ts t h.marked
+          (f ∙ sym (unacked v t.update.version.0 ts acked a l h.known));
       known = known-push ts t acked h.known;
     }
 
@@ -93,7 +107,9 @@ accepted-slot a t accepted early spare h p above f items len capacity held early
       bare = h.bare;
       untouched = h.untouched;
       acked = subst (λ (ts : List AcceptedUpdate). AreAcked (a.acked.versions) (drop a.committed ts)) e
-          (subst (AreAcked (a.acked.versions)) (sym pending) (acked-push a.floor.0 (a.acked.versions) (pending_in a) t h.acked (pending-ascends h.line) (let q = top-pending h.line in omega (arith, q, above)) f));
+          (subst (AreAcked (a.acked.versions)) (sym pending)
+          (acked-push a.floor.0 (a.acked.versions) (pending_in a) t h.acked (pending-ascends h.line)
+          (let q = top-pending h.line in omega (arith, q, above)) f));
       early = held;
       room = record {
         accepted = (let r = room.accepted in omega (arith, r));
@@ -103,10 +119,15 @@ accepted-slot a t accepted early spare h p above f items len capacity held early
     }
 
 -- the updates that a test of their versions keeps
-pub updates_of-filter : (v : ℕ) (early : List PlacedUpdate) → updates_of (filter (λ (p : PlacedUpdate). not (eqb p.update.version.0 v)) early) ≡ filter (other_version v) (updates_of early)
+pub updates_of-filter : (v : ℕ) (early : List PlacedUpdate)
+    → updates_of (filter (λ (p : PlacedUpdate). not (eqb p.update.version.0 v)) early)
+    ≡ filter (other_version v) (updates_of early)
 updates_of-filter v [] = refl
 updates_of-filter v (p ∷ rest) =
-    cond_both (not (eqb p.update.version.0 v)) (p ∷ filter (λ (p : PlacedUpdate). not (eqb p.update.version.0 v)) rest) (filter (λ (p : PlacedUpdate). not (eqb p.update.version.0 v)) rest) (λ (ps : List PlacedUpdate). updates_of ps ≡ filter (other_version v) (updates_of (p ∷ rest)))
+    cond_both (not (eqb p.update.version.0 v)) (p ∷ filter
+    (λ (p : PlacedUpdate). not (eqb p.update.version.0 v)) rest)
+    (filter (λ (p : PlacedUpdate). not (eqb p.update.version.0 v)) rest)
+    (λ (ps : List PlacedUpdate). updates_of ps ≡ filter (other_version v) (updates_of (p ∷ rest)))
     (λ e. ap (λ (us : List Update). p.update ∷ us) (updates_of-filter v rest) ∙ sym (cond-true (not (eqb p.update.version.0 v)) _ _ e))
     (λ e. updates_of-filter v rest ∙ sym (cond-false (not (eqb p.update.version.0 v)) _ _ e))
 
@@ -120,7 +141,8 @@ accepted-state a t accepted early spare items kept =
     λ j. record { marks = a.keeps_marks; base = kept_in a.key a.base; accepted = line j; floor = a.floor.0; acked = a.acked.versions; early = waiting j }
 
 -- the slot with other early updates, no more of them with those to come
-pub held-slot : (a : Inside) (early : Vec PlacedUpdate Global) (spare : ℕ) → IsSlot a → AllByRecursion (IsHeld a.region) early.items → vec_len early + spare ≤ coming a → vec_capacity early ≡ vec_capacity a.early
+pub held-slot : (a : Inside) (early : Vec PlacedUpdate Global) (spare : ℕ) → IsSlot a
+    → AllByRecursion (IsHeld a.region) early.items → vec_len early + spare ≤ coming a → vec_capacity early ≡ vec_capacity a.early
     → IsSlot (record a { early = early; spare = spare })
 held-slot a early spare h held fewer capacity =
     let room = h.room in
@@ -138,11 +160,20 @@ held-slot a early spare h held fewer capacity =
       };
     }
 
-pub held-state : (a : Inside) (p : PlacedUpdate) (early : Vec PlacedUpdate Global) (spare : ℕ) → early.items ≡ filter (λ (q : PlacedUpdate). not (eqb q.update.version.0 p.update.version.0)) a.early.items ++ p ∷ []
+pub held-state : (a : Inside) (p : PlacedUpdate) (early : Vec PlacedUpdate Global) (spare : ℕ)
+    → early.items ≡ filter (λ (q : PlacedUpdate). not (eqb q.update.version.0 p.update.version.0)) a.early.items ++ p ∷ []
     → (whole (record a { early = early; spare = spare })).state ≡ moved (Hold p.update) (whole a).state
 held-state a p early spare items =
-    let waiting = ap updates_of items ∙ map_push (λ (q : PlacedUpdate). q.update) _ p ∙ ap (λ (us : List Update). us ++ p.update ∷ []) (updates_of-filter p.update.version.0 a.early.items) in
-    λ j. record { marks = a.keeps_marks; base = kept_in a.key a.base; accepted = newest_first [] a.accepted.items; floor = a.floor.0; acked = a.acked.versions; early = waiting j }
+    let waiting = ap updates_of items ∙ map_push (λ (q : PlacedUpdate). q.update) _ p
+    ∙ ap (λ (us : List Update). us ++ p.update ∷ []) (updates_of-filter p.update.version.0 a.early.items) in
+    λ j. record {
+      marks = a.keeps_marks;
+      base = kept_in a.key a.base;
+      accepted = newest_first [] a.accepted.items;
+      floor = a.floor.0;
+      acked = a.acked.versions;
+      early = waiting j;
+    }
 
 -- without the one that is taken out
 pub by_recursion-remove : {A : Type 0} (P : A → Type 0) (xs : List A) (i : ℕ) → AllByRecursion P xs → AllByRecursion P (remove xs i)
@@ -151,15 +182,26 @@ by_recursion-remove P [] (suc i) h = tt
 by_recursion-remove P (x ∷ xs) zero h = h.1
 by_recursion-remove P (x ∷ xs) (suc i) h = (h.0, by_recursion-remove P xs i h.1)
 
-filter-removed : (v : ℕ) (early : List PlacedUpdate) (i : ℕ) (p : PlacedUpdate) → i < length early → p ≡ get_or early i p → p.update.version.0 ≡ v → filter (other_version v) (updates_of (remove early i)) ≡ filter (other_version v) (updates_of early)
+filter-removed : (v : ℕ) (early : List PlacedUpdate) (i : ℕ) (p : PlacedUpdate) → i < length early
+    → p ≡ get_or early i p → p.update.version.0 ≡ v
+    → filter (other_version v) (updates_of (remove early i)) ≡ filter (other_version v) (updates_of early)
 filter-removed v [] i p l e q = absurd (omega arith)
 filter-removed v (x ∷ rest) zero p l e q =
     sym (cond-false (other_version v x.update) _ _ (ap not (eq-eqb x.update.version.0 v (ap (λ (y : PlacedUpdate). y.update.version.0) (sym e) ∙ q))))
 filter-removed v (x ∷ rest) (suc i) p l e q =
     ap (λ (us : List Update). cond (other_version v x.update) (x.update ∷ us) us) (filter-removed v rest i p (omega arith) e q)
 
-pub removed-state : (a : Inside) (i : ℕ) (p : PlacedUpdate) (early : Vec PlacedUpdate Global) (spare : ℕ) → i < length a.early.items → p ≡ get_or a.early.items i p → early.items ≡ remove a.early.items i
+pub removed-state : (a : Inside) (i : ℕ) (p : PlacedUpdate) (early : Vec PlacedUpdate Global) (spare : ℕ)
+    → i < length a.early.items → p ≡ get_or a.early.items i p → early.items ≡ remove a.early.items i
     → moved (Take p.update) (whole (record a { early = early; spare = spare })).state ≡ moved (Take p.update) (whole a).state
 removed-state a i p early spare l e items =
-    let waiting = ap (λ (ps : List PlacedUpdate). filter (other_version p.update.version.0) (updates_of ps)) items ∙ filter-removed p.update.version.0 a.early.items i p l e refl in
-    λ j. record { marks = a.keeps_marks; base = kept_in a.key a.base; accepted = p.update ∷ newest_first [] a.accepted.items; floor = a.floor.0; acked = a.acked.versions; early = waiting j }
+    let waiting = ap (λ (ps : List PlacedUpdate). filter (other_version p.update.version.0) (updates_of ps)) items
+    ∙ filter-removed p.update.version.0 a.early.items i p l e refl in
+    λ j. record {
+      marks = a.keeps_marks;
+      base = kept_in a.key a.base;
+      accepted = p.update ∷ newest_first [] a.accepted.items;
+      floor = a.floor.0;
+      acked = a.acked.versions;
+      early = waiting j;
+    }

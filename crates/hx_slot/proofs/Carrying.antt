@@ -1,6 +1,7 @@
 -- The committed state: marks and touches carried over the committed updates.
 use Rattle.hx_model.specs.Lines.{upto}
-use Rattle.std.proofs.Common.{◌≡◌, ℕ, ◌+◌, ◌<◌, ◌≤◌, Bool, true, false, List, [], ◌∷◌, ◌++◌, length, take, drop, set, get_or, Option, Some, None, refl, ap, sym, ◌∙◌, subst, add-one, arith, cond, eqb, ltb}
+use Rattle.std.proofs.Common.{◌≡◌, ℕ, ◌+◌, ◌<◌, ◌≤◌, Bool, true, false, List, [], ◌∷◌, ◌++◌, length, take, drop, set}
+use Rattle.std.proofs.Common.{get_or, Option, Some, None, refl, ap, sym, ◌∙◌, subst, add-one, arith, cond, eqb, ltb}
 use Rattle.std.specs.Option.{option_map}
 use Rattle.std.proofs.lemmas.Bool.{cond_both, cond-false, cond-true, eq-eqb, le-ltb, ne_eqb}
 use Rattle.std.proofs.lemmas.List.{at_drop_more, get_or_default, set_split}
@@ -21,13 +22,17 @@ use Rattle.hx_slot.proofs.Reading.{object-seen}
 use Rattle.hx_slot.proofs.Regions.{TouchesUpTo, touches_after-ascends, touches_after-upto}
 
 -- a mark takes the place of that of its session
-pub mark-over_at : (m : Mark) (marks : List Mark) (i : ℕ) (x y : Mark) → i < length marks → x ≡ get_or marks i x → y ≡ get_or marks i y → m.session.0 ≡ x.session.0 → y.number ≤ m.number
+pub mark-over_at : (m : Mark) (marks : List Mark) (i : ℕ) (x y : Mark) → i < length marks → x ≡ get_or marks i x
+    → y ≡ get_or marks i y → m.session.0 ≡ x.session.0 → y.number ≤ m.number
     → take i marks ++ with_mark m (drop i marks) ≡ with_mark m marks → set marks i m ≡ with_mark m marks
 mark-over_at m marks i x y l e f s n p =
     let same : y ≡ x = f ∙ get_or_default marks i y x l ∙ sym e in
     let number = ap (λ (z : Mark). z.number) same in
     set_split marks i m l
-    ∙ ap (λ (rest : List Mark). take i marks ++ rest) (ap (λ (j : ℕ). m ∷ drop j marks) (sym (add-one i)) ∙ sym (at_drop_more (with_mark m) marks i x l ∙ ap (λ (z : Mark). with_mark m (z ∷ drop (i + 1) marks)) (sym e) ∙ here (omega (arith, number, n))))
+    ∙ ap (λ (rest : List Mark). take i marks ++ rest)
+    (ap (λ (j : ℕ). m ∷ drop j marks) (sym (add-one i))
+    ∙ sym (at_drop_more (with_mark m) marks i x l
+    ∙ ap (λ (z : Mark). with_mark m (z ∷ drop (i + 1) marks)) (sym e) ∙ here (omega (arith, number, n))))
     ∙ p
   where
     here : x.number ≤ m.number → with_mark m (x ∷ drop (i + 1) marks) ≡ m ∷ drop (i + 1) marks
@@ -37,26 +42,36 @@ mark-over_at m marks i x y l e f s n p =
         ∙ ap (λ (z : Mark). z ∷ drop (i + 1) marks) (cond-false (ltb m.number x.number) _ _ (le-ltb m.number x.number l))
 
 -- the touches of one update more
-pub touches_over-more : (line : List AcceptedUpdate) (i : ℕ) (t : AcceptedUpdate) (old new : List Touch) (places : List Place) → i < length line → t ≡ get_or line i t → places ≡ t.update.places → new ≡ with_touches t.update.version places old → touches_over new (drop (i + 1) line) ≡ touches_over old (drop i line)
+pub touches_over-more : (line : List AcceptedUpdate) (i : ℕ) (t : AcceptedUpdate) (old new : List Touch)
+    (places : List Place) → i < length line → t ≡ get_or line i t → places ≡ t.update.places
+    → new ≡ with_touches t.update.version places old → touches_over new (drop (i + 1) line) ≡ touches_over old (drop i line)
 touches_over-more line i t old new places l e p n =
     ap (λ (ts : List Touch). touches_over ts (drop (i + 1) line)) (n ∙ ap (λ (ps : List Place). with_touches t.update.version ps old) p)
     ∙ ap (λ (x : AcceptedUpdate). touches_over (with_touches x.update.version x.update.places old) (drop (i + 1) line)) e
     ∙ sym (at_drop_more (touches_over old) line i t l)
 
-pub marks_after-over : (base : List Mark) (o : List Update) (ts : List AcceptedUpdate) → marks_after base (newest_first o ts) ≡ marks_over (marks_after base o) ts
+pub marks_after-over : (base : List Mark) (o : List Update) (ts : List AcceptedUpdate)
+    → marks_after base (newest_first o ts) ≡ marks_over (marks_after base o) ts
 marks_after-over base o [] = refl
 marks_after-over base o (t ∷ rest) = marks_after-over base (t.update ∷ o) rest
 
-pub touches_after-over : (base : List Touch) (o : List Update) (ts : List AcceptedUpdate) → touches_after base (newest_first o ts) ≡ touches_over (touches_after base o) ts
+pub touches_after-over : (base : List Touch) (o : List Update) (ts : List AcceptedUpdate)
+    → touches_after base (newest_first o ts) ≡ touches_over (touches_after base o) ts
 touches_after-over base o [] = refl
 touches_after-over base o (t ∷ rest) = touches_after-over base (t.update ∷ o) rest
 
 -- the parts of the committed state
-pub marks-seen : (a : Inside) → IsSlot a → provided a.keeps_marks (marks_over a.base.marks.items (take a.committed a.accepted.items)) ≡ (kept_of a.region (whole a).state).marks
-marks-seen a h = ap (provided a.keeps_marks) (sym (ap (marks_after a.base.marks.items) (upto-line h.line) ∙ marks_after-over a.base.marks.items [] (take a.committed a.accepted.items)))
+pub marks-seen : (a : Inside) → IsSlot a → provided a.keeps_marks
+    (marks_over a.base.marks.items (take a.committed a.accepted.items)) ≡ (kept_of a.region (whole a).state).marks
+marks-seen a h = ap (provided a.keeps_marks) (sym
+    (ap (marks_after a.base.marks.items) (upto-line h.line)
+    ∙ marks_after-over a.base.marks.items [] (take a.committed a.accepted.items)))
 
-pub touches-seen : (a : Inside) → IsSlot a → provided a.keeps_marks (touches_over a.base.touches.items (take a.committed a.accepted.items)) ≡ (kept_of a.region (whole a).state).touches
-touches-seen a h = ap (provided a.keeps_marks) (sym (ap (touches_after a.base.touches.items) (upto-line h.line) ∙ touches_after-over a.base.touches.items [] (take a.committed a.accepted.items)))
+pub touches-seen : (a : Inside) → IsSlot a → provided a.keeps_marks
+    (touches_over a.base.touches.items (take a.committed a.accepted.items)) ≡ (kept_of a.region (whole a).state).touches
+touches-seen a h = ap (provided a.keeps_marks) (sym
+    (ap (touches_after a.base.touches.items) (upto-line h.line)
+    ∙ touches_after-over a.base.touches.items [] (take a.committed a.accepted.items)))
 
 -- a row of a version up to a higher floor
 pub row-weaker : (v w : ℕ) (row : Option Row) → v ≤ w → IsRowUpTo v row → IsRowUpTo w row
@@ -96,16 +111,28 @@ kept-orderly a h =
     let low = last_version-above a.base.floor.0 line up in
     let updates = newest_first-upto a.floor.0 [] line a.base.floor.0 tt up (omega (arith, f)) in
     let cut = sym (upto-line h.line) in
-    let base_marks = recursion_from_All (λ (m : Mark). m.version.0 ≤ a.floor.0) a.base.marks.items (All-weaker (λ (m : Mark). m.version.0 ≤ a.base.floor.0) (λ (m : Mark). m.version.0 ≤ a.floor.0) (λ m l. omega (arith, f, low)) a.base.marks.items h.base.marks) in
-    let base_touches = recursion_from_All (λ (t : Touch). t.version.0 ≤ a.floor.0) a.base.touches.items (All-weaker (λ (t : Touch). t.version.0 ≤ a.base.floor.0) (λ (t : Touch). t.version.0 ≤ a.floor.0) (λ t l. omega (arith, f, low)) a.base.touches.items h.base.touches) in
+    let base_marks = recursion_from_All (λ (m : Mark). m.version.0 ≤ a.floor.0) a.base.marks.items
+    (All-weaker (λ (m : Mark). m.version.0 ≤ a.base.floor.0) (λ (m : Mark). m.version.0 ≤ a.floor.0)
+    (λ m l. omega (arith, f, low)) a.base.marks.items h.base.marks) in
+    let base_touches = recursion_from_All (λ (t : Touch). t.version.0 ≤ a.floor.0) a.base.touches.items
+    (All-weaker (λ (t : Touch). t.version.0 ≤ a.base.floor.0) (λ (t : Touch). t.version.0 ≤ a.floor.0)
+    (λ t l. omega (arith, f, low)) a.base.touches.items h.base.touches) in
     record {
-      row = subst (IsRowUpTo a.floor.0) (object-seen a h) (row_over-upto a.floor.0 a.base.floor.0 a.base.object line up (omega (arith, f)) (row-weaker a.base.floor.0 a.floor.0 a.base.object (omega (arith, f, low)) h.base.row));
+      row = subst (IsRowUpTo a.floor.0) (object-seen a h)
+          (row_over-upto a.floor.0 a.base.floor.0 a.base.object line up (omega (arith, f))
+          (row-weaker a.base.floor.0 a.floor.0 a.base.object (omega (arith, f, low)) h.base.row));
       marks = All-from_recursion (λ (m : Mark). m.version.0 ≤ a.floor.0) _
-          (provided-all (MarksUpTo a.floor.0) a.keeps_marks _ tt (subst (λ (us : List Update). MarksUpTo a.floor.0 (marks_after a.base.marks.items us)) cut (marks_after-upto a.floor.0 a.base.marks.items (newest_first [] line) base_marks updates)));
+          (provided-all (MarksUpTo a.floor.0) a.keeps_marks _ tt
+          (subst (λ (us : List Update). MarksUpTo a.floor.0 (marks_after a.base.marks.items us)) cut
+          (marks_after-upto a.floor.0 a.base.marks.items (newest_first [] line) base_marks updates)));
       touches = All-from_recursion (λ (t : Touch). t.version.0 ≤ a.floor.0) _
-          (provided-all (TouchesUpTo a.floor.0) a.keeps_marks _ tt (subst (λ (us : List Update). TouchesUpTo a.floor.0 (touches_after a.base.touches.items us)) cut (touches_after-upto a.floor.0 a.base.touches.items (newest_first [] line) base_touches updates)));
-      sessions_ascend = provided-all AscendBySession a.keeps_marks _ tt (marks_after-ascends a.base.marks.items (upto a.floor.0 (newest_first [] a.accepted.items)) h.base.sessions_ascend);
-      regions_ascend = provided-all AscendByRegion a.keeps_marks _ tt (touches_after-ascends a.base.touches.items (upto a.floor.0 (newest_first [] a.accepted.items)) h.base.regions_ascend);
+          (provided-all (TouchesUpTo a.floor.0) a.keeps_marks _ tt
+          (subst (λ (us : List Update). TouchesUpTo a.floor.0 (touches_after a.base.touches.items us)) cut
+          (touches_after-upto a.floor.0 a.base.touches.items (newest_first [] line) base_touches updates)));
+      sessions_ascend = provided-all AscendBySession a.keeps_marks _ tt
+          (marks_after-ascends a.base.marks.items (upto a.floor.0 (newest_first [] a.accepted.items)) h.base.sessions_ascend);
+      regions_ascend = provided-all AscendByRegion a.keeps_marks _ tt
+          (touches_after-ascends a.base.touches.items (upto a.floor.0 (newest_first [] a.accepted.items)) h.base.regions_ascend);
     }
 
 -- where something is committed
@@ -114,7 +141,13 @@ committed-state g s n = sym (cond-false (eqb s.floor 0) _ _ (ne_eqb s.floor 0 n)
 
 -- where every committed update is in the base, it is the committed state
 pub base-kept : (a : Inside) → IsSlot a → a.committed ≡ 0
-    → record { key = a.key; floor = a.floor; object = a.base.object; marks = a.base.marks.items; touches = a.base.touches.items } ≡ kept_of a.region (whole a).state
+    → record {
+      key = a.key;
+      floor = a.floor;
+      object = a.base.object;
+      marks = a.base.marks.items;
+      touches = a.base.touches.items;
+    } ≡ kept_of a.region (whole a).state
 base-kept a h e =
     let none : upto a.floor.0 (newest_first [] a.accepted.items) ≡ [] = upto-line h.line ∙ ap (λ n. newest_first [] (take n a.accepted.items)) e in
     let object = ap (kept_row a.region a.base.object) (sym none) in

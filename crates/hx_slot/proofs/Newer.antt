@@ -29,26 +29,36 @@ none_above session (m ∷ rest) h =
 
 -- a mark before those of higher sessions
 before : (session : SessionId) (m x : Mark) (rest : List Mark) → AscendBySession (x ∷ rest) → m.session.0 < x.session.0
-    → mark_among session (m ∷ x ∷ rest) ≡ cond (same_session m.session session) (newer_of (Some m) (mark_among session (x ∷ rest))) (mark_among session (x ∷ rest))
+    → mark_among session (m ∷ x ∷ rest) ≡ cond (same_session m.session session)
+    (newer_of (Some m) (mark_among session (x ∷ rest))) (mark_among session (x ∷ rest))
 before session m x rest h l =
-    cond_both (same_session m.session session) (newer_of (Some m) (mark_among session (x ∷ rest))) (mark_among session (x ∷ rest)) (λ (o : Option Mark). mark_among session (m ∷ x ∷ rest) ≡ o)
+    cond_both (same_session m.session session) (newer_of (Some m) (mark_among session (x ∷ rest)))
+    (mark_among session (x ∷ rest)) (λ (o : Option Mark). mark_among session (m ∷ x ∷ rest) ≡ o)
     (
     λ e. let s = eqb-true m.session.0 session.0 e in
-    let all = All-cons (λ n. session.0 < n) x.session.0 (map session_of rest) (omega (arith, s)) (All-weaker (λ n. x.session.0 < n) (λ n. session.0 < n) (λ n k. omega (arith, s)) (map session_of rest) h.0) in
+    let all = All-cons (λ n. session.0 < n) x.session.0 (map session_of rest) (omega (arith, s))
+    (All-weaker (λ n. x.session.0 < n) (λ n. session.0 < n) (λ n k. omega (arith, s)) (map session_of rest) h.0) in
     cond-true (same_session m.session session) _ _ e ∙ ap (newer_of (Some m)) (sym (none_above session (x ∷ rest) all))
     )
     (λ e. cond-false (same_session m.session session) _ _ e)
 
 -- a mark in place of one of its session
 over : (session : SessionId) (m x : Mark) (rest : List Mark) → m.session.0 ≡ x.session.0
-    → mark_among session (cond (ltb m.number x.number) x m ∷ rest) ≡ cond (same_session m.session session) (newer_of (Some m) (mark_among session (x ∷ rest))) (mark_among session (x ∷ rest))
+    → mark_among session (cond (ltb m.number x.number) x m ∷ rest)
+    ≡ cond (same_session m.session session) (newer_of (Some m) (mark_among session (x ∷ rest)))
+    (mark_among session (x ∷ rest))
 over session m x rest s =
-    cond_both (same_session m.session session) (newer_of (Some m) (mark_among session (x ∷ rest))) (mark_among session (x ∷ rest)) (λ (o : Option Mark). mark_among session (cond (ltb m.number x.number) x m ∷ rest) ≡ o)
+    cond_both (same_session m.session session) (newer_of (Some m) (mark_among session (x ∷ rest)))
+    (mark_among session (x ∷ rest)) (λ (o : Option Mark). mark_among session (cond (ltb m.number x.number) x m ∷ rest) ≡ o)
     (
     λ e. let q : same_session x.session session ≡ true = ap (λ n. eqb n session.0) (sym s) ∙ e in
     cond_both (ltb m.number x.number) x m (λ (y : Mark). mark_among session (y ∷ rest) ≡ newer_of (Some m) (mark_among session (x ∷ rest)))
-    (λ n. cond-true (same_session x.session session) _ _ q ∙ sym (ap (newer_of (Some m)) (cond-true (same_session x.session session) _ _ q) ∙ cond-true (ltb m.number x.number) _ _ n))
-    (λ n. cond-true (same_session m.session session) _ _ e ∙ sym (ap (newer_of (Some m)) (cond-true (same_session x.session session) _ _ q) ∙ cond-false (ltb m.number x.number) _ _ n))
+    (λ n. cond-true (same_session x.session session) _ _ q
+    ∙ sym (ap (newer_of (Some m)) (cond-true (same_session x.session session) _ _ q)
+    ∙ cond-true (ltb m.number x.number) _ _ n))
+    (λ n. cond-true (same_session m.session session) _ _ e
+    ∙ sym (ap (newer_of (Some m)) (cond-true (same_session x.session session) _ _ q)
+    ∙ cond-false (ltb m.number x.number) _ _ n))
     )
     (
     λ e. let q : same_session x.session session ≡ false = ap (λ n. eqb n session.0) (sym s) ∙ e in
@@ -62,10 +72,13 @@ after : (session : SessionId) (m x : Mark) (rest new : List Mark) → (m.session
     → mark_among session new ≡ cond (same_session m.session session) (newer_of (Some m) (mark_among session rest)) (mark_among session rest)
     → mark_among session (x ∷ new) ≡ cond (same_session m.session session) (newer_of (Some m) (mark_among session (x ∷ rest))) (mark_among session (x ∷ rest))
 after session m x rest new d h =
-    cond_both (same_session x.session session) (Some x) (mark_among session new) (λ (o : Option Mark). o ≡ cond (same_session m.session session) (newer_of (Some m) (mark_among session (x ∷ rest))) (mark_among session (x ∷ rest)))
+    cond_both (same_session x.session session) (Some x) (mark_among session new)
+    (λ (o : Option Mark). o ≡ cond (same_session m.session session)
+    (newer_of (Some m) (mark_among session (x ∷ rest))) (mark_among session (x ∷ rest)))
     (
     λ e. let s = eqb-true x.session.0 session.0 e in
-    sym (cond-true (same_session x.session session) _ _ e) ∙ sym (cond-false (same_session m.session session) _ _ (ne_eqb m.session.0 session.0 (λ k. d (k ∙ sym s))))
+    sym (cond-true (same_session x.session session) _ _ e)
+    ∙ sym (cond-false (same_session m.session session) _ _ (ne_eqb m.session.0 session.0 (λ k. d (k ∙ sym s))))
     )
     (λ e. h ∙ ap (λ (o : Option Mark). cond (same_session m.session session) (newer_of (Some m) o) o) (sym (cond-false (same_session x.session session) _ _ e)))
 
@@ -74,26 +87,33 @@ mark_among-with : (session : SessionId) (m : Mark) (marks : List Mark) → Ascen
     → mark_among session (with_mark m marks) ≡ cond (same_session m.session session) (newer_of (Some m) (mark_among session marks)) (mark_among session marks)
 mark_among-with session m [] h = refl
 mark_among-with session m (x ∷ rest) h =
-    cond_both (ltb m.session.0 x.session.0) (m ∷ x ∷ rest) (cond (same_session m.session x.session) (cond (ltb m.number x.number) x m ∷ rest) (x ∷ with_mark m rest))
-    (λ (l : List Mark). mark_among session l ≡ cond (same_session m.session session) (newer_of (Some m) (mark_among session (x ∷ rest))) (mark_among session (x ∷ rest)))
+    cond_both (ltb m.session.0 x.session.0) (m ∷ x ∷ rest)
+    (cond (same_session m.session x.session) (cond (ltb m.number x.number) x m ∷ rest) (x ∷ with_mark m rest))
+    (λ (l : List Mark). mark_among session l ≡ cond (same_session m.session session)
+    (newer_of (Some m) (mark_among session (x ∷ rest))) (mark_among session (x ∷ rest)))
     (λ e. before session m x rest h (ltb-true m.session.0 x.session.0 e))
     (
     λ e. cond_both (same_session m.session x.session) (cond (ltb m.number x.number) x m ∷ rest) (x ∷ with_mark m rest)
-    (λ (l : List Mark). mark_among session l ≡ cond (same_session m.session session) (newer_of (Some m) (mark_among session (x ∷ rest))) (mark_among session (x ∷ rest)))
+    (λ (l : List Mark). mark_among session l ≡ cond (same_session m.session session)
+    (newer_of (Some m) (mark_among session (x ∷ rest))) (mark_among session (x ∷ rest)))
     (λ s. over session m x rest (eqb-true m.session.0 x.session.0 s))
     (λ s. after session m x rest (with_mark m rest) (eqb-false m.session.0 x.session.0 s) (mark_among-with session m rest h.1))
     )
 
 -- sessions ascend with a mark more
-above : (n : ℕ) (m : Mark) (marks : List Mark) → n < m.session.0 → All (λ k. n < k) (map session_of marks) → All (λ k. n < k) (map session_of (with_mark m marks))
+above : (n : ℕ) (m : Mark) (marks : List Mark) → n < m.session.0 → All (λ k. n < k) (map session_of marks)
+    → All (λ k. n < k) (map session_of (with_mark m marks))
 above n m [] l h = All-cons (λ k. n < k) m.session.0 [] l h
 above n m (x ∷ rest) l h =
     let a = All-head (λ k. n < k) x.session.0 (map session_of rest) h in
     let b = All-tail (λ k. n < k) x.session.0 (map session_of rest) h in
-    cond_both (ltb m.session.0 x.session.0) (m ∷ x ∷ rest) (cond (same_session m.session x.session) (cond (ltb m.number x.number) x m ∷ rest) (x ∷ with_mark m rest)) (λ (l : List Mark). All (λ k. n < k) (map session_of l))
+    cond_both (ltb m.session.0 x.session.0) (m ∷ x ∷ rest)
+    (cond (same_session m.session x.session) (cond (ltb m.number x.number) x m ∷ rest) (x ∷ with_mark m rest))
+    (λ (l : List Mark). All (λ k. n < k) (map session_of l))
     (λ e. All-cons (λ k. n < k) m.session.0 (map session_of (x ∷ rest)) l h)
     (
-    λ e. cond_both (same_session m.session x.session) (cond (ltb m.number x.number) x m ∷ rest) (x ∷ with_mark m rest) (λ (l : List Mark). All (λ k. n < k) (map session_of l))
+    λ e. cond_both (same_session m.session x.session) (cond (ltb m.number x.number) x m ∷ rest) (x ∷ with_mark m rest)
+    (λ (l : List Mark). All (λ k. n < k) (map session_of l))
     (
     λ s. cond_both (ltb m.number x.number) x m (λ (y : Mark). All (λ k. n < k) (map session_of (y ∷ rest)))
     (λ t. h)
@@ -105,10 +125,14 @@ above n m (x ∷ rest) l h =
 pub with_mark-ascends : (m : Mark) (marks : List Mark) → AscendBySession marks → AscendBySession (with_mark m marks)
 with_mark-ascends m [] h = (All-nil (λ k. m.session.0 < k), tt)
 with_mark-ascends m (x ∷ rest) h =
-    cond_both (ltb m.session.0 x.session.0) (m ∷ x ∷ rest) (cond (same_session m.session x.session) (cond (ltb m.number x.number) x m ∷ rest) (x ∷ with_mark m rest)) AscendBySession
+    cond_both (ltb m.session.0 x.session.0) (m ∷ x ∷ rest)
+    (cond (same_session m.session x.session) (cond (ltb m.number x.number) x m ∷ rest) (x ∷ with_mark m rest)) AscendBySession
     (
-    λ e. let l = ltb-true m.session.0 x.session.0 e in
-    (All-cons (λ k. m.session.0 < k) x.session.0 (map session_of rest) l (All-weaker (λ k. x.session.0 < k) (λ k. m.session.0 < k) (λ k b. omega arith) (map session_of rest) h.0), h)
+    λ e. let l = ltb-true m.session.0 x.session.0 e in (
+      All-cons (λ k. m.session.0 < k) x.session.0 (map session_of rest) l
+          (All-weaker (λ k. x.session.0 < k) (λ k. m.session.0 < k) (λ k b. omega arith) (map session_of rest) h.0),
+      h,
+    )
     )
     (
     λ e. cond_both (same_session m.session x.session) (cond (ltb m.number x.number) x m ∷ rest) (x ∷ with_mark m rest) AscendBySession
@@ -130,7 +154,9 @@ marks_after-ascends base [] h = h
 marks_after-ascends base (u ∷ older) h = with_mark-ascends (mark_by u) (marks_after base older) (marks_after-ascends base older h)
 
 -- the mark of a session after updates
-pub newest-marks : (session : SessionId) (base : List Mark) (o : List Update) (ts : List AcceptedUpdate) → AscendBySession base → newest_over session (mark_among session (marks_after base o)) ts ≡ mark_among session (marks_after base (newest_first o ts))
+pub newest-marks : (session : SessionId) (base : List Mark) (o : List Update) (ts : List AcceptedUpdate)
+    → AscendBySession base → newest_over session (mark_among session (marks_after base o)) ts
+    ≡ mark_among session (marks_after base (newest_first o ts))
 newest-marks session base o [] h = refl
 newest-marks session base o (t ∷ rest) h =
     ap (λ (m : Option Mark). newest_over session m rest) (sym (mark_among-with session (mark_by t.update) (marks_after base o) (marks_after-ascends base o h)))
@@ -152,20 +178,27 @@ newer_of-assoc m (Some y) (Some z) =
     λ a. let l = ltb-false m.number y.number a in
     cond_both (ltb y.number z.number) (Some z) (Some y) (λ (o : Option Mark). newer_of (Some m) o ≡ newer_of (Some m) (Some z))
     (λ b. refl)
-    (λ b. let k = ltb-false y.number z.number b in cond-false (ltb m.number y.number) _ _ a ∙ sym (cond-false (ltb m.number z.number) _ _ (le-ltb m.number z.number (omega arith))))
+    (λ b. let k = ltb-false y.number z.number b in
+    cond-false (ltb m.number y.number) _ _ a ∙ sym
+    (cond-false (ltb m.number z.number) _ _ (le-ltb m.number z.number (omega arith))))
     )
 
 -- the mark of a session is the newer of the updates' and the base's
-pub mark-over : (session : SessionId) (base : List Mark) (us : List Update) → AscendBySession base → newer_of (mark_among session (marks_after [] us)) (mark_among session base) ≡ mark_among session (marks_after base us)
+pub mark-over : (session : SessionId) (base : List Mark) (us : List Update) → AscendBySession base
+    → newer_of (mark_among session (marks_after [] us)) (mark_among session base) ≡ mark_among session (marks_after base us)
 mark-over session base [] h = refl
 mark-over session base (u ∷ older) h =
     let all = mark_among-with session (mark_by u) (marks_after base older) (marks_after-ascends base older h) in
     let table = mark_among-with session (mark_by u) (marks_after [] older) (marks_after-ascends [] older tt) in
     let old = mark-over session base older h in
     ap (λ (o : Option Mark). newer_of o (mark_among session base)) table
-    ∙ cond_both (same_session u.caller.session session) (newer_of (Some (mark_by u)) (mark_among session (marks_after [] older))) (mark_among session (marks_after [] older))
-    (λ (o : Option Mark). newer_of o (mark_among session base) ≡ cond (same_session u.caller.session session) (newer_of (Some (mark_by u)) (mark_among session (marks_after base older))) (mark_among session (marks_after base older)))
-    (λ e. sym (newer_of-assoc (mark_by u) (mark_among session (marks_after [] older)) (mark_among session base)) ∙ ap (newer_of (Some (mark_by u))) old ∙ sym (cond-true (same_session u.caller.session session) _ _ e))
+    ∙ cond_both (same_session u.caller.session session)
+    (newer_of (Some (mark_by u)) (mark_among session (marks_after [] older))) (mark_among session (marks_after [] older))
+    (λ (o : Option Mark). newer_of o (mark_among session base)
+    ≡ cond (same_session u.caller.session session)
+    (newer_of (Some (mark_by u)) (mark_among session (marks_after base older))) (mark_among session (marks_after base older)))
+    (λ e. sym (newer_of-assoc (mark_by u) (mark_among session (marks_after [] older)) (mark_among session base))
+    ∙ ap (newer_of (Some (mark_by u))) old ∙ sym (cond-true (same_session u.caller.session session) _ _ e))
     (λ e. old ∙ sym (cond-false (same_session u.caller.session session) _ _ e))
     ∙ sym all
 
@@ -176,7 +209,8 @@ MarksUpTo v marks = AllByRecursion (λ (m : Mark). m.version.0 ≤ v) marks
 pub with_mark-upto : (v : ℕ) (m : Mark) (marks : List Mark) → m.version.0 ≤ v → MarksUpTo v marks → MarksUpTo v (with_mark m marks)
 with_mark-upto v m [] l h = (l, tt)
 with_mark-upto v m (x ∷ rest) l h =
-    cond_both (ltb m.session.0 x.session.0) (m ∷ x ∷ rest) (cond (same_session m.session x.session) (cond (ltb m.number x.number) x m ∷ rest) (x ∷ with_mark m rest)) (MarksUpTo v)
+    cond_both (ltb m.session.0 x.session.0) (m ∷ x ∷ rest)
+    (cond (same_session m.session x.session) (cond (ltb m.number x.number) x m ∷ rest) (x ∷ with_mark m rest)) (MarksUpTo v)
     (λ e. (l, h))
     (
     λ e. cond_both (same_session m.session x.session) (cond (ltb m.number x.number) x m ∷ rest) (x ∷ with_mark m rest) (MarksUpTo v)

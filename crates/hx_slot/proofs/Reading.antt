@@ -13,7 +13,9 @@ use Rattle.hx_slot.specs.Invariant.{IsSlot, pending_in, whole}
 use Rattle.hx_slot.specs.States.{HasFewPlaces, IsPlacedIn, call_at}
 use Rattle.hx_slot.specs.MarksAndTouches.{newer_of, newest_over, touched_over}
 use Rattle.hx_slot.proofs.Newer.{mark-over, newest-marks}
-use Rattle.hx_slot.proofs.Newest.{by_recursion-drop, by_recursion-take, few-placed, kept_row-newest_first, newest_first-upto, pending-ascends, pending-between, pending-line, placed-within, top-pending, top_above-newest_first, update_of, upto-line}
+use Rattle.hx_slot.proofs.Newest.{by_recursion-drop, by_recursion-take, few-placed, kept_row-newest_first}
+use Rattle.hx_slot.proofs.Newest.{newest_first-upto, pending-ascends, pending-between, pending-line, placed-within}
+use Rattle.hx_slot.proofs.Newest.{top-pending, top_above-newest_first, update_of, upto-line}
 use Rattle.hx_slot.proofs.Regions.{UpdatesUpTo, touched-over}
 
 pub top-seen : (a : Inside) → last_version a.base.floor.0 a.accepted.items ≡ top_of (whole a).state
@@ -27,7 +29,9 @@ object-seen a h =
     sym
     (
     ap (kept_row a.region a.base.object) (upto-line h.line)
-    ∙ kept_row-newest_first a.region a.base.object [] (take a.committed a.accepted.items) (by_recursion-take (λ (t : AcceptedUpdate). IsPlaced a.region t.update t.keeps) a.committed a.accepted.items h.line.placed)
+    ∙ kept_row-newest_first a.region a.base.object [] (take a.committed a.accepted.items)
+    (by_recursion-take (λ (t : AcceptedUpdate). IsPlaced a.region t.update t.keeps) a.committed a.accepted.items
+    h.line.placed)
     )
 
 pub pending-seen : (a : Inside) → IsSlot a → map update_of (pending_in a) ≡ pending_of (whole a).state
@@ -37,17 +41,20 @@ pub count-seen : (a : Inside) → IsSlot a → length a.accepted.items - a.commi
 count-seen a h = sym (ap length (pending-line h.line) ∙ length-map (pending_in a) update_of ∙ length-drop a.committed a.accepted.items)
 
 -- the versions of what is pending, and its places
-pub versions-seen : (a : Inside) → IsSlot a → AllByRecursion (λ (u : Update). (a.floor.0 < u.version.0) × (u.version.0 ≤ top_of (whole a).state)) (map update_of (pending_in a))
+pub versions-seen : (a : Inside) → IsSlot a → AllByRecursion
+    (λ (u : Update). (a.floor.0 < u.version.0) × (u.version.0 ≤ top_of (whole a).state)) (map update_of (pending_in a))
 versions-seen a h =
     let e = top-seen a in
     let q = top-pending h.line in
     pending-between a.floor.0 (top_of (whole a).state) a.floor.0 (pending_in a) (omega arith) (pending-ascends h.line) (omega (arith, e, q))
 
 pub places-seen : (a : Inside) → IsSlot a → AllByRecursion (IsPlacedIn a.region) (map update_of (pending_in a))
-places-seen a h = placed-within a.region (pending_in a) (by_recursion-drop (λ (t : AcceptedUpdate). IsPlaced a.region t.update t.keeps) a.committed a.accepted.items h.line.placed)
+places-seen a h = placed-within a.region (pending_in a)
+    (by_recursion-drop (λ (t : AcceptedUpdate). IsPlaced a.region t.update t.keeps) a.committed a.accepted.items h.line.placed)
 
 pub few-seen : (a : Inside) → IsSlot a → AllByRecursion HasFewPlaces (map update_of (pending_in a))
-few-seen a h = few-placed a.region (pending_in a) (by_recursion-drop (λ (t : AcceptedUpdate). IsPlaced a.region t.update t.keeps) a.committed a.accepted.items h.line.placed)
+few-seen a h = few-placed a.region (pending_in a)
+    (by_recursion-drop (λ (t : AcceptedUpdate). IsPlaced a.region t.update t.keeps) a.committed a.accepted.items h.line.placed)
 
 -- nothing of the slot is above its top
 pub updates-upto : (a : Inside) → IsSlot a → UpdatesUpTo (top_of (whole a).state) (newest_first [] a.accepted.items)
@@ -57,7 +64,9 @@ updates-upto a h =
 pub touched-seen : (a : Inside) (g : RegionId) → touched_over g (touched_in g a.base.touches.items) a.accepted.items ≡ touched_in g (touches_of (whole a).state)
 touched-seen a g = touched-over g a.base.touches.items [] a.accepted.items
 
-pub mark-seen : (a : Inside) → IsSlot a → (session : SessionId) → newer_of (newest_over session None a.accepted.items) (mark_among session a.base.marks.items) ≡ mark_of session (whole a).state
+pub mark-seen : (a : Inside) → IsSlot a → (session : SessionId)
+    → newer_of (newest_over session None a.accepted.items) (mark_among session a.base.marks.items)
+    ≡ mark_of session (whole a).state
 mark-seen a h session =
     ap (λ (o : Option Mark). newer_of o (mark_among session a.base.marks.items)) (newest-marks session [] [] a.accepted.items tt)
     ∙ mark-over session a.base.marks.items (newest_first [] a.accepted.items) h.base.sessions_ascend

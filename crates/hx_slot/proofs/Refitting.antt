@@ -38,7 +38,9 @@ pub refitted-slot : (a : Inside) (accepted : Vec AcceptedUpdate Global) (early :
 refitted-slot a accepted early base spare h more held wider room =
     let same = same-kept a.key a.base base (widened-copied a.base base wider) in
     record {
-      line = subst (λ (n : ℕ). IsLine a.region n accepted.items a.committed a.floor.0) (sym (ap (λ (v : Version). v.0) wider.floor)) (subst (λ (ts : List AcceptedUpdate). IsLine a.region a.base.floor.0 ts a.committed a.floor.0) (sym more.items) h.line);
+      line = subst (λ (n : ℕ). IsLine a.region n accepted.items a.committed a.floor.0)
+          (sym (ap (λ (v : Version). v.0) wider.floor))
+          (subst (λ (ts : List AcceptedUpdate). IsLine a.region a.base.floor.0 ts a.committed a.floor.0) (sym more.items) h.line);
       base = subst IsOrderly (sym same) h.base;
       bare = same-provided a.keeps_marks a.base.marks.items base.marks.items wider.marks.items h.bare;
       untouched = same-provided a.keeps_marks a.base.touches.items base.touches.items wider.touches.items h.untouched;

@@ -1,5 +1,7 @@
 -- Touches in ascending order of regions: where a region's stands, and a touch more.
-use Rattle.std.proofs.Common.{◌≡◌, ℕ, zero, suc, ◌+◌, ◌<◌, ◌≤◌, Bool, true, false, ◌||◌, List, [], ◌∷◌, ◌++◌, map, length, drop, set, get_or, Option, Some, None, Ok, Err, Result, refl, ap, sym, ◌∙◌, subst, arith, cond, ltb, eqb}
+use Rattle.std.proofs.Common.{◌≡◌, ℕ, zero, suc, ◌+◌, ◌<◌, ◌≤◌, Bool, true, false, ◌||◌, List, [], ◌∷◌, ◌++◌, map}
+use Rattle.std.proofs.Common.{length, drop, set, get_or, Option, Some, None, Ok, Err, Result, refl, ap, sym, ◌∙◌}
+use Rattle.std.proofs.Common.{subst, arith, cond, ltb, eqb}
 use Rattle.std.specs.List.{All, AllByRecursion, HoldsAt, insert, list_any}
 use Rattle.std.specs.Option.{option_map, unwrap_or}
 use Rattle.std.specs.List.Sorted.{IsBinarySearchResult, IsNonDecreasingBy, IsPartitionPoint, IsSearchInRange}
@@ -50,7 +52,9 @@ at g (t ∷ rest) (suc i) h l e =
     let q : (get_or rest i t).region.0 ≡ g = ranked (get_or rest i t).region.0 g an_order.Equal (sym (e t)) in
     (omega (arith, b, q), at g rest i h.1 within e)
 
-gap : (g : ℕ) (ts : List Touch) (i : ℕ) → i ≤ length ts → IsPartitionPoint (λ (t : Touch). nat_cmp t.region.0 g ≡ an_order.Less) (λ (t : Touch). nat_cmp t.region.0 g ≡ an_order.Greater) ts i → IsGap g ts i
+gap : (g : ℕ) (ts : List Touch) (i : ℕ) → i ≤ length ts
+    → IsPartitionPoint (λ (t : Touch). nat_cmp t.region.0 g ≡ an_order.Less)
+    (λ (t : Touch). nat_cmp t.region.0 g ≡ an_order.Greater) ts i → IsGap g ts i
 gap g [] zero l p = tt
 gap g [] (suc i) l p = absurd (omega arith)
 gap g (t ∷ rest) zero l p = (
@@ -63,7 +67,8 @@ gap g (t ∷ rest) (suc i) l p = (
 )
 
 -- what a binary search says of the region
-pub searched_region : (g : ℕ) (ts : List Touch) (r : Result ℕ ℕ) → AscendByRegion ts → IsSearchInRange r (length ts) → IsBinarySearchResult (λ (t : Touch). nat_cmp t.region.0 g) ts r → MatchResult r (IsAt g ts) (IsGap g ts)
+pub searched_region : (g : ℕ) (ts : List Touch) (r : Result ℕ ℕ) → AscendByRegion ts → IsSearchInRange r (length ts)
+    → IsBinarySearchResult (λ (t : Touch). nat_cmp t.region.0 g) ts r → MatchResult r (IsAt g ts) (IsGap g ts)
 searched_region g ts (Ok i) h l p = at g ts i h l p
 searched_region g ts (Err i) h l p = gap g ts i l (p (λ a b d le lt. not_falling g _ _ (rising ts h a b d le lt)))
 
@@ -88,10 +93,12 @@ touch-at g (t ∷ rest) (suc i) d p = touch-at g rest i d p.1 ∙ sym (cond-fals
 pub with_touch-at : (t : Touch) (ts : List Touch) (i : ℕ) → IsAt t.region.0 ts i → set ts i t ≡ with_touch t ts
 with_touch-at t [] i p = absurd p
 with_touch-at t (x ∷ rest) zero p =
-    sym (cond-false (ltb t.region.0 x.region.0) _ _ (le-ltb t.region.0 x.region.0 (omega arith)) ∙ cond-true (same_region t.region x.region) _ _ (eq-eqb t.region.0 x.region.0 (sym p)))
+    sym (cond-false (ltb t.region.0 x.region.0) _ _ (le-ltb t.region.0 x.region.0 (omega arith))
+    ∙ cond-true (same_region t.region x.region) _ _ (eq-eqb t.region.0 x.region.0 (sym p)))
 with_touch-at t (x ∷ rest) (suc i) p =
     ap (λ (l : List Touch). x ∷ l) (with_touch-at t rest i p.1)
-    ∙ sym (cond-false (ltb t.region.0 x.region.0) _ _ (le-ltb t.region.0 x.region.0 (omega arith)) ∙ cond-false (same_region t.region x.region) _ _ (ne_eqb t.region.0 x.region.0 (λ e. omega arith)))
+    ∙ sym (cond-false (ltb t.region.0 x.region.0) _ _ (le-ltb t.region.0 x.region.0 (omega arith))
+    ∙ cond-false (same_region t.region x.region) _ _ (ne_eqb t.region.0 x.region.0 (λ e. omega arith)))
 
 -- or it stands in the gap
 pub with_touch-gap : (t : Touch) (ts : List Touch) (i : ℕ) → IsGap t.region.0 ts i → insert ts i t ≡ with_touch t ts
@@ -100,7 +107,8 @@ with_touch-gap t [] (suc i) p = absurd p
 with_touch-gap t (x ∷ rest) zero p = sym (cond-true (ltb t.region.0 x.region.0) _ _ (lt-ltb t.region.0 x.region.0 p.0))
 with_touch-gap t (x ∷ rest) (suc i) p =
     ap (λ (l : List Touch). x ∷ l) (with_touch-gap t rest i p.1)
-    ∙ sym (cond-false (ltb t.region.0 x.region.0) _ _ (le-ltb t.region.0 x.region.0 (omega arith)) ∙ cond-false (same_region t.region x.region) _ _ (ne_eqb t.region.0 x.region.0 (λ e. omega arith)))
+    ∙ sym (cond-false (ltb t.region.0 x.region.0) _ _ (le-ltb t.region.0 x.region.0 (omega arith))
+    ∙ cond-false (same_region t.region x.region) _ _ (ne_eqb t.region.0 x.region.0 (λ e. omega arith)))
 
 -- regions ascend with a touch more
 above : (n : ℕ) (t : Touch) (ts : List Touch) → n < t.region.0 → All (λ m. n < m) (map region_of ts) → All (λ m. n < m) (map region_of (with_touch t ts))
@@ -108,7 +116,9 @@ above n t [] l h = All-cons (λ m. n < m) t.region.0 [] l h
 above n t (x ∷ rest) l h =
     let a = All-head (λ m. n < m) x.region.0 (map region_of rest) h in
     let b = All-tail (λ m. n < m) x.region.0 (map region_of rest) h in
-    cond_both (ltb t.region.0 x.region.0) (t ∷ x ∷ rest) (cond (same_region t.region x.region) (t ∷ rest) (x ∷ with_touch t rest)) (λ (l : List Touch). All (λ m. n < m) (map region_of l))
+    cond_both (ltb t.region.0 x.region.0) (t ∷ x ∷ rest)
+    (cond (same_region t.region x.region) (t ∷ rest) (x ∷ with_touch t rest))
+    (λ (l : List Touch). All (λ m. n < m) (map region_of l))
     (λ e. All-cons (λ m. n < m) t.region.0 (map region_of (x ∷ rest)) l h)
     (
     λ e. cond_both (same_region t.region x.region) (t ∷ rest) (x ∷ with_touch t rest) (λ (l : List Touch). All (λ m. n < m) (map region_of l))
@@ -121,8 +131,11 @@ with_touch-ascends t [] h = (All-nil (λ m. t.region.0 < m), tt)
 with_touch-ascends t (x ∷ rest) h =
     cond_both (ltb t.region.0 x.region.0) (t ∷ x ∷ rest) (cond (same_region t.region x.region) (t ∷ rest) (x ∷ with_touch t rest)) AscendByRegion
     (
-    λ e. let l = ltb-true t.region.0 x.region.0 e in
-    (All-cons (λ m. t.region.0 < m) x.region.0 (map region_of rest) l (All-weaker (λ m. x.region.0 < m) (λ m. t.region.0 < m) (λ m k. omega arith) (map region_of rest) h.0), h)
+    λ e. let l = ltb-true t.region.0 x.region.0 e in (
+      All-cons (λ m. t.region.0 < m) x.region.0 (map region_of rest) l
+          (All-weaker (λ m. x.region.0 < m) (λ m. t.region.0 < m) (λ m k. omega arith) (map region_of rest) h.0),
+      h,
+    )
     )
     (
     λ e. cond_both (same_region t.region x.region) (t ∷ rest) (x ∷ with_touch t rest) AscendByRegion
@@ -135,14 +148,18 @@ with_touch-ascends t (x ∷ rest) h =
     )
 
 -- the touches of one place more
-pub with_touches-more : (v : Version) (places : List Place) (i : ℕ) (d : Place) (ts more : List Touch) → i < length places → more ≡ with_touch (record { region = (get_or places i d).region; version = v }) ts
+pub with_touches-more : (v : Version) (places : List Place) (i : ℕ) (d : Place) (ts more : List Touch)
+    → i < length places → more ≡ with_touch (record { region = (get_or places i d).region; version = v }) ts
     → with_touches v (drop (i + 1) places) more ≡ with_touches v (drop i places) ts
-with_touches-more v places i d ts more l e = ap (with_touches v (drop (i + 1) places)) e ∙ sym (at_drop_more (λ (rest : List Place). with_touches v rest ts) places i d l)
+with_touches-more v places i d ts more l e = ap (with_touches v (drop (i + 1) places)) e
+    ∙ sym (at_drop_more (λ (rest : List Place). with_touches v rest ts) places i d l)
 
 -- regions ascend with the touches of places more
 pub with_touches-ascends : (v : Version) (places : List Place) (ts : List Touch) → AscendByRegion ts → AscendByRegion (with_touches v places ts)
 with_touches-ascends v [] ts h = h
-with_touches-ascends v (p ∷ rest) ts h = with_touches-ascends v rest (with_touch (record { region = p.region; version = v }) ts) (with_touch-ascends (record { region = p.region; version = v }) ts h)
+with_touches-ascends v (p ∷ rest) ts h = with_touches-ascends v rest
+    (with_touch (record { region = p.region; version = v }) ts)
+    (with_touch-ascends (record { region = p.region; version = v }) ts h)
 
 -- the version of a region's touch is 0 where there is none
 pub touched-among : (g : RegionId) (ts : List Touch) → unwrap_or (touch_among g ts) 0 ≡ touched_in g ts
@@ -156,10 +173,13 @@ touched-among g (t ∷ rest) =
 touched-with : (g : RegionId) (t : Touch) (ts : List Touch) → touched_in g (with_touch t ts) ≡ cond (same_region t.region g) t.version.0 (touched_in g ts)
 touched-with g t [] = refl
 touched-with g t (x ∷ rest) =
-    cond_both (ltb t.region.0 x.region.0) (t ∷ x ∷ rest) (cond (same_region t.region x.region) (t ∷ rest) (x ∷ with_touch t rest)) (λ (l : List Touch). touched_in g l ≡ cond (same_region t.region g) t.version.0 (touched_in g (x ∷ rest)))
+    cond_both (ltb t.region.0 x.region.0) (t ∷ x ∷ rest)
+    (cond (same_region t.region x.region) (t ∷ rest) (x ∷ with_touch t rest))
+    (λ (l : List Touch). touched_in g l ≡ cond (same_region t.region g) t.version.0 (touched_in g (x ∷ rest)))
     (λ e. refl)
     (
-    λ e. cond_both (same_region t.region x.region) (t ∷ rest) (x ∷ with_touch t rest) (λ (l : List Touch). touched_in g l ≡ cond (same_region t.region g) t.version.0 (touched_in g (x ∷ rest)))
+    λ e. cond_both (same_region t.region x.region) (t ∷ rest) (x ∷ with_touch t rest)
+    (λ (l : List Touch). touched_in g l ≡ cond (same_region t.region g) t.version.0 (touched_in g (x ∷ rest)))
     (
     λ s. let q = eqb-true t.region.0 x.region.0 s in
     cond_both (same_region t.region g) t.version.0 (touched_in g (x ∷ rest)) (λ (n : ℕ). cond (same_region t.region g) t.version.0 (touched_in g rest) ≡ n)
@@ -168,7 +188,8 @@ touched-with g t (x ∷ rest) =
     )
     (
     λ s. let d = eqb-false t.region.0 x.region.0 s in
-    cond_both (same_region x.region g) x.version.0 (touched_in g (with_touch t rest)) (λ (n : ℕ). n ≡ cond (same_region t.region g) t.version.0 (touched_in g (x ∷ rest)))
+    cond_both (same_region x.region g) x.version.0 (touched_in g (with_touch t rest))
+    (λ (n : ℕ). n ≡ cond (same_region t.region g) t.version.0 (touched_in g (x ∷ rest)))
     (
     λ a. let b = eqb-true x.region.0 g.0 a in
     sym (cond-true (same_region x.region g) _ _ a) ∙ sym (cond-false (same_region t.region g) _ _ (ne_eqb t.region.0 g.0 (λ k. d (k ∙ sym b))))
@@ -184,7 +205,9 @@ either false true v x = refl
 either false false v x = refl
 
 -- and after the touches of places
-touched-places : (g : RegionId) (v : Version) (places : List Place) (ts : List Touch) → touched_in g (with_touches v places ts) ≡ cond (list_any (λ (p : Place). same_region p.region g) places) v.0 (touched_in g ts)
+touched-places : (g : RegionId) (v : Version) (places : List Place) (ts : List Touch)
+    → touched_in g (with_touches v places ts) ≡ cond (list_any (λ (p : Place). same_region p.region g) places) v.0
+    (touched_in g ts)
 touched-places g v [] ts = refl
 touched-places g v (p ∷ rest) ts =
     touched-places g v rest (with_touch (record { region = p.region; version = v }) ts)
@@ -192,13 +215,15 @@ touched-places g v (p ∷ rest) ts =
     ∙ either (same_region p.region g) (list_any (λ (p : Place). same_region p.region g) rest) v.0 (touched_in g ts)
 
 -- the last version at a region after updates
-pub touched-over : (g : RegionId) (base : List Touch) (o : List Update) (ts : List AcceptedUpdate) → touched_over g (touched_in g (touches_after base o)) ts ≡ touched_in g (touches_after base (newest_first o ts))
+pub touched-over : (g : RegionId) (base : List Touch) (o : List Update) (ts : List AcceptedUpdate)
+    → touched_over g (touched_in g (touches_after base o)) ts ≡ touched_in g (touches_after base (newest_first o ts))
 touched-over g base o [] = refl
 touched-over g base o (t ∷ rest) =
     ap (λ n. touched_over g n rest) (sym (touched-places g t.update.version t.update.places (touches_after base o))) ∙ touched-over g base (t.update ∷ o) rest
 
 -- with an update more
-touched-push : (g : RegionId) (v : ℕ) (ts : List AcceptedUpdate) (t : AcceptedUpdate) → touched_over g v (ts ++ t ∷ []) ≡ cond (has_touched g t) t.update.version.0 (touched_over g v ts)
+touched-push : (g : RegionId) (v : ℕ) (ts : List AcceptedUpdate) (t : AcceptedUpdate)
+    → touched_over g v (ts ++ t ∷ []) ≡ cond (has_touched g t) t.update.version.0 (touched_over g v ts)
 touched-push g v [] t = refl
 touched-push g v (x ∷ ts) t = touched-push g (cond (has_touched g x) x.update.version.0 v) ts t
 
@@ -215,11 +240,14 @@ with_touch-upto v t [] l h = (l, tt)
 with_touch-upto v t (x ∷ rest) l h =
     cond_both (ltb t.region.0 x.region.0) (t ∷ x ∷ rest) (cond (same_region t.region x.region) (t ∷ rest) (x ∷ with_touch t rest)) (TouchesUpTo v)
     (λ e. (l, h))
-    (λ e. cond_both (same_region t.region x.region) (t ∷ rest) (x ∷ with_touch t rest) (TouchesUpTo v) (λ s. (l, h.1)) (λ s. (h.0, with_touch-upto v t rest l h.1)))
+    (λ e. cond_both (same_region t.region x.region) (t ∷ rest) (x ∷ with_touch t rest) (TouchesUpTo v) (λ s. (l, h.1))
+    (λ s. (h.0, with_touch-upto v t rest l h.1)))
 
 pub with_touches-upto : (v : ℕ) (w : Version) (places : List Place) (ts : List Touch) → w.0 ≤ v → TouchesUpTo v ts → TouchesUpTo v (with_touches w places ts)
 with_touches-upto v w [] ts l h = h
-with_touches-upto v w (p ∷ rest) ts l h = with_touches-upto v w rest (with_touch (record { region = p.region; version = w }) ts) l (with_touch-upto v (record { region = p.region; version = w }) ts l h)
+with_touches-upto v w (p ∷ rest) ts l h = with_touches-upto v w rest
+    (with_touch (record { region = p.region; version = w }) ts) l
+    (with_touch-upto v (record { region = p.region; version = w }) ts l h)
 
 abbrev pub UpdatesUpTo : ℕ → List Update → Type 0
 UpdatesUpTo v us = AllByRecursion (λ (u : Update). u.version.0 ≤ v) us
@@ -238,16 +266,20 @@ number-or_zero None = refl
 number-or_zero (Some v) = refl
 
 -- the last of the updates has a place there, or leaves it to those before it
-pub touched-here : (g : RegionId) (v : ℕ) (rest older : List AcceptedUpdate) (t : AcceptedUpdate) → rest ≡ older ++ t ∷ [] → has_touched g t ≡ true → t.update.version.0 ≡ touched_over g v rest
+pub touched-here : (g : RegionId) (v : ℕ) (rest older : List AcceptedUpdate) (t : AcceptedUpdate)
+    → rest ≡ older ++ t ∷ [] → has_touched g t ≡ true → t.update.version.0 ≡ touched_over g v rest
 touched-here g v rest older t e k = sym (ap (touched_over g v) e ∙ touched-push g v older t ∙ cond-true (has_touched g t) _ _ k)
 
-pub touched-earlier : (g : RegionId) (v : ℕ) (rest older : List AcceptedUpdate) (t : AcceptedUpdate) → rest ≡ older ++ t ∷ [] → has_touched g t ≡ false → touched_over g v older ≡ touched_over g v rest
+pub touched-earlier : (g : RegionId) (v : ℕ) (rest older : List AcceptedUpdate) (t : AcceptedUpdate)
+    → rest ≡ older ++ t ∷ [] → has_touched g t ≡ false → touched_over g v older ≡ touched_over g v rest
 touched-earlier g v rest older t e k = sym (ap (touched_over g v) e ∙ touched-push g v older t ∙ cond-false (has_touched g t) _ _ k)
 
 pub touched-none : (g : RegionId) (v : ℕ) (ts : List AcceptedUpdate) → 0 ≡ length ts → v ≡ touched_over g v ts
 touched-none g v [] e = refl
 touched-none g v (t ∷ rest) e = absurd (omega (arith, e))
 
-pub has-read : (g : RegionId) (t : AcceptedUpdate) (u : Update) (ps : List Place) (b : Bool) → u ≡ t.update → ps ≡ u.places → b ≡ list_any (λ (p : Place). same_region p.region g) ps → b ≡ has_touched g t
+pub has-read : (g : RegionId) (t : AcceptedUpdate) (u : Update) (ps : List Place) (b : Bool) → u ≡ t.update
+    → ps ≡ u.places → b ≡ list_any (λ (p : Place). same_region p.region g) ps → b ≡ has_touched g t
 has-read g t u ps b e f h =
-    h ∙ ap (λ (qs : List Place). list_any (λ (p : Place). same_region p.region g) qs) f ∙ ap (λ (x : Update). list_any (λ (p : Place). same_region p.region g) x.places) e
+    h ∙ ap (λ (qs : List Place). list_any (λ (p : Place). same_region p.region g) qs) f
+    ∙ ap (λ (x : Update). list_any (λ (p : Place). same_region p.region g) x.places) e

@@ -24,10 +24,12 @@ pub removed : (row : Option Row) (rest older : List AcceptedUpdate) (t : Accepte
 removed row rest older t e k =
     sym (ap (row_over row) e ∙ row_over_push row older t ∙ cond-false t.keeps _ _ k)
 
-pub is_set : (row : Option Row) (rest older : List AcceptedUpdate) (t : AcceptedUpdate) → rest ≡ older ++ t ∷ [] → t.keeps ≡ true → t.update.changes ≡ true → row_of t.update ≡ row_over row rest
+pub is_set : (row : Option Row) (rest older : List AcceptedUpdate) (t : AcceptedUpdate) → rest ≡ older ++ t ∷ []
+    → t.keeps ≡ true → t.update.changes ≡ true → row_of t.update ≡ row_over row rest
 is_set row rest older t e k h =
     sym (ap (row_over row) e ∙ row_over_push row older t ∙ cond-true t.keeps _ _ k ∙ cond-true t.update.changes _ _ h)
 
-pub is_left : (row : Option Row) (rest older : List AcceptedUpdate) (t : AcceptedUpdate) → rest ≡ older ++ t ∷ [] → t.keeps ≡ true → t.update.changes ≡ false → row_over row older ≡ row_over row rest
+pub is_left : (row : Option Row) (rest older : List AcceptedUpdate) (t : AcceptedUpdate) → rest ≡ older ++ t ∷ []
+    → t.keeps ≡ true → t.update.changes ≡ false → row_over row older ≡ row_over row rest
 is_left row rest older t e k h =
     sym (ap (row_over row) e ∙ row_over_push row older t ∙ cond-true t.keeps _ _ k ∙ cond-false t.update.changes _ _ h)

@@ -19,7 +19,8 @@ same-trans (x ∷ xs) (y ∷ ys) [] h k = absurd k
 same-trans (x ∷ xs) (y ∷ ys) (z ∷ zs) h k = (k.0 ∙ h.0, k.1 ∙ h.1, same-trans xs ys zs h.2 k.2)
 
 -- another mark on one update
-pub same-set : (xs : List AcceptedUpdate) (i : ℕ) (x : AcceptedUpdate) (marked : Bool) → i < length xs → x ≡ get_or xs i x → AreSameUpdates xs (set xs i (record x { acknowledged = marked }))
+pub same-set : (xs : List AcceptedUpdate) (i : ℕ) (x : AcceptedUpdate) (marked : Bool) → i < length xs
+    → x ≡ get_or xs i x → AreSameUpdates xs (set xs i (record x { acknowledged = marked }))
 same-set [] i x marked l e = tt
 same-set (y ∷ ys) zero x marked l e = (ap (λ (t : AcceptedUpdate). t.update) e, ap (λ (t : AcceptedUpdate). t.keeps) e, same-refl ys)
 same-set (y ∷ ys) (suc i) x marked l e = (refl, refl, same-set ys i x marked (omega arith) e)
@@ -53,10 +54,14 @@ pub same-ascends : (v : ℕ) (xs ys : List AcceptedUpdate) → AreSameUpdates xs
 same-ascends v [] [] h a = tt
 same-ascends v [] (y ∷ ys) h a = absurd h
 same-ascends v (x ∷ xs) [] h a = absurd h
-same-ascends v (x ∷ xs) (y ∷ ys) h a =
-    (subst (λ (u : Update). v < u.version.0) (sym h.0) a.0, same-ascends y.update.version.0 xs ys h.2 (subst (λ (u : Update). Ascends u.version.0 xs) (sym h.0) a.1))
+same-ascends v (x ∷ xs) (y ∷ ys) h a = (
+  subst (λ (u : Update). v < u.version.0) (sym h.0) a.0,
+  same-ascends y.update.version.0 xs ys h.2 (subst (λ (u : Update). Ascends u.version.0 xs) (sym h.0) a.1),
+)
 
-same-placed : (g : RegionId) (xs ys : List AcceptedUpdate) → AreSameUpdates xs ys → AllByRecursion (λ (t : AcceptedUpdate). IsPlaced g t.update t.keeps) xs → AllByRecursion (λ (t : AcceptedUpdate). IsPlaced g t.update t.keeps) ys
+same-placed : (g : RegionId) (xs ys : List AcceptedUpdate) → AreSameUpdates xs ys
+    → AllByRecursion (λ (t : AcceptedUpdate). IsPlaced g t.update t.keeps) xs
+    → AllByRecursion (λ (t : AcceptedUpdate). IsPlaced g t.update t.keeps) ys
 same-placed g [] [] h a = tt
 same-placed g [] (y ∷ ys) h a = absurd h
 same-placed g (x ∷ xs) [] h a = absurd h
@@ -64,7 +69,8 @@ same-placed g (x ∷ xs) (y ∷ ys) h a =
     (subst (λ (u : Update). IsPlaced g u y.keeps) (sym h.0) (subst (λ (k : Bool). IsPlaced g x.update k) (sym h.1) a.0), same-placed g xs ys h.2 a.1)
 
 -- a line of the same entries
-pub same-line : {g : RegionId} {base : ℕ} {xs : List AcceptedUpdate} {c floor : ℕ} → IsLine g base xs c floor → (ys : List AcceptedUpdate) → AreSameUpdates xs ys → IsLine g base ys c floor
+pub same-line : {g : RegionId} {base : ℕ} {xs : List AcceptedUpdate} {c floor : ℕ} → IsLine g base xs c floor
+    → (ys : List AcceptedUpdate) → AreSameUpdates xs ys → IsLine g base ys c floor
 same-line {g = g} {base = base} {xs = xs} {c = c} line ys h =
     record {
       ascends = same-ascends base xs ys h line.ascends;

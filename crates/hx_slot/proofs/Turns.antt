@@ -1,5 +1,6 @@
 -- The early updates whose turns have come.
-use Rattle.std.proofs.Common.{◌≡◌, ℕ, zero, suc, ◌<◌, ◌≤◌, Bool, true, false, List, [], ◌∷◌, length, get_or, is_some, slice_get, Option, Some, None, refl, ap, sym, ◌∙◌, subst, arith, cond, eqb, ltb}
+use Rattle.std.proofs.Common.{◌≡◌, ℕ, zero, suc, ◌<◌, ◌≤◌, Bool, true, false, List, [], ◌∷◌, length, get_or, is_some}
+use Rattle.std.proofs.Common.{slice_get, Option, Some, None, refl, ap, sym, ◌∙◌, subst, arith, cond, eqb, ltb}
 use Rattle.std.specs.List.{AllByRecursion, filter, find, position, position_or_len}
 use Rattle.std.specs.Option.{IfSome, option_map}
 use Rattle.std.proofs.lemmas.Bool.{cond_both, cond-false, cond-true, eqb-true, false≢true, ltb-false, ltb-true, ne_eqb, not-false}
@@ -22,11 +23,14 @@ follows-held : (g : RegionId) (v : ℕ) (p : PlacedUpdate) → IsHeld g p → fo
 follows-held g v p h = ap (λ (o : Option ℕ). when_some o false (λ after. eqb after v)) h.turn
 
 -- the first of them is found by its place
-pub find-held : (g : RegionId) (v : ℕ) (early : List PlacedUpdate) → AllByRecursion (IsHeld g) early → find (follows g v) (updates_of early) ≡ option_map (λ (p : PlacedUpdate). p.update) (find (comes_after v) early)
+pub find-held : (g : RegionId) (v : ℕ) (early : List PlacedUpdate) → AllByRecursion (IsHeld g) early
+    → find (follows g v) (updates_of early) ≡ option_map (λ (p : PlacedUpdate). p.update) (find (comes_after v) early)
 find-held g v [] h = refl
 find-held g v (p ∷ rest) h =
     ap (λ b. cond b (Some p.update) (find (follows g v) (updates_of rest))) (follows-held g v p h.0)
-    ∙ cond_both (comes_after v p) (Some p) (find (comes_after v) rest) (λ (o : Option PlacedUpdate). cond (comes_after v p) (Some p.update) (find (follows g v) (updates_of rest)) ≡ option_map (λ (q : PlacedUpdate). q.update) o)
+    ∙ cond_both (comes_after v p) (Some p) (find (comes_after v) rest)
+    (λ (o : Option PlacedUpdate). cond (comes_after v p) (Some p.update) (find (follows g v) (updates_of rest))
+    ≡ option_map (λ (q : PlacedUpdate). q.update) o)
     (λ e. cond-true (comes_after v p) _ _ e)
     (λ e. cond-false (comes_after v p) _ _ e ∙ find-held g v rest h.1)
 
@@ -64,7 +68,8 @@ pub record IsTurn (g : RegionId) (v : ℕ) (early : List PlacedUpdate) (i : ℕ)
   pub held : IsHeld g p
   pub after : p.after.0 ≡ v
 
-pub turn-found : (g : RegionId) (v : ℕ) (early : List PlacedUpdate) (i : ℕ) (p : PlacedUpdate) → AllByRecursion (IsHeld g) early → position (comes_after v) early ≡ Some i → p ≡ get_or early i p → IsTurn g v early i p
+pub turn-found : (g : RegionId) (v : ℕ) (early : List PlacedUpdate) (i : ℕ) (p : PlacedUpdate)
+    → AllByRecursion (IsHeld g) early → position (comes_after v) early ≡ Some i → p ≡ get_or early i p → IsTurn g v early i p
 turn-found g v early i p h e r =
     let within = found-within (comes_after v) early i e in
     let at = found-place (comes_after v) early i e ∙ slice_get_read early (length early) i p refl within r in
@@ -76,8 +81,10 @@ turn-found g v early i p h e r =
       after = eqb-true p.after.0 v facts.1;
     }
 
-pub turn-none : (g : RegionId) (v : ℕ) (early : List PlacedUpdate) → AllByRecursion (IsHeld g) early → position (comes_after v) early ≡ None → find (follows g v) (updates_of early) ≡ None
-turn-none g v early h e = find-held g v early h ∙ ap (λ (o : Option PlacedUpdate). option_map (λ (q : PlacedUpdate). q.update) o) (no-place (comes_after v) early e)
+pub turn-none : (g : RegionId) (v : ℕ) (early : List PlacedUpdate) → AllByRecursion (IsHeld g) early
+    → position (comes_after v) early ≡ None → find (follows g v) (updates_of early) ≡ None
+turn-none g v early h e = find-held g v early h ∙ ap
+    (λ (o : Option PlacedUpdate). option_map (λ (q : PlacedUpdate). q.update) o) (no-place (comes_after v) early e)
 
 -- each early update's turn comes after a lower version
 pub later-held : (g : RegionId) (early : List PlacedUpdate) → AllByRecursion (IsHeld g) early → AllByRecursion (IsLater g) (updates_of early)
@@ -112,22 +119,27 @@ above g w u l e = by (after_at g u) l e
     by (Some after) l e = let q = eqb-true after w e in omega (arith, q, l)
 
 -- what is found among the early updates is found without those of a past version
-find-later : (g : RegionId) (v w : ℕ) (us : List Update) → AllByRecursion (IsLater g) us → v ≤ w → find (follows g w) (filter (other_version v) us) ≡ find (follows g w) us
+find-later : (g : RegionId) (v w : ℕ) (us : List Update) → AllByRecursion (IsLater g) us → v ≤ w
+    → find (follows g w) (filter (other_version v) us) ≡ find (follows g w) us
 find-later g v w [] h b = refl
 find-later g v w (u ∷ rest) h b =
-    cond_both (other_version v u) (u ∷ filter (other_version v) rest) (filter (other_version v) rest) (λ (us : List Update). find (follows g w) us ≡ find (follows g w) (u ∷ rest))
+    cond_both (other_version v u) (u ∷ filter (other_version v) rest) (filter (other_version v) rest)
+    (λ (us : List Update). find (follows g w) us ≡ find (follows g w) (u ∷ rest))
     (λ e. ap (λ (o : Option Update). cond (follows g w u) (Some u) o) (find-later g v w rest h.1 b))
     (λ e. find-later g v w rest h.1 b ∙ sym (cond-false (follows g w u) _ _ (other-follows g v w u h.0 b e)))
 
 -- the same turns come without those of a past version
-pub turns-later : (g : RegionId) (n v w : ℕ) (us : List Update) → AllByRecursion (IsLater g) us → v ≤ w → turns g n w (filter (other_version v) us) ≡ turns g n w us
+pub turns-later : (g : RegionId) (n v w : ℕ) (us : List Update) → AllByRecursion (IsLater g) us → v ≤ w
+    → turns g n w (filter (other_version v) us) ≡ turns g n w us
 turns-later g zero v w us h b = refl
 turns-later g (suc n) v w us h b =
     ap (λ (o : Option Update). when_some o [] (λ (u : Update). Take u ∷ turns g n u.version.0 (filter (other_version v) us))) (find-later g v w us h b)
     ∙ by (find (follows g w) us) refl (λ u l. turns-later g n v u.version.0 us h l)
   where
-    by : (o : Option Update) → find (follows g w) us ≡ o → ((u : Update) → v ≤ u.version.0 → turns g n u.version.0 (filter (other_version v) us) ≡ turns g n u.version.0 us)
-        → when_some o [] (λ (u : Update). Take u ∷ turns g n u.version.0 (filter (other_version v) us)) ≡ when_some o [] (λ (u : Update). Take u ∷ turns g n u.version.0 us)
+    by : (o : Option Update) → find (follows g w) us ≡ o
+        → ((u : Update) → v ≤ u.version.0 → turns g n u.version.0 (filter (other_version v) us) ≡ turns g n u.version.0 us)
+        → when_some o [] (λ (u : Update). Take u ∷ turns g n u.version.0 (filter (other_version v) us))
+        ≡ when_some o [] (λ (u : Update). Take u ∷ turns g n u.version.0 us)
     by None e more = refl
     by (Some u) e more =
         let facts = find-some (IsLater g) (follows g w) us u h e in
@@ -135,7 +147,8 @@ turns-later g (suc n) v w us h b =
         ap (λ (moves : List Move). Take u ∷ moves) (more u (omega (arith, l, b)))
 
 -- the first of several turns
-pub turns-first : (g : RegionId) (n m top : ℕ) (early : List Update) (u : Update) → n ≡ suc m → Some u ≡ find (follows g top) early → turns g n top early ≡ Take u ∷ turns g m u.version.0 early
+pub turns-first : (g : RegionId) (n m top : ℕ) (early : List Update) (u : Update) → n ≡ suc m
+    → Some u ≡ find (follows g top) early → turns g n top early ≡ Take u ∷ turns g m u.version.0 early
 turns-first g n m top early u e f =
     ap (λ k. turns g k top early) e ∙ ap (λ (o : Option Update). when_some o [] (λ (w : Update). Take w ∷ turns g m w.version.0 early)) (sym f)
 
@@ -144,14 +157,16 @@ pub record IsStep (g : RegionId) (n : ℕ) (old new : KeyState) : Type 0 where
   pub state : moved_all (turns g n (top_of new) new.early) new ≡ moved_all (turns g (suc n) (top_of old) old.early) old
   pub count : suc (length (taken (turns g n (top_of new) new.early))) ≡ length (taken (turns g (suc n) (top_of old) old.early))
 
-pub turn-step : (g : RegionId) (n : ℕ) (old new : KeyState) → true ≡ is_some (find (follows g (top_of old)) old.early) → new ≡ moved_all (turns g 1 (top_of old) old.early) old → AllByRecursion (IsLater g) old.early → IsStep g n old new
+pub turn-step : (g : RegionId) (n : ℕ) (old new : KeyState) → true ≡ is_some (find (follows g (top_of old)) old.early)
+    → new ≡ moved_all (turns g 1 (top_of old) old.early) old → AllByRecursion (IsLater g) old.early → IsStep g n old new
 turn-step g n old new f e later =
     let r = by (find (follows g (top_of old)) old.early) refl f e in record { state = r.0; count = r.1 }
   where
     after : (u : Update) → turns g n u.version.0 (filter (other_version u.version.0) old.early) ≡ turns g n u.version.0 old.early
     after u = turns-later g n u.version.0 u.version.0 old.early later (omega arith)
 
-    by : (o : Option Update) → find (follows g (top_of old)) old.early ≡ o → true ≡ is_some o → new ≡ moved_all (when_some o [] (λ (u : Update). Take u ∷ [])) old
+    by : (o : Option Update) → find (follows g (top_of old)) old.early ≡ o → true ≡ is_some o
+        → new ≡ moved_all (when_some o [] (λ (u : Update). Take u ∷ [])) old
         → (moved_all (turns g n (top_of new) new.early) new ≡ moved_all (when_some o [] (λ (u : Update). Take u ∷ turns g n u.version.0 old.early)) old)
         × (suc (length (taken (turns g n (top_of new) new.early))) ≡ length (taken (when_some o [] (λ (u : Update). Take u ∷ turns g n u.version.0 old.early))))
     by None q f e = absurd (false≢true (sym f))

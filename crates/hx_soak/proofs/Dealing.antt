@@ -20,7 +20,8 @@ abbrev call_at : ℕ → ℕ → ℕ → Op
 call_at seed session turn = call_drawn session (draw_of seed turn)
 
 -- its own turn deals a session one more call
-pub dealt : (seed session turn : ℕ) → is_turn session turn ≡ true → calls_drawn seed (turn + 1) session ≡ calls_drawn seed turn session ++ call_drawn session (draw_of seed turn) ∷ []
+pub dealt : (seed session turn : ℕ) → is_turn session turn ≡ true
+    → calls_drawn seed (turn + 1) session ≡ calls_drawn seed turn session ++ call_drawn session (draw_of seed turn) ∷ []
 dealt seed session turn own =
     ap (λ n. calls_drawn seed n session) (add-one turn)
     ∙ ap (map (call_at seed session)) (one_more session turn ∙ ap (λ ts. turns_of turn session ++ ts) (cond-true (is_turn session turn) (turn ∷ []) [] own))
@@ -30,7 +31,9 @@ dealt seed session turn own =
 pub passed : (seed session turn : ℕ) → is_turn session turn ≡ false → calls_drawn seed (turn + 1) session ≡ calls_drawn seed turn session
 passed seed session turn other =
     ap (λ n. calls_drawn seed n session) (add-one turn)
-    ∙ ap (map (call_at seed session)) (one_more session turn ∙ ap (λ ts. turns_of turn session ++ ts) (cond-false (is_turn session turn) (turn ∷ []) [] other) ∙ append-nil (turns_of turn session))
+    ∙ ap (map (call_at seed session)) (one_more session turn
+    ∙ ap (λ ts. turns_of turn session ++ ts) (cond-false (is_turn session turn) (turn ∷ []) [] other)
+    ∙ append-nil (turns_of turn session))
 
 -- and every turn moves the state
 pub moved : (seed turn : ℕ) → state_after seed (turn + 1) ≡ next_state (state_after seed turn)

@@ -29,7 +29,8 @@ one_axis : (attribute : ℕ) → 0 < attribute → attribute ≤ 2 → IsSubspac
 one_axis attribute some few = record {
   some = omega arith;
   few = omega arith;
-  declared = All-cons (λ (a : Axis). (0 < a.attribute) × (a.attribute ≤ length soak.attributes) × ArePart a.parts) (record { attribute = attribute; parts = 4 }) [] (some, few, (omega arith, omega arith)) (All-nil _);
+  declared = All-cons (λ (a : Axis). (0 < a.attribute) × (a.attribute ≤ length soak.attributes) × ArePart a.parts)
+      (record { attribute = attribute; parts = 4 }) [] (some, few, (omega arith, omega arith)) (All-nil _);
   once = (All-nil _, tt);
 }
 
@@ -39,16 +40,25 @@ differ_from first name n rest differ = λ e. differ (cc)
 pub soak_is_space : IsSpace soak
 soak_is_space = record {
   name = is_name (codes "soak") refl (omega arith) (differ_from 105 (102 ∷ []) 115 _ (λ e. omega (arith, e))) (λ e. cc);
-  key_name = is_name (codes "k") refl (omega arith) (differ_from 105 (102 ∷ []) 107 _ (λ e. omega (arith, e))) (differ_from 115 (101 ∷ 116 ∷ []) 107 _ (λ e. omega (arith, e)));
-  names = All-cons (λ (a : Attribute). IsName a.name × IsKind a.kind) (record { name = codes "color"; kind = a_kind.Text }) (record { name = codes "size"; kind = a_kind.Int (pos 0) (pos 999) } ∷ []) (color, tt)
-      (All-cons (λ (a : Attribute). IsName a.name × IsKind a.kind) (record { name = codes "size"; kind = a_kind.Int (pos 0) (pos 999) }) [] (size, omega arith) (All-nil _));
+  key_name = is_name (codes "k") refl (omega arith) (differ_from 105 (102 ∷ []) 107 _ (λ e. omega (arith, e)))
+      (differ_from 115 (101 ∷ 116 ∷ []) 107 _ (λ e. omega (arith, e)));
+  names = All-cons (λ (a : Attribute). IsName a.name × IsKind a.kind)
+      (record { name = codes "color"; kind = a_kind.Text })
+      (record { name = codes "size"; kind = a_kind.Int (pos 0) (pos 999) } ∷ []) (color, tt)
+      (All-cons (λ (a : Attribute). IsName a.name × IsKind a.kind)
+      (record { name = codes "size"; kind = a_kind.Int (pos 0) (pos 999) }) [] (size, omega arith) (All-nil _));
   names_differ = (
-    All-cons (λ (m : List ℕ). m ≢ codes "k") (codes "color") (codes "size" ∷ []) (differ_from 107 [] 99 _ (λ e. omega (arith, e))) (All-cons (λ (m : List ℕ). m ≢ codes "k") (codes "size") [] (differ_from 107 [] 115 _ (λ e. omega (arith, e))) (All-nil _)),
+    All-cons (λ (m : List ℕ). m ≢ codes "k") (codes "color") (codes "size" ∷ [])
+        (differ_from 107 [] 99 _ (λ e. omega (arith, e)))
+        (All-cons (λ (m : List ℕ). m ≢ codes "k") (codes "size") [] (differ_from 107 [] 115 _ (λ e. omega (arith, e))) (All-nil _)),
     (All-cons (λ (m : List ℕ). m ≢ codes "color") (codes "size") [] (differ_from 99 _ 115 _ (λ e. omega (arith, e))) (All-nil _), (All-nil _, tt)),
   );
   attributes = omega arith;
   key_parts = (omega arith, omega arith);
-  subspaces = All-cons (IsSubspaceOf soak) (record { attribute = 1; parts = 4 } ∷ []) ((record { attribute = 2; parts = 4 } ∷ []) ∷ []) (one_axis 1 (omega arith) (omega arith)) (All-cons (IsSubspaceOf soak) (record { attribute = 2; parts = 4 } ∷ []) [] (one_axis 2 (omega arith) (omega arith)) (All-nil _));
+  subspaces = All-cons (IsSubspaceOf soak) (record { attribute = 1; parts = 4 } ∷ [])
+      ((record { attribute = 2; parts = 4 } ∷ []) ∷ []) (one_axis 1 (omega arith) (omega arith))
+      (All-cons (IsSubspaceOf soak) (record { attribute = 2; parts = 4 } ∷ []) []
+      (one_axis 2 (omega arith) (omega arith)) (All-nil _));
   few_subspaces = omega arith;
   regions = omega arith;
   servers = (omega arith, omega arith);
@@ -56,7 +66,8 @@ soak_is_space = record {
 }
   where
     color : IsName (codes "color")
-    color = is_name (codes "color") refl (omega arith) (differ_from 105 (102 ∷ []) 99 _ (λ e. omega (arith, e))) (differ_from 115 (101 ∷ 116 ∷ []) 99 _ (λ e. omega (arith, e)))
+    color = is_name (codes "color") refl (omega arith) (differ_from 105 (102 ∷ []) 99 _ (λ e. omega (arith, e)))
+        (differ_from 115 (101 ∷ 116 ∷ []) 99 _ (λ e. omega (arith, e)))
 
     size : IsName (codes "size")
     size = is_name (codes "size") refl (omega arith) (differ_from 105 (102 ∷ []) 115 _ (λ e. omega (arith, e))) (λ e. cc)
@@ -88,7 +99,8 @@ one_fits assign fits = record { each = All-cons (AssignFits soak) assign [] fits
 
 two_fit : (draw : ℕ) → AssignsFit soak (color_drawn draw ∷ size_drawn draw ∷ [])
 two_fit draw = record {
-  each = All-cons (AssignFits soak) (color_drawn draw) (size_drawn draw ∷ []) (color_fits draw) (All-cons (AssignFits soak) (size_drawn draw) [] (size_fits draw) (All-nil _));
+  each = All-cons (AssignFits soak) (color_drawn draw) (size_drawn draw ∷ []) (color_fits draw)
+      (All-cons (AssignFits soak) (size_drawn draw) [] (size_fits draw) (All-nil _));
   once = (All-cons (λ m. m ≢ 1) 2 [] (λ e. omega (arith, e)) (All-nil _), (All-nil _, tt));
 }
 
@@ -96,7 +108,11 @@ up : (low : ℕ) → pos low ≤ℤ pos (low + 99)
 up low = omega (arith, le→leb)
 
 sizes_fit : (draw : ℕ) → TermsFit soak (sizes_drawn draw ∷ [])
-sizes_fit draw = record { each = All-cons (TermFits soak) (sizes_drawn draw) [] (omega arith, tt, up ((draw / 2 ^ 24) % 900)) (All-nil _); once = (All-nil _, tt) }
+sizes_fit draw = record {
+  each = All-cons (TermFits soak) (sizes_drawn draw) []
+      (omega arith, tt, up ((draw / 2 ^ 24) % 900)) (All-nil _);
+  once = (All-nil _, tt);
+}
 
 call_fits : (kind session draw : ℕ) → session ≤ 4 → Fits soak (call_of_kind kind session draw)
 call_fits kind session draw few =
@@ -122,7 +138,8 @@ calls_fit seed calls session few =
 
 -- each turn is that of one of the four sessions
 one_of_four : (turn d : ℕ) → d < 4
-    → length (cond (d + 1 == 1) (turn ∷ []) []) + length (cond (d + 1 == 2) (turn ∷ []) []) + length (cond (d + 1 == 3) (turn ∷ []) []) + length (cond (d + 1 == 4) (turn ∷ []) []) ≡ 1
+    → length (cond (d + 1 == 1) (turn ∷ []) []) + length (cond (d + 1 == 2) (turn ∷ []) []) + length
+    (cond (d + 1 == 3) (turn ∷ []) []) + length (cond (d + 1 == 4) (turn ∷ []) []) ≡ 1
 one_of_four turn zero l = refl
 one_of_four turn (suc zero) l = refl
 one_of_four turn (suc (suc zero)) l = refl
@@ -141,14 +158,20 @@ dealt_out (suc turn) =
     omega (arith, a, b, c, d, before, here)
   where
     more : (session : ℕ) → length (turns_of (suc turn) session) ≡ length (turns_of turn session) + length (cond (turn % 4 + 1 == session) (turn ∷ []) [])
-    more session = ap (λ (ts : List ℕ). length ts) (one_more session turn) ∙ length-append (turns_of turn session) (filter (λ t. session_at t == session) (turn ∷ []))
+    more session = ap (λ (ts : List ℕ). length ts) (one_more session turn)
+        ∙ length-append (turns_of turn session) (filter (λ t. session_at t == session) (turn ∷ []))
 
 pub is_script : (seed calls : ℕ) → calls ≤ MOST_CALLS → IsScript (script_drawn seed calls)
 is_script seed calls few = record {
   space = soak_is_space;
   sessions = omega arith;
-  calls = All-from_recursion (All (Fits soak)) (script_drawn seed calls).sessions
-      (calls_fit seed calls 1 (omega arith), (calls_fit seed calls 2 (omega arith), (calls_fit seed calls 3 (omega arith), (calls_fit seed calls 4 (omega arith), tt))));
+  calls = All-from_recursion (All (Fits soak)) (script_drawn seed calls).sessions (
+    calls_fit seed calls 1 (omega arith),
+    (
+      calls_fit seed calls 2 (omega arith),
+      (calls_fit seed calls 3 (omega arith), (calls_fit seed calls 4 (omega arith), tt)),
+    ),
+  );
   few_calls = total;
   few_steps = omega arith;
 }

@@ -54,9 +54,11 @@ of_session : (seed calls session byte : ℕ) → ((rest : List ℕ) → second (
     → (op : Op) → IsIn op (calls_drawn seed calls session) → (key : List ℕ) → key_of op ≡ Some key → second key ≡ Some byte
 of_session seed calls session byte tells op i key e =
     let turn = in_map (λ t. call_drawn session (draw_of seed t)) (turns_of calls session) op i in
-    ap second (on_its_key ((draw_of seed turn.0 / 2 ^ 8) % 8) session (draw_of seed turn.0) key (subst (λ (o : Op). key_of o ≡ Some key) turn.1 e)) ∙ tells (decimal (draw_of seed turn.0 % 64))
+    ap second (on_its_key ((draw_of seed turn.0 / 2 ^ 8) % 8) session (draw_of seed turn.0) key
+    (subst (λ (o : Op). key_of o ≡ Some key) turn.1 e)) ∙ tells (decimal (draw_of seed turn.0 % 64))
 
-owner : (seed calls n : ℕ) (op : Op) → IsIn op (when_some (numbered (script_drawn seed calls).sessions n) [] (λ (ops : List Op). ops)) → (key : List ℕ) → key_of op ≡ Some key → second key ≡ Some (n + 48)
+owner : (seed calls n : ℕ) (op : Op) → IsIn op (when_some (numbered (script_drawn seed calls).sessions n) []
+    (λ (ops : List Op). ops)) → (key : List ℕ) → key_of op ≡ Some key → second key ≡ Some (n + 48)
 owner seed calls zero op i key e = absurd i
 owner seed calls (suc zero) op i key e = of_session seed calls 1 49 second_of_1 op i key e
 owner seed calls (suc (suc zero)) op i key e = of_session seed calls 2 50 second_of_2 op i key e

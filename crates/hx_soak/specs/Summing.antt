@@ -1,4 +1,5 @@
--- The text of a summary: how many calls ended and how, how many objects there are in the end, and a hash of these; traces stand newest first. The format is this project's choice.
+-- The text of a summary: how many calls ended and how, how many objects there are in the end, and a
+-- hash of these; traces stand newest first. The format is this project's choice.
 use Rattle.std.specs.Prelude.{◌≡◌, ℕ, List, ◌++◌, length, codes}
 use Rattle.std.specs.List.{flat_map}
 use Rattle.std.specs.Fmt.{decimal}

@@ -20,11 +20,13 @@ use Rattle.hx_spaces.proofs.Places.{drop-here, drop-none, get-map, length-map, n
 at-place : (ws : List WorldState) (k : ℕ) (w : WorldState) → slice_get ws k ≡ Some w → delivery_at (map newest ws) k ≡ delivery_in w.script (reverse w.trace)
 at-place ws k w h = ap (λ o. when_some o None (λ (r : WorldState). delivery_in r.script r.trace)) (get-map newest ws k w h)
 
-pub runs-set : (runs : List WorldState) (k : ℕ) (r : WorldState) (next : Next) → slice_get runs k ≡ Some r → runs_with (record { space = k; next = next }) runs ≡ slice_set runs k (run_with next r)
+pub runs-set : (runs : List WorldState) (k : ℕ) (r : WorldState) (next : Next) → slice_get runs k ≡ Some r
+    → runs_with (record { space = k; next = next }) runs ≡ slice_set runs k (run_with next r)
 runs-set runs k r next h = ap (λ o. when_some o runs (λ (x : WorldState). slice_set runs k (run_with next x))) h
 
 -- a world with one more entry
-pub with-entry : (w w' : WorldState) (next : Next) → w'.script ≡ w.script → Makes w.script (reverse w.trace) (reverse w'.trace) next → newest w' ≡ run_with next (newest w)
+pub with-entry : (w w' : WorldState) (next : Next) → w'.script ≡ w.script
+    → Makes w.script (reverse w.trace) (reverse w'.trace) next → newest w' ≡ run_with next (newest w)
 with-entry w w' next s h = ap (λ (c : _). record { script = c; trace = reverse w'.trace }) s ∙ ap (λ (t : _). record { script = w.script; trace = t }) h
 
 -- a world with the same script and trace is the same
@@ -38,14 +40,16 @@ pub delivered_at : (ws : List WorldState) (k : ℕ) (w w' : WorldState) (made : 
 delivered_at ws k w w' true h s (next, first, makes) = (
   next,
   at-place ws k w h ∙ first,
-  set-map newest ws k w' ∙ ap (λ r. slice_set (map newest ws) k r) (with-entry w w' next s makes) ∙ sym (runs-set (map newest ws) k (newest w) next (get-map newest ws k w h)),
+  set-map newest ws k w' ∙ ap (λ r. slice_set (map newest ws) k r) (with-entry w w' next s makes)
+      ∙ sym (runs-set (map newest ws) k (newest w) next (get-map newest ws k w h)),
 )
 delivered_at ws k w w' false h s (none, same) = (
   at-place ws k w h ∙ none,
   ap (λ x. map newest (slice_set ws k x)) (same-world w w' s same) ∙ ap (λ l. map newest l) (set_same ws k w h),
 )
 
-pub failed_at : (ws : List WorldState) (k : ℕ) (w : WorldState) (e : DrainError) → slice_get ws k ≡ Some w → FailsAt (reverse w.trace) (delivery_in w.script (reverse w.trace)) e
+pub failed_at : (ws : List WorldState) (k : ℕ) (w : WorldState) (e : DrainError) → slice_get ws k ≡ Some w
+    → FailsAt (reverse w.trace) (delivery_in w.script (reverse w.trace)) e
     → FailsIn (map newest ws) (turn_at k (delivery_at (map newest ws) k)) e
 failed_at ws k w Memory h f = tt
 failed_at ws k w (Worn a) h (next, is, actor, worn) = record {
@@ -60,13 +64,15 @@ failed_at ws k w (Worn a) h (next, is, actor, worn) = record {
 pub rested_at : (ws : List WorldState) (k : ℕ) (w w' : WorldState) → slice_get ws k ≡ Some w → w' ≡ w → slice_set ws k w' ≡ ws
 rested_at ws k w w' h e = ap (λ x. slice_set ws k x) e ∙ set_same ws k w h
 
-pub walked : (runs : List WorldState) (k : ℕ) → k < length runs → delivery_at runs k ≡ None → first_delivery_from k (drop k runs) ≡ first_delivery_from (k + 1) (drop (k + 1) runs)
+pub walked : (runs : List WorldState) (k : ℕ) → k < length runs → delivery_at runs k ≡ None
+    → first_delivery_from k (drop k runs) ≡ first_delivery_from (k + 1) (drop (k + 1) runs)
 walked runs k h none = let at = something runs k h in
     ap (λ l. first_delivery_from k l) (drop-here runs k at.0 at.1)
     ∙ ap (λ o. when_some o (first_delivery_from (k + 1) (drop (k + 1) runs)) (λ (next : Next). Some (record { space = k; next = next })))
     (sym (ap (λ o. when_some o None (λ (r : WorldState). delivery_in r.script r.trace)) at.1) ∙ none)
 
-pub found : (runs : List WorldState) (k : ℕ) (next : Next) → k < length runs → delivery_at runs k ≡ Some next → first_delivery_from k (drop k runs) ≡ Some (record { space = k; next = next })
+pub found : (runs : List WorldState) (k : ℕ) (next : Next) → k < length runs → delivery_at runs k ≡ Some next
+    → first_delivery_from k (drop k runs) ≡ Some (record { space = k; next = next })
 found runs k next h is = let at = something runs k h in
     ap (λ l. first_delivery_from k l) (drop-here runs k at.0 at.1)
     ∙ ap (λ o. when_some o (first_delivery_from (k + 1) (drop (k + 1) runs)) (λ (n : Next). Some (record { space = k; next = n })))
@@ -76,13 +82,21 @@ found runs k next h is = let at = something runs k h in
 pub walked_all : (runs : List WorldState) (k : ℕ) → length runs ≤ k → first_delivery_from k (drop k runs) ≡ None
 walked_all runs k h = ap (λ l. first_delivery_from k l) (drop-none runs k h)
 
-pub delivers_first : (old new : List WorldState) (k : ℕ) → k < length old → first_delivery_from 0 old ≡ first_delivery_from k (drop k old) → DeliversAt k old new true → DeliversIn old new (Some k)
+pub delivers_first : (old new : List WorldState) (k : ℕ) → k < length old
+    → first_delivery_from 0 old ≡ first_delivery_from k (drop k old) → DeliversAt k old new true → DeliversIn old new (Some k)
 delivers_first old new k h walk (next, is, made) = (next, walk ∙ found old k next h is, made)
 
 pub fails_first : (runs : List WorldState) (k : ℕ) (e : DrainError) → k < length runs → first_delivery_from 0 runs ≡ first_delivery_from k (drop k runs)
     → FailsIn runs (turn_at k (delivery_at runs k)) e → FailsIn runs (first_delivery_from 0 runs) e
 fails_first runs k Memory h walk f = tt
-fails_first runs k (Worn a) h walk f = record { next = f.next; is_next = walk ∙ first (delivery_at runs k) refl ∙ f.is_next; run = f.run; stands = f.stands; actor = f.actor; worn = f.worn } where
+fails_first runs k (Worn a) h walk f = record {
+  next = f.next;
+  is_next = walk ∙ first (delivery_at runs k) refl ∙ f.is_next;
+  run = f.run;
+  stands = f.stands;
+  actor = f.actor;
+  worn = f.worn;
+} where
   first : (o : Option Next) → delivery_at runs k ≡ o → first_delivery_from k (drop k runs) ≡ turn_at k (delivery_at runs k)
   first None e = absurd (none-some f.next (sym (ap (λ o. turn_at k o) e) ∙ f.is_next))
   first (Some next) e = found runs k next h e ∙ sym (ap (λ o. turn_at k o) e)
@@ -93,31 +107,40 @@ pub ok-delivers : (ws : List WorldState) (k : ℕ) (w w' : WorldState) (r : Resu
 ok-delivers ws k w w' (Ok made) h s d = delivered_at ws k w w' made h s d
 ok-delivers ws k w w' (Err e) h s d = tt
 
-pub err-fails : (ws : List WorldState) (k : ℕ) (w : WorldState) (r : Result Bool DrainError) → slice_get ws k ≡ Some w → IfErr r (FailsAt (reverse w.trace) (delivery_in w.script (reverse w.trace)))
+pub err-fails : (ws : List WorldState) (k : ℕ) (w : WorldState) (r : Result Bool DrainError) → slice_get ws k ≡ Some w
+    → IfErr r (FailsAt (reverse w.trace) (delivery_in w.script (reverse w.trace)))
     → IfErr r (FailsIn (map newest ws) (turn_at k (delivery_at (map newest ws) k)))
 err-fails ws k w (Ok made) h f = tt
 err-fails ws k w (Err e) h f = failed_at ws k w e h f
 
 -- where a call failed, nothing changed
-pub err-rests : {T E : Type 0} (ws : List WorldState) (k : ℕ) (w w' : WorldState) (r : Result T E) → slice_get ws k ≡ Some w → w'.script ≡ w.script → OnErr r (w'.trace ≡ w.trace) → OnErr r (slice_set ws k w' ≡ ws)
+pub err-rests : {T E : Type 0} (ws : List WorldState) (k : ℕ) (w w' : WorldState) (r : Result T E)
+    → slice_get ws k ≡ Some w → w'.script ≡ w.script → OnErr r (w'.trace ≡ w.trace) → OnErr r (slice_set ws k w' ≡ ws)
 err-rests ws k w w' (Ok made) h s t = tt
-err-rests ws k w w' (Err e) h s t = rested_at ws k w w' h (ap (λ (c : Script). record { script = c; trace = w'.trace }) s ∙ ap (λ (l : List Entry). record { script = w.script; trace = l }) t)
+err-rests ws k w w' (Err e) h s t = rested_at ws k w w' h
+    (ap (λ (c : Script). record { script = c; trace = w'.trace }) s
+    ∙ ap (λ (l : List Entry). record { script = w.script; trace = l }) t)
 
 mapped : {A B : Type 0} (f : A → B) (xs : List A) (k : ℕ) → k < length xs → k < length (map f xs)
 mapped f xs k h = subst (λ n. k < n) (sym (length-map f xs)) h
 
-pub walked_on : (start now : List WorldState) (k : ℕ) → now ≡ start → k < length now → first_delivery_from 0 (map newest start) ≡ first_delivery_from k (drop k (map newest start))
-    → DeliversAt k (map newest now) (map newest now) false → first_delivery_from 0 (map newest start) ≡ first_delivery_from (k + 1) (drop (k + 1) (map newest start))
+pub walked_on : (start now : List WorldState) (k : ℕ) → now ≡ start → k < length now
+    → first_delivery_from 0 (map newest start) ≡ first_delivery_from k (drop k (map newest start))
+    → DeliversAt k (map newest now) (map newest now) false
+    → first_delivery_from 0 (map newest start) ≡ first_delivery_from (k + 1) (drop (k + 1) (map newest start))
 walked_on start now k same h walk (none, stays) =
-    walk ∙ walked (map newest start) k (mapped newest start k (subst (λ (l : List WorldState). k < length l) same h)) (subst (λ (l : List WorldState). delivery_at (map newest l) k ≡ None) same none)
+    walk ∙ walked (map newest start) k (mapped newest start k (subst (λ (l : List WorldState). k < length l) same h))
+    (subst (λ (l : List WorldState). delivery_at (map newest l) k ≡ None) same none)
 
-pub delivers_from : (start now new : List WorldState) (k : ℕ) → now ≡ start → k < length now → first_delivery_from 0 (map newest start) ≡ first_delivery_from k (drop k (map newest start))
+pub delivers_from : (start now new : List WorldState) (k : ℕ) → now ≡ start → k < length now
+    → first_delivery_from 0 (map newest start) ≡ first_delivery_from k (drop k (map newest start))
     → DeliversAt k (map newest now) (map newest new) true → DeliversIn (map newest start) (map newest new) (Some k)
 delivers_from start now new k same h walk made =
     delivers_first (map newest start) (map newest new) k (mapped newest start k (subst (λ (l : List WorldState). k < length l) same h)) walk
     (subst (λ (l : List WorldState). DeliversAt k (map newest l) (map newest new) true) same made)
 
-pub fails_from : (start now : List WorldState) (k : ℕ) (e : DrainError) → now ≡ start → k < length now → first_delivery_from 0 (map newest start) ≡ first_delivery_from k (drop k (map newest start))
+pub fails_from : (start now : List WorldState) (k : ℕ) (e : DrainError) → now ≡ start → k < length now
+    → first_delivery_from 0 (map newest start) ≡ first_delivery_from k (drop k (map newest start))
     → FailsIn (map newest now) (turn_at k (delivery_at (map newest now) k)) e → FailsIn (map newest start) (first_delivery_from 0 (map newest start)) e
 fails_from start now k e same h walk f =
     fails_first (map newest start) k e (mapped newest start k (subst (λ (l : List WorldState). k < length l) same h)) walk
@@ -138,11 +161,14 @@ some-there : {A : Type 0} (o : Option A) → true ≡ is_some o → (x : A) × (
 some-there None e = cc
 some-there (Some x) e = (x, refl)
 
-pub none_here : (start now : List WorldState) (k : ℕ) → now ≡ start → k < length now → first_delivery_from 0 (map newest start) ≡ first_delivery_from k (drop k (map newest start))
-    → false ≡ is_some (delivery_at (map newest now) k) → first_delivery_from 0 (map newest start) ≡ first_delivery_from (k + 1) (drop (k + 1) (map newest start))
+pub none_here : (start now : List WorldState) (k : ℕ) → now ≡ start → k < length now
+    → first_delivery_from 0 (map newest start) ≡ first_delivery_from k (drop k (map newest start))
+    → false ≡ is_some (delivery_at (map newest now) k)
+    → first_delivery_from 0 (map newest start) ≡ first_delivery_from (k + 1) (drop (k + 1) (map newest start))
 none_here start now k same h walk none = walked_on start now k same h walk (none-there (delivery_at (map newest now) k) none, refl)
 
-pub one_here : (start now : List WorldState) (k : ℕ) → now ≡ start → k < length now → first_delivery_from 0 (map newest start) ≡ first_delivery_from k (drop k (map newest start))
+pub one_here : (start now : List WorldState) (k : ℕ) → now ≡ start → k < length now
+    → first_delivery_from 0 (map newest start) ≡ first_delivery_from k (drop k (map newest start))
     → true ≡ is_some (delivery_at (map newest now) k) → true ≡ is_some (first_delivery_from 0 (map newest start))
 one_here start now k same h walk one =
     let some = some-there (delivery_at (map newest start) k) (subst (λ (l : List WorldState). true ≡ is_some (delivery_at (map newest l) k)) same one) in

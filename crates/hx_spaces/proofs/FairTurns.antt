@@ -1,5 +1,6 @@
 -- The entries of the schedule are fair: a delivery begins no call, and a begin is in turn.
-use Rattle.std.proofs.Common.{◌≡◌, ℕ, suc, ◌+◌, ◌-◌, ◌<◌, ◌^◌, Bool, true, false, List, [], ◌∷◌, ◌++◌, length, map, reverse, refl, sym, ap, ◌∙◌, subst, arith, leb}
+use Rattle.std.proofs.Common.{◌≡◌, ℕ, suc, ◌+◌, ◌-◌, ◌<◌, ◌^◌, Bool, true, false, List, [], ◌∷◌, ◌++◌, length, map}
+use Rattle.std.proofs.Common.{reverse, refl, sym, ap, ◌∙◌, subst, arith, leb}
 use Rattle.std.proofs.lemmas.Bool.{and_parts, cond-true, leb-true, ltb-true}
 use Rattle.std.specs.Prelude.{IfSome, IsSomeAnd, if◌then◌else◌, is_some, is_none, nat_lt, slice_get, Option, Some, None, ⊤}
 use Rattle.std.specs.List.{All}
@@ -33,9 +34,16 @@ pub record IsOfRun (k : ℕ) (runs : List WorldState) (t : Turn) : Type 0 where
   pub delivers : delivery_in run.script run.trace ≡ Some t.next
 
 later : (k : ℕ) (r : WorldState) (rest : List WorldState) (t : Turn) → IsOfRun (k + 1) rest t → IsOfRun k (r ∷ rest) t
-later k r rest t i = record { place = suc i.place; space = i.space ∙ (let e : k + 1 + i.place ≡ k + suc i.place = omega arith in e); run = i.run; stands = i.stands; delivers = i.delivers }
+later k r rest t i = record {
+  place = suc i.place;
+  space = i.space ∙ (let e : k + 1 + i.place ≡ k + suc i.place = omega arith in e);
+  run = i.run;
+  stands = i.stands;
+  delivers = i.delivers;
+}
 
-here : (k : ℕ) (r : WorldState) (rest : List WorldState) (t : Turn) (next : Next) → delivery_in r.script r.trace ≡ Some next → record { space = k; next = next } ≡ t → IsOfRun k (r ∷ rest) t
+here : (k : ℕ) (r : WorldState) (rest : List WorldState) (t : Turn) (next : Next)
+    → delivery_in r.script r.trace ≡ Some next → record { space = k; next = next } ≡ t → IsOfRun k (r ∷ rest) t
 here k r rest t next e q = record {
   place = 0;
   space = sym (ap (λ (x : Turn). x.space) q) ∙ (let z : k ≡ k + 0 = omega arith in z);
@@ -45,7 +53,8 @@ here k r rest t next e q = record {
 }
 
 first-of : (k : ℕ) (r : WorldState) (rest : List WorldState) (t : Turn) (o : Option Next) → (first_delivery_from (k + 1) rest ≡ Some t → IsOfRun (k + 1) rest t)
-    → delivery_in r.script r.trace ≡ o → when_some o (first_delivery_from (k + 1) rest) (λ (next : Next). Some (record { space = k; next = next })) ≡ Some t → IsOfRun k (r ∷ rest) t
+    → delivery_in r.script r.trace ≡ o → when_some o (first_delivery_from (k + 1) rest)
+    (λ (next : Next). Some (record { space = k; next = next })) ≡ Some t → IsOfRun k (r ∷ rest) t
 first-of k r rest t None ih e q = later k r rest t (ih q)
 first-of k r rest t (Some next) ih e q = here k r rest t next e (some-same q)
 
@@ -63,7 +72,8 @@ delivers-none : (script : Script) (trace : List Entry) (ids : List PostId) → B
 delivers-none script trace [] = tt
 delivers-none script trace (id ∷ rest) = by (delivers-none script trace rest) (post_named id trace) where
   by : BeginsNone (first_delivery script trace rest) → (o : Option Post)
-      → BeginsNone (when_some o (first_delivery script trace rest) (λ (p : Post). if has_halted script trace p.to then first_delivery script trace rest else Some (delivery_of id p)))
+      → BeginsNone (when_some o (first_delivery script trace rest)
+      (λ (p : Post). if has_halted script trace p.to then first_delivery script trace rest else Some (delivery_of id p)))
   by after None = after
   by after (Some p) = halted (has_halted script trace p.to) where
     halted : (b : Bool) → BeginsNone (if b then first_delivery script trace rest else Some (delivery_of id p))
@@ -71,7 +81,9 @@ delivers-none script trace (id ∷ rest) = by (delivers-none script trace rest) 
     halted false = λ r. refl
 
 -- a delivery in the first space that has one
-fair-delivery : (c : Course) (k : ℕ) (next : Next) → first_delivery_from 0 c.runs ≡ Some (record { space = k; next = next }) → (f : IsFair c k next) × (begins_by f.run next ≡ None)
+fair-delivery : (c : Course) (k : ℕ) (next : Next)
+    → first_delivery_from 0 c.runs ≡ Some (record { space = k; next = next }) → (f : IsFair c k next)
+    × (begins_by f.run next ≡ None)
 fair-delivery c k next h =
     let o = of-run 0 c.runs (record { space = k; next = next }) h in
     let e : o.place ≡ k = (let z : o.place ≡ 0 + o.place = omega arith in z) ∙ sym o.space in
@@ -82,11 +94,13 @@ fair-delivery c k next h =
 
 module _ (bundle : Bundle) (worlds new : List WorldState) (order held : List ℕ) where
   -- what a cluster keeps with it
-  pub delivered_kept : (pushed begun : List ℕ) (k : ℕ) → IsKept (course_of bundle worlds order) begun → DeliversIn (map newest worlds) (map newest new) (Some k) → (All IsShort worlds → All IsShort new)
+  pub delivered_kept : (pushed begun : List ℕ) (k : ℕ) → IsKept (course_of bundle worlds order) begun
+      → DeliversIn (map newest worlds) (map newest new) (Some k) → (All IsShort worlds → All IsShort new)
       → held ≡ order → pushed ≡ held ++ k ∷ [] → IsKept (course_of bundle new pushed) begun
   delivered_kept pushed begun k i (next, first, made) grows h p =
       let f = fair-delivery (course_of bundle worlds order) k next first in
-      subst (λ (o : Option ℕ). IsKept (course_of bundle new pushed) (counted begun o)) f.1 (kept_after bundle worlds new order held pushed begun k next i f.0 made grows h p)
+      subst (λ (o : Option ℕ). IsKept (course_of bundle new pushed) (counted begun o)) f.1
+      (kept_after bundle worlds new order held pushed begun k next i f.0 made grows h p)
 
   -- and what it leaves
   pub delivered_takes : (pushed : List ℕ) (k : ℕ) → DeliversIn (map newest worlds) (map newest new) (Some k) → held ≡ order → pushed ≡ held ++ k ∷ []
@@ -97,10 +111,12 @@ module _ (bundle : Bundle) (worlds new : List WorldState) (order held : List ℕ
   }
 
   same-course : map newest new ≡ map newest worlds → held ≡ order → course_of bundle new held ≡ course_of bundle worlds order
-  same-course m h = ap (λ (l : List WorldState). record { bundle = bundle; runs = l; order = reverse held }) m ∙ ap (λ (l : List ℕ). record { bundle = bundle; runs = map newest worlds; order = reverse l }) h
+  same-course m h = ap (λ (l : List WorldState). record { bundle = bundle; runs = l; order = reverse held }) m
+      ∙ ap (λ (l : List ℕ). record { bundle = bundle; runs = map newest worlds; order = reverse l }) h
 
   -- where there was no delivery
-  pub rested_kept : (begun : List ℕ) → IsKept (course_of bundle worlds order) begun → DeliversIn (map newest worlds) (map newest new) None → held ≡ order → IsKept (course_of bundle new held) begun
+  pub rested_kept : (begun : List ℕ) → IsKept (course_of bundle worlds order) begun
+      → DeliversIn (map newest worlds) (map newest new) None → held ≡ order → IsKept (course_of bundle new held) begun
   rested_kept begun i d h = subst (λ (c : Course). IsKept c begun) (sym (same-course d.1 h)) i
 
 -- ---- a session begins its next call
@@ -144,15 +160,18 @@ module _ (bundle : Bundle) (worlds : List WorldState) (order begun : List ℕ) (
   begun_kept h new held pushed made grows e p now q =
       let f = fair-begin h in
       subst (λ (l : List ℕ). IsKept (course_of bundle new pushed) l) (sym q)
-      (subst (λ (o : Option ℕ). IsKept (course_of bundle new pushed) (counted begun o)) f.1 (kept_after bundle worlds new order held pushed begun k (begin_by place) i f.0 made grows e p))
+      (subst (λ (o : Option ℕ). IsKept (course_of bundle new pushed) (counted begun o)) f.1
+      (kept_after bundle worlds new order held pushed begun k (begin_by place) i f.0 made grows e p))
 
 -- what is found has its turn
-pub found_next : (bundle : Bundle) (worlds : List WorldState) (place k : ℕ) → Some (begin_turn place k) ≡ first_begin bundle (map newest worlds) → next_space bundle (map newest worlds) place ≡ Some k
+pub found_next : (bundle : Bundle) (worlds : List WorldState) (place k : ℕ)
+    → Some (begin_turn place k) ≡ first_begin bundle (map newest worlds) → next_space bundle (map newest worlds) place ≡ Some k
 found_next bundle worlds place k h = first-next bundle (map newest worlds) place k 0 bundle.turns (sym h)
 
 -- ---- the session of which a step would begin a call
 
-beginner-in : (r : WorldState) (step : Step) → IsStepOf r.script step → (o : Option ℕ) → beginner r step ≡ o → IfSome o (λ place. place < length r.script.sessions)
+beginner-in : (r : WorldState) (step : Step) → IsStepOf r.script step → (o : Option ℕ) → beginner r step ≡ o
+    → IfSome o (λ place. place < length r.script.sessions)
 beginner-in r step h None e = tt
 beginner-in r (a_step.Deliver id) h (Some place) e = absurd (none-some place e)
 beginner-in r (a_step.Halt a) h (Some place) e = absurd (none-some place e)
@@ -168,7 +187,8 @@ beginner-in r (a_step.Tick (Session u)) h (Some place) e = by (is_idle (session_
       let there : u.0 - 1 ≡ place = some-same q in
       omega (arith, low, high, there)
 
-pub beginner_within : (bundle : Bundle) (worlds : List WorldState) (order begun : List ℕ) (i : IsKept (course_of bundle worlds order) begun) (k : ℕ) (step : Step) (w : WorldState)
+pub beginner_within : (bundle : Bundle) (worlds : List WorldState) (order begun : List ℕ)
+    (i : IsKept (course_of bundle worlds order) begun) (k : ℕ) (step : Step) (w : WorldState)
     → slice_get worlds k ≡ Some w → IsStepOf w.script step → (o : Option ℕ) → o ≡ beginner (newest w) step → IfSome o (λ place. place < length begun)
 beginner_within bundle worlds order begun i k step w at h None e = tt
 beginner_within bundle worlds order begun i k step w at h (Some place) e =
@@ -177,8 +197,11 @@ beginner_within bundle worlds order begun i k step w at h (Some place) e =
     let count = i.counted.sessions in
     omega (arith, here, same, count)
 
-pub beginner_counts : (bundle : Bundle) (worlds : List WorldState) (order begun : List ℕ) (i : IsKept (course_of bundle worlds order) begun) (k : ℕ) (o : Option ℕ)
+pub beginner_counts : (bundle : Bundle) (worlds : List WorldState) (order begun : List ℕ)
+    (i : IsKept (course_of bundle worlds order) begun) (k : ℕ) (o : Option ℕ)
     → is_none (turn_fault (course_of bundle worlds order) k o) ≡ true → IfSome o (λ place. IsSomeAnd (slice_get begun place) (λ n. n + 1 < 2 ^ 64))
 beginner_counts bundle worlds order begun i k None e = tt
 beginner_counts bundle worlds order begun i k (Some place) e =
-    next_counts bundle worlds order begun i place k (has-turn (course_of bundle worlds order) k place (Some place) (none-there (turn_fault (course_of bundle worlds order) k (Some place)) e) refl)
+    next_counts bundle worlds order begun i place k
+    (has-turn (course_of bundle worlds order) k place (Some place)
+    (none-there (turn_fault (course_of bundle worlds order) k (Some place)) e) refl)

@@ -1,5 +1,6 @@
 -- What a cluster keeps, after one more entry.
-use Rattle.std.proofs.Common.{◌≡◌, ◌⊎◌, inl, inr, ℕ, zero, suc, ◌+◌, ◌<◌, ◌≤◌, Bool, true, false, List, [], ◌∷◌, ◌++◌, length, map, refl, sym, ap, ◌∙◌, subst, arith}
+use Rattle.std.proofs.Common.{◌≡◌, ◌⊎◌, inl, inr, ℕ, zero, suc, ◌+◌, ◌<◌, ◌≤◌, Bool, true, false, List, [], ◌∷◌, ◌++◌}
+use Rattle.std.proofs.Common.{length, map, refl, sym, ap, ◌∙◌, subst, arith}
 use Rattle.std.proofs.lemmas.Bool.{cond-true, eqb-true, eq-eqb}
 use Rattle.std.proofs.lemmas.List.{length-reverse, reverse-append}
 use Rattle.std.proofs.lemmas.List.Elements.{All-cons, All-nil, All-set}
@@ -14,9 +15,11 @@ use Rattle.hx_bundle.specs.declared.bundles.Bundle.{Bundle}
 use Rattle.hx_bundle.specs.Bundles.{IsBundle, times}
 use Rattle.hx_spaces.specs.Begins.{BeginsInTurn, IsItsTurn, IsSequential, run_before, runs_before}
 use Rattle.hx_spaces.specs.Clusters.{IsCourse, IsInTurn}
-use Rattle.hx_spaces.specs.Courses.{Course, at_start, begun_in, is_busy_in, newest, next_space, run_at_start, run_with, runs_with, session_at, turns_at, with_turn}
+use Rattle.hx_spaces.specs.Courses.{Course, at_start, begun_in, is_busy_in, newest, next_space, run_at_start, run_with}
+use Rattle.hx_spaces.specs.Courses.{runs_with, session_at, turns_at, with_turn}
 use Rattle.hx_spaces.specs.Keeping.{AreCounted, IsKept, IsShort, counted, course_of}
-use Rattle.hx_spaces.proofs.Places.{all-at, all-from, get-map, get-mapped, get-set, get-set-same, length-map, length-set, none-some, set-back, set-map, set_same, some-same, suc-is, within}
+use Rattle.hx_spaces.proofs.Places.{all-at, all-from, get-map, get-mapped, get-set, get-set-same, length-map}
+use Rattle.hx_spaces.proofs.Places.{length-set, none-some, set-back, set-map, set_same, some-same, suc-is, within}
 use Rattle.hx_spaces.proofs.Starts.{Rests, Starts, begins_by, session_entry, starts-place, told-starts}
 
 -- ---- counts
@@ -33,11 +36,13 @@ sum-raised u [] k r r' h e = cc
 sum-raised u (x ∷ xs) zero r r' h e = let q = e ∙ ap (λ (w : WorldState). (session_of w.script u w.trace).begun + 1) (sym (some-same h)) in omega (arith, q)
 sum-raised u (x ∷ xs) (suc k) r r' h e = let q = sum-raised u xs k r r' h e in omega (arith, q)
 
-times-suc : (j k : ℕ) (turns : List ℕ) (n : ℕ) → slice_get turns n ≡ Some k → times j (take (suc n) turns) ≡ (if k == j then times j (take n turns) + 1 else times j (take n turns))
+times-suc : (j k : ℕ) (turns : List ℕ) (n : ℕ) → slice_get turns n ≡ Some k
+    → times j (take (suc n) turns) ≡ (if k == j then times j (take n turns) + 1 else times j (take n turns))
 times-suc j k [] n h = cc
 times-suc j k (x ∷ rest) zero h = ap (λ z. if z == j then 0 + 1 else 0) (some-same h)
 times-suc j k (x ∷ rest) (suc n) h = by (x == j) (k == j) (times j (take n rest)) (times j (take (suc n) rest)) (times-suc j k rest n h) where
-  by : (b d : Bool) (t t' : ℕ) → t' ≡ (if d then t + 1 else t) → (if b then t' + 1 else t') ≡ (if d then (if b then t + 1 else t) + 1 else (if b then t + 1 else t))
+  by : (b d : Bool) (t t' : ℕ) → t' ≡ (if d then t + 1 else t)
+      → (if b then t' + 1 else t') ≡ (if d then (if b then t + 1 else t) + 1 else (if b then t + 1 else t))
   by true true t t' e = ap (λ n. n + 1) e
   by true false t t' e = ap (λ n. n + 1) e
   by false true t t' e = e
@@ -47,7 +52,8 @@ times-suc j k (x ∷ rest) (suc n) h = by (x == j) (k == j) (times j (take n res
 pub next-parts : (bundle : Bundle) (runs : List WorldState) (place k : ℕ) → next_space bundle runs place ≡ Some k
     → (is_busy_in (session_at place) runs ≡ false) × (slice_get (turns_at bundle.turns place) (begun_in (session_at place) runs) ≡ Some k)
 next-parts bundle runs place k h = by (is_busy_in (session_at place) runs) refl h where
-  by : (b : Bool) → is_busy_in (session_at place) runs ≡ b → (if b then None else slice_get (turns_at bundle.turns place) (begun_in (session_at place) runs)) ≡ Some k
+  by : (b : Bool) → is_busy_in (session_at place) runs ≡ b
+      → (if b then None else slice_get (turns_at bundle.turns place) (begun_in (session_at place) runs)) ≡ Some k
       → (is_busy_in (session_at place) runs ≡ false) × (slice_get (turns_at bundle.turns place) (begun_in (session_at place) runs) ≡ Some k)
   by true e q = absurd (none-some k q)
   by false e q = (e, q)
@@ -56,13 +62,16 @@ next-parts bundle runs place k h = by (is_busy_in (session_at place) runs) refl 
 
 -- a session that begins no call stays in turn
 turn-kept : (bundle : Bundle) (runs : List WorldState) (k : ℕ) (r r' : WorldState) (place : ℕ) → slice_get runs k ≡ Some r
-    → (session_of r'.script (session_at place) r'.trace).begun ≡ (session_of r.script (session_at place) r.trace).begun → IsInTurn bundle runs place → IsInTurn bundle (slice_set runs k r') place
+    → (session_of r'.script (session_at place) r'.trace).begun
+    ≡ (session_of r.script (session_at place) r.trace).begun → IsInTurn bundle runs place
+    → IsInTurn bundle (slice_set runs k r') place
 turn-kept bundle runs k r r' place at stays turn j x h = by (get-set runs k j r' x h) where
   same : begun_in (session_at place) (slice_set runs k r') ≡ begun_in (session_at place) runs
   same = sum-set (session_at place) runs k r r' at stays
 
   by : ((j ≡ k) × (x ≡ r')) ⊎ ((j ≡ k → ⊥) × (slice_get runs j ≡ Some x))
-      → (session_of x.script (session_at place) x.trace).begun ≡ times j (take (begun_in (session_at place) (slice_set runs k r')) (turns_at bundle.turns place))
+      → (session_of x.script (session_at place) x.trace).begun
+      ≡ times j (take (begun_in (session_at place) (slice_set runs k r')) (turns_at bundle.turns place))
   by (inr q) = turn j x q.1 ∙ ap (λ n. times j (take n (turns_at bundle.turns place))) (sym same)
   by (inl q) =
       ap (λ (w : WorldState). (session_of w.script (session_at place) w.trace).begun) q.1
@@ -74,7 +83,8 @@ turn-kept bundle runs k r r' place at stays turn j x h = by (get-set runs k j r'
 -- the session that begins its next call is in turn after it
 own-kept : (bundle : Bundle) (runs : List WorldState) (k : ℕ) (r r' : WorldState) (place : ℕ) → slice_get runs k ≡ Some r
     → (session_of r'.script (session_at place) r'.trace).begun ≡ (session_of r.script (session_at place) r.trace).begun + 1
-    → slice_get (turns_at bundle.turns place) (begun_in (session_at place) runs) ≡ Some k → IsInTurn bundle runs place → IsInTurn bundle (slice_set runs k r') place
+    → slice_get (turns_at bundle.turns place) (begun_in (session_at place) runs) ≡ Some k → IsInTurn bundle runs place
+    → IsInTurn bundle (slice_set runs k r') place
 own-kept bundle runs k r r' place at more next turn j x h = by (get-set runs k j r' x h) where
   n : ℕ
   n = begun_in (session_at place) runs
@@ -87,11 +97,13 @@ own-kept bundle runs k r r' place at more next turn j x h = by (get-set runs k j
   counts = ap (λ m. times j (take m (turns_at bundle.turns place))) more-turns ∙ times-suc j k (turns_at bundle.turns place) n next
 
   chosen : (b : Bool) → (k == j) ≡ b
-      → times j (take (begun_in (session_at place) (slice_set runs k r')) (turns_at bundle.turns place)) ≡ (if b then times j (take n (turns_at bundle.turns place)) + 1 else times j (take n (turns_at bundle.turns place)))
+      → times j (take (begun_in (session_at place) (slice_set runs k r')) (turns_at bundle.turns place))
+      ≡ (if b then times j (take n (turns_at bundle.turns place)) + 1 else times j (take n (turns_at bundle.turns place)))
   chosen b e = counts ∙ ap (λ c. if c then times j (take n (turns_at bundle.turns place)) + 1 else times j (take n (turns_at bundle.turns place))) e
 
   by : ((j ≡ k) × (x ≡ r')) ⊎ ((j ≡ k → ⊥) × (slice_get runs j ≡ Some x))
-      → (session_of x.script (session_at place) x.trace).begun ≡ times j (take (begun_in (session_at place) (slice_set runs k r')) (turns_at bundle.turns place))
+      → (session_of x.script (session_at place) x.trace).begun
+      ≡ times j (take (begun_in (session_at place) (slice_set runs k r')) (turns_at bundle.turns place))
   by (inl q) =
       ap (λ (w : WorldState). (session_of w.script (session_at place) w.trace).begun) q.1
       ∙ more
@@ -113,7 +125,8 @@ module _ (c : Course) (i : IsCourse c) (k : ℕ) (r : WorldState) (next : Next) 
   in-turn place = by (session_entry r.script (session_at place) r.trace next) where
     by : Rests r.script (session_at place) r.trace next ⊎ Starts r.script (session_at place) r.trace next → IsInTurn c.bundle after place
     by (inl e) = turn-kept c.bundle c.runs k r (run_with next r) place at e.begun (i.in_turn place)
-    by (inr s) = own-kept c.bundle c.runs k r (run_with next r) place at s.begun (next-parts c.bundle c.runs place k (fair place (starts-place r place next s))).1 (i.in_turn place)
+    by (inr s) = own-kept c.bundle c.runs k r (run_with next r) place at s.begun
+        (next-parts c.bundle c.runs place k (fair place (starts-place r place next s))).1 (i.in_turn place)
 
   -- a session begins a call where it is its turn
   begins-in-turn : BeginsInTurn c.bundle c.runs k (entry_by r.script r.trace next)
@@ -126,7 +139,8 @@ module _ (c : Course) (i : IsCourse c) (k : ℕ) (r : WorldState) (next : Next) 
   there = get-set-same c.runs k (run_with next r) r at
 
   before : runs_before k after ≡ c.runs
-  before = ap (λ (o : Option WorldState). when_some o after (λ (x : WorldState). slice_set after k (run_before x))) there ∙ set-back c.runs k (run_with next r) r at
+  before = ap (λ (o : Option WorldState). when_some o after (λ (x : WorldState). slice_set after k (run_before x)))
+      there ∙ set-back c.runs k (run_with next r) r at
 
   sequential : IsSequential c.bundle after (k ∷ c.order)
   sequential = (
@@ -190,7 +204,8 @@ module _ (c : Course) (i : IsCourse c) (k : ℕ) (r : WorldState) (next : Next) 
   counted_after begun a = by (begins_by r next) refl where
     stays : (place : ℕ) → (begins_by r next ≡ Some place → ⊥) → begun_in (session_at place) after ≡ begun_in (session_at place) c.runs
     stays place never = of (session_entry r.script (session_at place) r.trace next) where
-      of : Rests r.script (session_at place) r.trace next ⊎ Starts r.script (session_at place) r.trace next → begun_in (session_at place) after ≡ begun_in (session_at place) c.runs
+      of : Rests r.script (session_at place) r.trace next ⊎ Starts r.script (session_at place) r.trace next
+          → begun_in (session_at place) after ≡ begun_in (session_at place) c.runs
       of (inl e) = sum-set (session_at place) c.runs k r (run_with next r) at e.begun
       of (inr s) = absurd (never (starts-place r place next s))
 
@@ -255,12 +270,17 @@ pub shown : (bundle : Bundle) (worlds new : List WorldState) (order held pushed 
     → course_of bundle new pushed ≡ with_turn (course_of bundle worlds order) (Some (record { space = k; next = next }))
 shown bundle worlds new order held pushed k next made h p =
     ap (λ l. record { bundle = bundle; runs = l; order = reverse pushed }) made
-    ∙ ap (λ l. record { bundle = bundle; runs = runs_with (record { space = k; next = next }) (map newest worlds); order = l }) (order-with order held pushed k h p)
+    ∙ ap (λ l. record {
+      bundle = bundle;
+      runs = runs_with (record { space = k; next = next }) (map newest worlds);
+      order = l;
+    }) (order-with order held pushed k h p)
 
 -- what a cluster keeps, it keeps with a fair entry
 pub kept_after : (bundle : Bundle) (worlds new : List WorldState) (order held pushed begun : List ℕ) (k : ℕ) (next : Next)
     → IsKept (course_of bundle worlds order) begun → (f : IsFair (course_of bundle worlds order) k next)
-    → map newest new ≡ runs_with (record { space = k; next = next }) (map newest worlds) → (All IsShort worlds → All IsShort new) → held ≡ order → pushed ≡ held ++ k ∷ []
+    → map newest new ≡ runs_with (record { space = k; next = next }) (map newest worlds)
+    → (All IsShort worlds → All IsShort new) → held ≡ order → pushed ≡ held ++ k ∷ []
     → IsKept (course_of bundle new pushed) (counted begun (begins_by f.run next))
 kept_after bundle worlds new order held pushed begun k next i f made grows h p =
     let c = course_of bundle worlds order in
@@ -301,7 +321,8 @@ course_starts bundle valid = record {
   empty k (Some r) e = ap (λ (w : WorldState). length w.trace) (get-mapped run_at_start bundle.spaces k r e).2
 
 -- a count of none for each session
-pub counts_start : (bundle : Bundle) (begun : List ℕ) → length begun ≡ length bundle.turns → ((place n : ℕ) → slice_get begun place ≡ Some n → n ≡ 0) → AreCounted bundle (map run_at_start bundle.spaces) begun
+pub counts_start : (bundle : Bundle) (begun : List ℕ) → length begun ≡ length bundle.turns
+    → ((place n : ℕ) → slice_get begun place ≡ Some n → n ≡ 0) → AreCounted bundle (map run_at_start bundle.spaces) begun
 counts_start bundle begun count none = record {
   sessions = count;
   each = λ place n h. none place n h ∙ sym (begun-start (session_at place) bundle.spaces);

@@ -22,7 +22,8 @@ map-push f (y ∷ xs) x = ap (λ (l : List _). f y ∷ l) (map-push f xs x)
 
 -- one more world was left
 pub left : (yielded : List WorldState) (w : WorldState) (trace : List Entry) → All (λ (x : WorldState). IsRunOfSpace (newest x)) yielded
-    → trace ≡ w.trace → IsScript w.script → IsRun w.script (reverse trace) → HasFewEntries (reverse trace) → All (λ (x : WorldState). IsRunOfSpace (newest x)) (yielded ++ w ∷ [])
+    → trace ≡ w.trace → IsScript w.script → IsRun w.script (reverse trace) → HasFewEntries (reverse trace)
+    → All (λ (x : WorldState). IsRunOfSpace (newest x)) (yielded ++ w ∷ [])
 left yielded w trace all same valid run few =
     All-push (λ (x : WorldState). IsRunOfSpace (newest x)) yielded w all
     (record {
@@ -63,11 +64,13 @@ zeros-at (suc n) zero m h = sym (some-same h)
 zeros-at (suc n) (suc place) m h = zeros-at n place m h
 
 -- what a cluster keeps at its start
-pub start_kept : (bundle : Bundle) (worlds : List WorldState) (order begun : List ℕ) (n : ℕ) → IsBundle bundle → map newest worlds ≡ map run_at_start bundle.spaces → order ≡ [] → n ≡ length bundle.turns → begun ≡ replicate n 0
+pub start_kept : (bundle : Bundle) (worlds : List WorldState) (order begun : List ℕ) (n : ℕ) → IsBundle bundle
+    → map newest worlds ≡ map run_at_start bundle.spaces → order ≡ [] → n ≡ length bundle.turns → begun ≡ replicate n 0
     → IsKept (course_of bundle worlds order) begun
 start_kept bundle worlds order begun n valid w o count zeros =
     subst (λ (c : Course). IsKept c begun)
-    (sym (ap (λ (l : List WorldState). record { bundle = bundle; runs = l; order = reverse order }) w ∙ ap (λ (l : List ℕ). record { bundle = bundle; runs = map run_at_start bundle.spaces; order = reverse l }) o))
+    (sym (ap (λ (l : List WorldState). record { bundle = bundle; runs = l; order = reverse order }) w
+    ∙ ap (λ (l : List ℕ). record { bundle = bundle; runs = map run_at_start bundle.spaces; order = reverse l }) o))
     (record {
       course = course_starts bundle valid;
       counted = counts_start bundle begun (ap (λ (l : List ℕ). length l) zeros ∙ zeros-length n ∙ count)
@@ -76,7 +79,8 @@ start_kept bundle worlds order begun n valid w o count zeros =
     })
 
 -- the traces that are handed out are those of the course
-pub left_shown : (bundle : Bundle) (worlds : List WorldState) (order : List ℕ) (self : Course) (r : Result (List (List Entry)) Memory) → course_of bundle worlds order ≡ self
+pub left_shown : (bundle : Bundle) (worlds : List WorldState) (order : List ℕ) (self : Course)
+    (r : Result (List (List Entry)) Memory) → course_of bundle worlds order ≡ self
     → IfOk r (λ traces. traces ≡ map (λ (w : WorldState). w.trace) worlds) → IfOk r (λ traces. traces ≡ traces_of self)
 left_shown bundle worlds order self (Ok traces) view h = h ∙ traces_same worlds ∙ ap (λ (c : Course). traces_of c) view
 left_shown bundle worlds order self (Err e) view h = tt

@@ -22,7 +22,8 @@ turn-same : (bundle : Bundle) (runs : List WorldState) (order : List ℕ) (k : �
 turn-same bundle runs order k None = refl
 turn-same bundle runs order k (Some place) = refl
 
-module _ (bundle : Bundle) (worlds : List WorldState) (order begun : List ℕ) (i : IsKept (course_of bundle worlds order) begun) (self : Course) (view : course_of bundle worlds order ≡ self)
+module _ (bundle : Bundle) (worlds : List WorldState) (order begun : List ℕ)
+    (i : IsKept (course_of bundle worlds order) begun) (self : Course) (view : course_of bundle worlds order ≡ self)
     (k : ℕ) (step : Step) (asked : IsStepAt self.bundle k step) (w : WorldState) (read : w ≡ slice_index_or worlds k w) where
   pub can_take : CanStep worlds k step
   can_take = can_step bundle worlds order k step i.course (subst (λ (o : Course). IsStepAt o.bundle k step) (sym view) asked)
@@ -38,7 +39,8 @@ module _ (bundle : Bundle) (worlds : List WorldState) (order begun : List ℕ) (
     place_within slice e =
         subst (λ (l : List ℕ). IfSome o (λ place. place < length l)) (sym e) (beginner_within bundle worlds order begun i k step w stands taken_by o told)
 
-    module _ (slice : List WorldState) (same : slice ≡ worlds) (b : Bool) (turn : b ≡ is_none (turn_fault (record { bundle = bundle; runs = map newest slice; order = [] }) k o)) where
+    module _ (slice : List WorldState) (same : slice ≡ worlds) (b : Bool)
+        (turn : b ≡ is_none (turn_fault (record { bundle = bundle; runs = map newest slice; order = [] }) k o)) where
       turn-is : is_none (turn_fault (course_of bundle worlds order) k o) ≡ b
       turn-is =
           sym (turn ∙ ap (λ (l : List WorldState). is_none (turn_fault (record { bundle = bundle; runs = map newest l; order = [] }) k o)) same
@@ -58,11 +60,13 @@ module _ (bundle : Bundle) (worlds : List WorldState) (order begun : List ℕ) (
       pub place_counts : b ≡ true → IfSome o (λ place. IsSomeAnd (slice_get begun place) (λ n. n + 1 < 2 ^ 64))
       place_counts t = beginner_counts bundle worlds order begun i k o (turn-is ∙ t)
 
-      module _ (t : b ≡ true) (new : List WorldState) (held pushed now : List ℕ) (s : StepsAt k (map newest worlds) (map newest new) step) (h : held ≡ order) (p : pushed ≡ held ++ k ∷ []) where
+      module _ (t : b ≡ true) (new : List WorldState) (held pushed now : List ℕ)
+          (s : StepsAt k (map newest worlds) (map newest new) step) (h : held ≡ order) (p : pushed ≡ held ++ k ∷ []) where
         pub taken_kept : (All IsShort worlds → All IsShort new) → now ≡ counted begun o → IsKept (course_of bundle new pushed) now
         taken_kept grows q =
             subst (λ (l : List ℕ). IsKept (course_of bundle new pushed) l) (ap (λ (x : Option ℕ). counted begun x) (sym told) ∙ sym q)
             (step_kept bundle worlds order k step w stands (turn-told ∙ t) new held pushed begun s grows i h p)
 
         pub taken_shown : Steps self (course_of bundle new pushed) k step
-        taken_shown = subst (λ (c : Course). Steps c (course_of bundle new pushed) k step) view (step_shown bundle worlds order k step w stands (turn-told ∙ t) new held pushed s h p)
+        taken_shown = subst (λ (c : Course). Steps c (course_of bundle new pushed) k step) view
+            (step_shown bundle worlds order k step w stands (turn-told ∙ t) new held pushed s h p)

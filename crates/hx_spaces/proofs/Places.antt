@@ -49,7 +49,8 @@ get-set-other (z ∷ zs) (suc k) zero y ne = refl
 get-set-other (z ∷ zs) (suc k) (suc j) y ne = get-set-other zs k j y (λ e. ne (ap (λ n. suc n) e))
 
 -- an item of a list with one item put at a place is that item or stood elsewhere
-pub get-set : {A : Type 0} (xs : List A) (k j : ℕ) (y x : A) → slice_get (slice_set xs k y) j ≡ Some x → ((j ≡ k) × (x ≡ y)) ⊎ ((j ≡ k → ⊥) × (slice_get xs j ≡ Some x))
+pub get-set : {A : Type 0} (xs : List A) (k j : ℕ) (y x : A) → slice_get (slice_set xs k y) j ≡ Some x
+    → ((j ≡ k) × (x ≡ y)) ⊎ ((j ≡ k → ⊥) × (slice_get xs j ≡ Some x))
 get-set [] k j y x h = cc
 get-set (z ∷ zs) zero zero y x h = inl (refl, sym (some-same h))
 get-set (z ∷ zs) zero (suc j) y x h = inr ((λ e. omega (arith, e)), h)

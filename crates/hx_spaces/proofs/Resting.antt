@@ -21,7 +21,8 @@ later runs first true e none = walked runs first (ltb-true first (length runs) e
 later runs first false e none =
     let behind = ltb-false first (length runs) e in
     let behind-too : length runs ≤ first + 1 = omega (arith, behind) in
-    ap (λ l. first_delivery_from first l) (drop-none runs first behind) ∙ sym (ap (λ l. first_delivery_from (first + 1) l) (drop-none runs (first + 1) behind-too))
+    ap (λ l. first_delivery_from first l) (drop-none runs first behind)
+    ∙ sym (ap (λ l. first_delivery_from (first + 1) l) (drop-none runs (first + 1) behind-too))
 
 pub rests_walk : (runs : List WorldState) (first : ℕ) → RestBefore first runs → first_delivery_from 0 runs ≡ first_delivery_from first (drop first runs)
 rests_walk runs zero rest = refl
@@ -69,7 +70,8 @@ others runs t k other = ap (λ (o : Option WorldState). when_some o None (λ (r 
   by (Some r) = get-set-other runs t.space k (run_with t.next r) other
 
 -- the spaces before its own rest as they did
-pub rest_with : (runs new : List WorldState) (t : Turn) (first now : ℕ) → RestBefore first runs → new ≡ runs_with t runs → now ≡ min first t.space → RestBefore now new
+pub rest_with : (runs new : List WorldState) (t : Turn) (first now : ℕ) → RestBefore first runs
+    → new ≡ runs_with t runs → now ≡ min first t.space → RestBefore now new
 rest_with runs new t first now rest made e k less =
     let before : k < first = omega (arith, less, e) in
     let other : k ≡ t.space → ⊥ = λ same. omega (arith, less, e, same) in

@@ -45,13 +45,15 @@ some-and None P h = absurd h
 some-and (Some x) P h = (x, refl, h)
 
 -- the world of a step can take it
-pub can_step : (bundle : Bundle) (worlds : List WorldState) (order : List ℕ) (k : ℕ) (step : Step) → IsCourse (course_of bundle worlds order) → IsStepAt bundle k step → CanStep worlds k step
+pub can_step : (bundle : Bundle) (worlds : List WorldState) (order : List ℕ) (k : ℕ) (step : Step)
+    → IsCourse (course_of bundle worlds order) → IsStepAt bundle k step → CanStep worlds k step
 can_step bundle worlds order k step i h =
     let s = some-and (slice_get bundle.spaces k) (λ (script : Script). HasStep script step) h in
     let r = run-at (course_of bundle worlds order) i k (within bundle.spaces k s.0 s.1) in
     let w = world-of worlds k r.0 r.1 in
     let script : w.0.script ≡ s.0 =
-    some-same (sym (get-map (λ (x : WorldState). x.script) (map newest worlds) k (newest w.0) (get-map newest worlds k w.0 w.1)) ∙ ap (λ (l : List Script). slice_get l k) i.scripts ∙ s.1) in
+    some-same (sym (get-map (λ (x : WorldState). x.script) (map newest worlds) k (newest w.0)
+    (get-map newest worlds k w.0 w.1)) ∙ ap (λ (l : List Script). slice_get l k) i.scripts ∙ s.1) in
     record {
       world = w.0;
       stands = w.1;
@@ -65,16 +67,20 @@ has-input : (script : Script) (t : List Entry) (step : Step) → fault_of script
 has-input script t (a_step.Tick a) h = (record { actor = a; input = Tick }, refl)
 has-input script t (a_step.Halt a) h = (record { actor = a; input = Halt }, refl)
 has-input script t (a_step.Deliver id) h = by (post_named id t) refl h where
-  by : (o : Option Post) → post_named id t ≡ o → when_some o (Some a_fault.Unsent) (λ (p : Post). first_some (halted_fault script t p.to) (worn_fault t p.to)) ≡ None
+  by : (o : Option Post) → post_named id t ≡ o → when_some o (Some a_fault.Unsent)
+      (λ (p : Post). first_some (halted_fault script t p.to) (worn_fault t p.to)) ≡ None
       → (next : Next) × (option_map (delivery_of id) (post_named id t) ≡ Some next)
   by None e q = cc
   by (Some p) e q = (delivery_of id p, ap (λ (o : Option Post). option_map (delivery_of id) o) e)
 
-pub stepped_at : (ws : List WorldState) (k : ℕ) (w w' : WorldState) (step : Step) (r : Result (Unit {0}) StepError) → slice_get ws k ≡ Some w → w'.script ≡ w.script
+pub stepped_at : (ws : List WorldState) (k : ℕ) (w w' : WorldState) (step : Step) (r : Result (Unit {0}) StepError)
+    → slice_get ws k ≡ Some w → w'.script ≡ w.script
     → OnOk r (world.Steps w.script (reverse w.trace) (reverse w'.trace) step) → OnOk r (StepsAt k (map newest ws) (map newest (slice_set ws k w')) step)
 stepped_at ws k w w' step (Ok u) h s t =
     let next = has-input w.script (reverse w.trace) step t.possible in
-    let makes : Makes w.script (reverse w.trace) (reverse w'.trace) next.0 = t.trace ∙ ap (λ (o : Option Next). with_entry (reverse w.trace) (option_map (entry_by w.script (reverse w.trace)) o)) next.1 in
+    let makes : Makes w.script (reverse w.trace) (reverse w'.trace) next.0 =
+    t.trace ∙ ap (λ (o : Option Next). with_entry (reverse w.trace)
+    (option_map (entry_by w.script (reverse w.trace)) o)) next.1 in
     record {
       run = newest w;
       stands = get-map newest ws k w h;
@@ -101,7 +107,8 @@ none-there (Some x) e = cc
 pub has-turn : (c : Course) (k place : ℕ) (o : Option ℕ) → turn_fault c k o ≡ None → o ≡ Some place → next_space c.bundle c.runs place ≡ Some k
 has-turn c k place None h e = absurd (none-some place e)
 has-turn c k place (Some p) h e = subst (λ m. next_space c.bundle c.runs m ≡ Some k) (some-same e) (by (next_space c.bundle c.runs p) refl h) where
-  by : (o : Option ℕ) → next_space c.bundle c.runs p ≡ o → (if when_some o false (λ j. j == k) then None else Some a_fault.Idle) ≡ None → next_space c.bundle c.runs p ≡ Some k
+  by : (o : Option ℕ) → next_space c.bundle c.runs p ≡ o
+      → (if when_some o false (λ j. j == k) then None else Some a_fault.Idle) ≡ None → next_space c.bundle c.runs p ≡ Some k
   by None q f = cc
   by (Some j) q f = at (j == k) refl f where
     at : (b : Bool) → (j == k) ≡ b → (if b then None else Some a_fault.Idle) ≡ None → next_space c.bundle c.runs p ≡ Some k
@@ -142,7 +149,8 @@ module _ (bundle : Bundle) (worlds : List WorldState) (order : List ℕ) (k : �
   module _ (turn : is_none (turn_fault c k (beginner (newest w) step)) ≡ true) where
     fault-is : bundle_fault c k step ≡ fault_of w.script (reverse w.trace) step
     fault-is =
-        ap (λ (o : Option WorldState). when_some o None (λ (r : WorldState). first_some (turn_fault c k (beginner r step)) (fault_of r.script r.trace step))) here
+        ap (λ (o : Option WorldState). when_some o None
+        (λ (r : WorldState). first_some (turn_fault c k (beginner r step)) (fault_of r.script r.trace step))) here
         ∙ ap (λ (o : Option StepFault). first_some o (fault_of w.script (reverse w.trace) step)) (none-there (turn_fault c k (beginner (newest w) step)) turn)
 
     -- why its world refused it, its space refuses it
@@ -171,14 +179,16 @@ module _ (bundle : Bundle) (worlds : List WorldState) (order : List ℕ) (k : �
       }
 
     -- what the cluster keeps with it
-    pub step_kept : (new : List WorldState) (held pushed begun : List ℕ) → StepsAt k (map newest worlds) (map newest new) step → (All IsShort worlds → All IsShort new) → IsKept c begun
+    pub step_kept : (new : List WorldState) (held pushed begun : List ℕ)
+        → StepsAt k (map newest worlds) (map newest new) step → (All IsShort worlds → All IsShort new) → IsKept c begun
         → held ≡ order → pushed ≡ held ++ k ∷ [] → IsKept (course_of bundle new pushed) (counted begun (beginner (newest w) step))
     step_kept new held pushed begun s grows i h p =
         subst (λ (o : Option ℕ). IsKept (course_of bundle new pushed) (counted begun o)) (begins (map newest new) held pushed s)
         (kept_after bundle worlds new order held pushed begun k s.next i (fair (map newest new) held pushed s) s.made grows h p)
 
     -- and what it leaves
-    pub step_shown : (new : List WorldState) (held pushed : List ℕ) → StepsAt k (map newest worlds) (map newest new) step → held ≡ order → pushed ≡ held ++ k ∷ []
+    pub step_shown : (new : List WorldState) (held pushed : List ℕ)
+        → StepsAt k (map newest worlds) (map newest new) step → held ≡ order → pushed ≡ held ++ k ∷ []
         → Steps c (course_of bundle new pushed) k step
     step_shown new held pushed s h p = record {
       possible = fault-is ∙ subst (λ (x : WorldState). fault_of x.script x.trace step ≡ None) (same-run s.run s.stands) s.possible;
@@ -186,5 +196,7 @@ module _ (bundle : Bundle) (worlds : List WorldState) (order : List ℕ) (k : �
     } where
       is : turn_by c k step ≡ Some (record { space = k; next = s.next })
       is =
-          ap (λ (o : Option WorldState). when_some o None (λ (r : WorldState). option_map (λ (next : Next). record { space = k; next = next }) (step_input r.trace step))) here
+          ap (λ (o : Option WorldState). when_some o None
+          (λ (r : WorldState). option_map (λ (next : Next). record { space = k; next = next })
+          (step_input r.trace step))) here
           ∙ ap (λ (o : Option Next). option_map (λ (next : Next). record { space = k; next = next }) o) (input (map newest new) held pushed s)

@@ -21,7 +21,8 @@ pub record BeginsCallOf (x : Entry) (u : SessionId) : Type 0 where
   pub number : ℕ
   pub noted : IsIn (Began number) x.notes
 
--- after these runs a call of the session of a place can begin in this space: the turn after those of the calls that it began is there, and none of its calls is under way in any space
+-- after these runs a call of the session of a place can begin in this space: the turn after those
+-- of the calls that it began is there, and none of its calls is under way in any space
 pub record IsItsTurn (bundle : Bundle) (runs : List WorldState) (place k : ℕ) : Type 0 where
   pub free : is_busy_in (session_at place) runs ≡ false
   pub turn : slice_get (turns_at bundle.turns place) (begun_in (session_at place) runs) ≡ Some k
@@ -30,7 +31,8 @@ pub record IsItsTurn (bundle : Bundle) (runs : List WorldState) (place k : ℕ) 
 abbrev pub BeginsInTurn : Bundle → List WorldState → ℕ → Entry → Type 0
 BeginsInTurn bundle runs k x = (place : ℕ) → BeginsCallOf x (session_at place) → IsItsTurn bundle runs place k
 
--- each session makes its calls in the order of its turns, and begins none while another of its calls is under way, in whatever space; the order of all entries stands newest first
+-- each session makes its calls in the order of its turns, and begins none while another of its
+-- calls is under way, in whatever space; the order of all entries stands newest first
 abbrev pub IsSequential : Bundle → List WorldState → List ℕ → Type 0
 IsSequential bundle runs [] = ⊤
 IsSequential bundle runs (k ∷ before) =

@@ -1,4 +1,5 @@
--- The course of a bundle: a run of each space's script, and the space of each entry in the order in which they were made; the newest entry stands first in both.
+-- The course of a bundle: a run of each space's script, and the space of each entry in the order in
+-- which they were made; the newest entry stands first in both.
 use Rattle.std.specs.Prelude.{◌≡◌, ℕ, zero, suc, ◌+◌, Bool, List, [], ◌∷◌, map, reverse, slice_get, slice_set, if◌then◌else◌, Option, None, Some}
 use Rattle.std.specs.List.{list_any}
 use Rattle.hx_model.specs.Types.{Script, Session, SessionId, Tick}
@@ -39,7 +40,8 @@ pub record Turn : Type 0 where
 -- the first delivery of the first space that has one, where these are the spaces from a number on
 abbrev pub first_delivery_from : ℕ → List WorldState → Option Turn
 first_delivery_from k [] = None
-first_delivery_from k (r ∷ rest) = when_some (delivery_in r.script r.trace) (first_delivery_from (k + 1) rest) (λ (next : Next). Some (record { space = k; next = next }))
+first_delivery_from k (r ∷ rest) = when_some (delivery_in r.script r.trace) (first_delivery_from (k + 1) rest)
+    (λ (next : Next). Some (record { space = k; next = next }))
 
 -- how many calls a session began in all spaces
 abbrev pub begun_in : SessionId → List WorldState → ℕ

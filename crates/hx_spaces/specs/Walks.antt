@@ -28,7 +28,8 @@ DeliversAt k old new false = (delivery_at old k ≡ None) × (new ≡ old)
 
 -- the first delivery was made in the space that is told, if there is one
 abbrev pub DeliversIn : List WorldState → List WorldState → Option ℕ → Type 0
-DeliversIn old new (Some k) = (next : Next) × (first_delivery_from 0 old ≡ Some (record { space = k; next = next })) × (new ≡ runs_with (record { space = k; next = next }) old)
+DeliversIn old new (Some k) = (next : Next) × (first_delivery_from 0 old ≡ Some (record { space = k; next = next }))
+    × (new ≡ runs_with (record { space = k; next = next }) old)
 DeliversIn old new None = (first_delivery_from 0 old ≡ None) × (new ≡ old)
 
 -- the session of a place begins a call in a space

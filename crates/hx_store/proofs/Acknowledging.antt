@@ -25,15 +25,18 @@ next v rest versions old before after so state region spare = record {
 }
 
 -- the version whose turn it is stands first among the rest
-pub at_turn : (versions : List Version) (i : ℕ) (d : Version) (old before : SlotState) → i < length versions → IsSoFar (drop i versions) versions old before → IsSoFar (get_or versions i d ∷ drop (i + 1) versions) versions old before
+pub at_turn : (versions : List Version) (i : ℕ) (d : Version) (old before : SlotState) → i < length versions
+    → IsSoFar (drop i versions) versions old before → IsSoFar (get_or versions i d ∷ drop (i + 1) versions) versions old before
 at_turn versions i d old before within so =
     subst (λ (n : ℕ). IsSoFar (get_or versions i d ∷ drop n versions) versions old before) (sym (add-one i))
     (subst (λ (rest : List Version). IsSoFar rest versions old before) (drop-cons versions i d within) so)
 
 -- it is pending
-pub turn_pending : (v : Version) (rest versions : List Version) (old before : SlotState) → IsSoFar (v ∷ rest) versions old before → is_pending v.0 before.state ≡ true
+pub turn_pending : (v : Version) (rest versions : List Version) (old before : SlotState)
+    → IsSoFar (v ∷ rest) versions old before → is_pending v.0 before.state ≡ true
 turn_pending v rest versions old before so = All-head (λ (w : Version). is_pending w.0 before.state ≡ true) v rest so.pending
 
 -- in the end all were
-pub at_end : (versions : List Version) (i : ℕ) (old new : SlotState) → length versions ≤ i → IsSoFar (drop i versions) versions old new → IsSoFar [] versions old new
+pub at_end : (versions : List Version) (i : ℕ) (old new : SlotState) → length versions ≤ i
+    → IsSoFar (drop i versions) versions old new → IsSoFar [] versions old new
 at_end versions i old new past so = subst (λ (rest : List Version). IsSoFar rest versions old new) (drop_all i versions past) so

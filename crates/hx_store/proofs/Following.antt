@@ -1,5 +1,7 @@
 -- An index that follows the rows of slots: one row changes, and then its place in the index; and the marks of the places that wait for that.
-use Rattle.std.proofs.Common.{◌≡◌, ℕ, zero, suc, ◌+◌, ◌-◌, ◌^◌, ◌<◌, ◌≤◌, Bool, true, false, cond, List, [], ◌∷◌, ◌++◌, length, take, inl, inr, is_some, Option, None, Some, get_or, refl, ap, sym, ◌∙◌, subst, arith, eqb}
+use Rattle.std.proofs.Common.{◌≡◌, ℕ, zero, suc, ◌+◌, ◌-◌, ◌^◌, ◌<◌, ◌≤◌, Bool, true, false, cond, List, [], ◌∷◌, ◌++◌}
+use Rattle.std.proofs.Common.{length, take, inl, inr, is_some, Option, None, Some, get_or, refl, ap, sym, ◌∙◌, subst}
+use Rattle.std.proofs.Common.{arith, eqb}
 use Rattle.std.specs.List.{slice_get, slice_set}
 use Rattle.std.proofs.lemmas.Bool.{cases_eq, cases_lt, cases_order, cond-true, eq-eqb, false≢true, ne_eqb}
 use Rattle.std.proofs.lemmas.Option.{same_Some, slice_get-get_or}
@@ -8,7 +10,8 @@ use Rattle.hx_types.specs.Words.{when_some}
 use Rattle.hx_slot.specs.States.{SlotState}
 use Rattle.hx_index.specs.Orders.{IndexState, IsIndexOf, count_of, rows_at, rows_with, rows_without}
 use Rattle.hx_index.proofs.Lemmas.{set-elsewhere, set-here, set-length, same-orders, with-own, within-at}
-use Rattle.hx_store.specs.Indexed.{AreIndexed, IndexedState, IsKept, IsKeptAs, IsOf, IsWider, is_marked, kept_at, marked_count, one_if, one_kept, row_count, times}
+use Rattle.hx_store.specs.Indexed.{AreIndexed, IndexedState, IsKept, IsKeptAs, IsOf, IsWider, is_marked, kept_at}
+use Rattle.hx_store.specs.Indexed.{marked_count, one_if, one_kept, row_count, times}
 
 -- the item at a place
 pub at-item : {A : Type 0} (xs : List A) (i : ℕ) (x : A) → i < length xs → x ≡ get_or xs i x → slice_get xs i ≡ Some x
@@ -29,7 +32,8 @@ count-most : (rows : List (Option Row)) → row_count rows ≤ length rows
 count-most [] = omega arith
 count-most (r ∷ rows) = let more = count-most rows in let one = most-one r in omega (arith, more, one)
 
-count-set : (rows : List (Option Row)) (i : ℕ) (s w : Option Row) → slice_get rows i ≡ Some s → row_count (slice_set rows i w) + one_kept s ≡ row_count rows + one_kept w
+count-set : (rows : List (Option Row)) (i : ℕ) (s w : Option Row) → slice_get rows i ≡ Some s
+    → row_count (slice_set rows i w) + one_kept s ≡ row_count rows + one_kept w
 count-set [] i s w at = absurd cc
 count-set (x ∷ rows) zero s w at = let is : one_kept x ≡ one_kept s = ap one_kept (same_Some x s at) in omega (arith, is)
 count-set (x ∷ rows) (suc i) s w at = let more = count-set rows i s w at in omega (arith, more)
@@ -62,7 +66,8 @@ module _ (rows : List (Option Row)) (place : ℕ) (s : Option Row) (at : slice_g
   pub in-room : (index : IndexState) → IsKeptAs None place rows index → is_some s ≡ true → count_of index < index.room
   in-room index h e = let c = h.count in let n = one-count e in let m = count-most rows in let r = h.room in omega (arith, c, n, m, r)
 
-  pub in-some : (old new : IndexState) → IsKeptAs None place rows old → is_some s ≡ true → IsIndexOf (rows_at rows) new → count_of new ≡ count_of old + 1 → new.room ≡ old.room → IsKept rows new
+  pub in-some : (old new : IndexState) → IsKeptAs None place rows old → is_some s ≡ true
+      → IsIndexOf (rows_at rows) new → count_of new ≡ count_of old + 1 → new.room ≡ old.room → IsKept rows new
   in-some old new h e is more same = record {
     index_is = is;
     count = (let c = h.count in let n = one-count e in omega (arith, c, n, more));
@@ -146,7 +151,8 @@ pub marked-most : (marks : List Bool) → marked_count marks ≤ length marks
 marked-most [] = omega arith
 marked-most (m ∷ marks) = let more = marked-most marks in let one = one-most m in omega (arith, more, one)
 
-marked-set : (marks : List Bool) (i : ℕ) (b : Bool) → i < length marks → marked_count (slice_set marks i b) + one_if (is_marked marks i) ≡ marked_count marks + one_if b
+marked-set : (marks : List Bool) (i : ℕ) (b : Bool) → i < length marks
+    → marked_count (slice_set marks i b) + one_if (is_marked marks i) ≡ marked_count marks + one_if b
 marked-set [] i b l = absurd (omega (arith, l))
 marked-set (m ∷ marks) zero b l = omega arith
 marked-set (m ∷ marks) (suc i) b l = let more = marked-set marks i b (omega (arith, l)) in omega (arith, more)
@@ -190,11 +196,15 @@ marked index rows marks places cap place h l e = record {
     one : (i : ℕ) → times i (places ++ place ∷ []) ≡ one_if (is_marked (slice_set marks place true) i)
     one i = elim (cases_eq i place) [
       | inl p ↦ subst (λ j. times j (places ++ place ∷ []) ≡ one_if (is_marked (slice_set marks place true) j)) (sym p)
-          (let t = times-end place places place in let s = self-one place in let b = h.each place in let z = ap one_if e in let n = ap one_if (set-marked marks place true l) in omega (arith, t, s, b, z, n))
-      | inr n ↦ (let t = times-end i places place in let s = same-one place i (λ q. n (sym q)) in let b = h.each i in let m = ap one_if (set-unmarked marks place i true n) in omega (arith, t, s, b, m))
+          (let t = times-end place places place in let s = self-one place in let b = h.each place in
+          let z = ap one_if e in let n = ap one_if (set-marked marks place true l) in omega (arith, t, s, b, z, n))
+      | inr n ↦ (let t = times-end i places place in let s = same-one place i (λ q. n (sym q)) in let b = h.each i in
+          let m = ap one_if (set-unmarked marks place i true n) in omega (arith, t, s, b, m))
     ]
 
-pub marked-room : (index : IndexState) (rows : List (Option Row)) (marks : List Bool) (places : List ℕ) (cap place : ℕ) → AreIndexed index rows marks places cap → place < length marks → is_marked marks place ≡ false → length places < cap
+pub marked-room : (index : IndexState) (rows : List (Option Row)) (marks : List Bool) (places : List ℕ)
+    (cap place : ℕ) → AreIndexed index rows marks places cap → place < length marks → is_marked marks place ≡ false
+    → length places < cap
 marked-room index rows marks places cap place h l e =
     let a = h.all in let r = h.capacity_is in let c = h.each_marked in
     let m = marked-set marks place true l in
@@ -230,12 +240,14 @@ module _ {index : IndexState} {rows : List (Option Row)} {marks : List Bool} {pl
   last-within = let l = marked-within marks place last-marked in let e = h.each_marked in omega (arith, l, e)
 
   -- is marked no more once the index has the row there
-  pub unmarked : (next : IndexState) (now : List (Option Row)) → IsKept now next → length now ≡ length rows → AreIndexed next now (slice_set marks place false) rest cap
+  pub unmarked : (next : IndexState) (now : List (Option Row)) → IsKept now next → length now ≡ length rows
+      → AreIndexed next now (slice_set marks place false) rest cap
   unmarked next now kept same = record {
     kept = kept;
     each_marked = set-length marks place false ∙ h.each_marked ∙ sym same;
     each = one;
-    all = (let a = h.all in let q = ap length last in let n = length-end rest place in let m = marked-set marks place false within in let z = ap one_if last-marked in omega (arith, a, q, n, m, z));
+    all = (let a = h.all in let q = ap length last in let n = length-end rest place in
+        let m = marked-set marks place false within in let z = ap one_if last-marked in omega (arith, a, q, n, m, z));
     capacity_is = (let r = h.capacity_is in omega (arith, r, same));
   }
     where
@@ -246,7 +258,8 @@ module _ {index : IndexState} {rows : List (Option Row)} {marks : List Bool} {pl
       one i = elim (cases_eq i place) [
         | inl p ↦ subst (λ j. times j rest ≡ one_if (is_marked (slice_set marks place false) j)) (sym p)
             (let o = once in let l = one-most (is_marked marks place) in let n = ap one_if (set-marked marks place false within) in omega (arith, o, l, n))
-        | inr n ↦ (let t = times-end i rest place in let s = same-one place i (λ q. n (sym q)) in let b = h.each i in let q = ap (times i) last in let m = ap one_if (set-unmarked marks place i false n) in omega (arith, t, s, b, q, m))
+        | inr n ↦ (let t = times-end i rest place in let s = same-one place i (λ q. n (sym q)) in let b = h.each i in
+            let q = ap (times i) last in let m = ap one_if (set-unmarked marks place i false n) in omega (arith, t, s, b, q, m))
       ]
 
   pub less-marked : marked_count (slice_set marks place false) + 1 ≡ marked_count marks
@@ -339,7 +352,8 @@ roomy rows old new h same room = record {
   few = h.few;
 }
 
-pub kept-end : (rows : List (Option Row)) (index : IndexState) → IsKept rows index → length rows + 1 ≤ index.room → length rows + 1 < 2 ^ 32 → IsKept (rows ++ None ∷ []) index
+pub kept-end : (rows : List (Option Row)) (index : IndexState) → IsKept rows index → length rows + 1 ≤ index.room
+    → length rows + 1 < 2 ^ 32 → IsKept (rows ++ None ∷ []) index
 kept-end rows index h room few = record {
   index_is = subst (λ (r : ℕ → Option Row). IsIndexOf r index) (λ k i. sym (rows-end rows i) k) h.index_is;
   count = (let c = h.count in let m = row-count-end rows in omega (arith, c, m));

@@ -1,5 +1,6 @@
 -- Slots that are put in a store at once, each at its key, which has a place.
-use Rattle.std.proofs.Common.{◌≡◌, ℕ, zero, suc, ◌+◌, ◌<◌, Bool, true, false, ◌||◌, List, [], ◌∷◌, ◌++◌, map, take, length, Some, inl, inr, refl, ap, sym, ◌∙◌, subst, arith}
+use Rattle.std.proofs.Common.{◌≡◌, ℕ, zero, suc, ◌+◌, ◌<◌, Bool, true, false, ◌||◌, List, [], ◌∷◌, ◌++◌, map, take}
+use Rattle.std.proofs.Common.{length, Some, inl, inr, refl, ap, sym, ◌∙◌, subst, arith}
 use Rattle.std.specs.List.{AllByRecursion, list_any, slice_get}
 use Rattle.std.proofs.lemmas.Bool.{false≢true, false_from_ne_true, or_cases, or_left, or_right}
 use Rattle.std.proofs.lemmas.List.{append_assoc, map_push}
@@ -38,17 +39,21 @@ pub place-has : (s : StoreState) (place : ℕ) (key : List ℕ) → IsPlace s pl
 place-has s place key h = at-has key s.rooms place h.within h.key_is
 
 -- slots that are ready stay so
-pub ready-others : (s t : StoreState) (free : List ℕ) (xs : List SlotState) → t.region ≡ s.region → t.keeps_marks ≡ s.keeps_marks → KeepsOtherRooms free s.rooms t.rooms → AllByRecursion (IsReady s) xs → AllByRecursion (IsReady t) xs
+pub ready-others : (s t : StoreState) (free : List ℕ) (xs : List SlotState) → t.region ≡ s.region
+    → t.keeps_marks ≡ s.keeps_marks → KeepsOtherRooms free s.rooms t.rooms → AllByRecursion (IsReady s) xs
+    → AllByRecursion (IsReady t) xs
 ready-others s t free [] g m k h = tt
 ready-others s t free (x ∷ xs) g m k h = (
   record { region = h.0.region ∙ sym g; marks = h.0.marks ∙ sym m; place = has-others free x.state.base.key s.rooms t.rooms k h.0.place },
   ready-others s t free xs g m k h.1,
 )
 
-pub ready-kept : (s t : StoreState) (xs : List SlotState) → t.region ≡ s.region → t.keeps_marks ≡ s.keeps_marks → KeepsRooms s.rooms t.rooms → AllByRecursion (IsReady s) xs → AllByRecursion (IsReady t) xs
+pub ready-kept : (s t : StoreState) (xs : List SlotState) → t.region ≡ s.region → t.keeps_marks ≡ s.keeps_marks
+    → KeepsRooms s.rooms t.rooms → AllByRecursion (IsReady s) xs → AllByRecursion (IsReady t) xs
 ready-kept s t xs g m k = ready-others s t [] xs g m (kept-others [] s.rooms t.rooms k)
 
-pub ready-push : (s : StoreState) (xs : List SlotState) (x : SlotState) → AllByRecursion (IsReady s) xs → IsReady s x → AllByRecursion (IsReady s) (xs ++ x ∷ [])
+pub ready-push : (s : StoreState) (xs : List SlotState) (x : SlotState) → AllByRecursion (IsReady s) xs → IsReady s x
+    → AllByRecursion (IsReady s) (xs ++ x ∷ [])
 ready-push s [] x h r = (r, tt)
 ready-push s (y ∷ ys) x h r = (h.0, ready-push s ys x h.1 r)
 
@@ -57,7 +62,8 @@ from-marks true k = refl
 from-marks false k = refl
 
 -- the slot of a kept state is ready where its key has a place
-pub kept-ready : (s : StoreState) (marks : Bool) (k : Kept) (x : SlotState) (place : ℕ) → x.region ≡ s.region → marks ≡ s.keeps_marks → x.state ≡ state_from marks k → IsPlace s place k.key → IsReady s x
+pub kept-ready : (s : StoreState) (marks : Bool) (k : Kept) (x : SlotState) (place : ℕ) → x.region ≡ s.region
+    → marks ≡ s.keeps_marks → x.state ≡ state_from marks k → IsPlace s place k.key → IsReady s x
 kept-ready s marks k x place g m e p = record {
   region = g;
   marks = ap (λ (t : KeyState). t.marks) e ∙ from-marks marks k ∙ m;
@@ -65,7 +71,8 @@ kept-ready s marks k x place g m e p = record {
 }
 
 -- one slot more of those of a snapshot
-pub made-next : (marks : Bool) (snapshot : List Kept) (i : ℕ) (k : Kept) (xs : List SlotState) (x : SlotState) → slice_get snapshot i ≡ Some k → states_of xs ≡ map (state_from marks) (take i snapshot) → x.state ≡ state_from marks k
+pub made-next : (marks : Bool) (snapshot : List Kept) (i : ℕ) (k : Kept) (xs : List SlotState) (x : SlotState)
+    → slice_get snapshot i ≡ Some k → states_of xs ≡ map (state_from marks) (take i snapshot) → x.state ≡ state_from marks k
     → states_of (xs ++ x ∷ []) ≡ map (state_from marks) (take (i + 1) snapshot)
 made-next marks snapshot i k xs x at so e =
     map_push (λ (y : SlotState). y.state) xs x
@@ -78,16 +85,20 @@ pub made-ascend : (marks : Bool) (snapshot : List Kept) → KeptsAscend snapshot
 made-ascend marks [] h = tt
 made-ascend marks (k ∷ ks) h = (all ks h.0, made-ascend marks ks h.1)
   where
-    all : (xs : List Kept) → AllByRecursion (λ (x : Kept). text_below k.key x.key ≡ true) xs → AllByRecursion (λ (t : KeyState). text_below (state_from marks k).base.key t.base.key ≡ true) (map (state_from marks) xs)
+    all : (xs : List Kept) → AllByRecursion (λ (x : Kept). text_below k.key x.key ≡ true) xs
+        → AllByRecursion (λ (t : KeyState). text_below (state_from marks k).base.key t.base.key ≡ true)
+        (map (state_from marks) xs)
     all [] a = tt
     all (x ∷ xs) a = ((λ j. text_below (from-key marks k j) (from-key marks x j)) ∙ a.0, all xs a.1)
 
 -- a slot comes behind those of lower keys
-front-below : (xs : List KeyState) (y : KeyState) (ys : List KeyState) → KeysAscend (xs ++ y ∷ ys) → AllByRecursion (λ (t : KeyState). text_below t.base.key y.base.key ≡ true) xs
+front-below : (xs : List KeyState) (y : KeyState) (ys : List KeyState) → KeysAscend (xs ++ y ∷ ys)
+    → AllByRecursion (λ (t : KeyState). text_below t.base.key y.base.key ≡ true) xs
 front-below [] y ys h = tt
 front-below (x ∷ xs) y ys h = (at xs h.0, front-below xs y ys h.1)
   where
-    at : (zs : List KeyState) → AllByRecursion (λ (t : KeyState). text_below x.base.key t.base.key ≡ true) (zs ++ y ∷ ys) → text_below x.base.key y.base.key ≡ true
+    at : (zs : List KeyState) → AllByRecursion (λ (t : KeyState). text_below x.base.key t.base.key ≡ true)
+        (zs ++ y ∷ ys) → text_below x.base.key y.base.key ≡ true
     at [] a = a.0
     at (z ∷ zs) a = at zs a.1
 
@@ -102,13 +113,15 @@ pub but-same : (free : List ℕ → Bool) (rs : List Room) → KeepsRoomsBut fre
 but-same free [] = tt
 but-same free (r ∷ rs) = (refl, (λ f. omega arith), but-same free rs)
 
-pub but-next : (free : List ℕ → Bool) (key : List ℕ) (a b c : List Room) → free key ≡ true → KeepsRoomsBut free a b → KeepsOtherRooms key b c → KeepsRoomsBut free a c
+pub but-next : (free : List ℕ → Bool) (key : List ℕ) (a b c : List Room) → free key ≡ true → KeepsRoomsBut free a b
+    → KeepsOtherRooms key b c → KeepsRoomsBut free a c
 but-next free key [] b c t h k = tt
 but-next free key (x ∷ a) [] c t h k = absurd h
 but-next free key (x ∷ a) (y ∷ b) [] t h k = absurd k
 but-next free key (x ∷ a) (y ∷ b) (z ∷ c) t h k = (
   k.0 ∙ h.0,
-  (λ f. let p = h.1 f in let q = k.1 (false_from_ne_true (same_text y.key key) (λ e. false≢true (sym f ∙ ap free (sym h.0 ∙ eq_of_same_text y.key key e) ∙ t))) in omega (arith, p, q)),
+  (λ f. let p = h.1 f in let q = k.1 (false_from_ne_true (same_text y.key key)
+      (λ e. false≢true (sym f ∙ ap free (sym h.0 ∙ eq_of_same_text y.key key e) ∙ t))) in omega (arith, p, q)),
   but-next free key a b c t h.2 k.2,
 )
 
@@ -129,7 +142,8 @@ kept-but free a b h = but-kept free a b b h (but-same free b)
 pub each-own : (xs : List SlotState) → AllByRecursion (λ (x : SlotState). is_key_of xs x.state.base.key ≡ true) xs
 each-own xs = by xs (λ key t. t)
   where
-    by : (ys : List SlotState) → ((key : List ℕ) → is_key_of ys key ≡ true → is_key_of xs key ≡ true) → AllByRecursion (λ (x : SlotState). is_key_of xs x.state.base.key ≡ true) ys
+    by : (ys : List SlotState) → ((key : List ℕ) → is_key_of ys key ≡ true → is_key_of xs key ≡ true)
+        → AllByRecursion (λ (x : SlotState). is_key_of xs x.state.base.key ≡ true) ys
     by [] f = tt
     by (y ∷ ys) f = (
       f y.state.base.key (or_left (same_text y.state.base.key y.state.base.key) _ (same_text_self y.state.base.key)),
@@ -138,7 +152,8 @@ each-own xs = by xs (λ key t. t)
 
 -- are those of the snapshot
 pub keys-kept : (marks : Bool) (snapshot : List Kept) (xs : List SlotState) → states_of xs ≡ map (state_from marks) snapshot → is_key_of xs ≡ has_kept snapshot
-keys-kept marks snapshot xs e = λ j key. (through xs key ∙ ap (λ (ss : List KeyState). list_any (λ (s : KeyState). same_text s.base.key key) ss) e ∙ back snapshot key) j
+keys-kept marks snapshot xs e = λ j key. (through xs key
+    ∙ ap (λ (ss : List KeyState). list_any (λ (s : KeyState). same_text s.base.key key) ss) e ∙ back snapshot key) j
   where
     through : (ys : List SlotState) (key : List ℕ) → is_key_of ys key ≡ list_any (λ (s : KeyState). same_text s.base.key key) (states_of ys)
     through [] key = refl

@@ -1,5 +1,6 @@
 -- Items of lists by their places.
-use Rattle.std.proofs.Common.{◌≡◌, ℕ, zero, suc, ◌<◌, ◌+◌, true, List, [], ◌∷◌, ◌++◌, map, length, take, Some, refl, ap, sym, ◌∙◌, subst, arith, eqb, add-one, append-nil, append_assoc}
+use Rattle.std.proofs.Common.{◌≡◌, ℕ, zero, suc, ◌<◌, ◌+◌, true, List, [], ◌∷◌, ◌++◌, map, length, take, Some, refl}
+use Rattle.std.proofs.Common.{ap, sym, ◌∙◌, subst, arith, eqb, add-one, append-nil, append_assoc}
 use Rattle.std.specs.List.{AllByRecursion, flat_map, list_any, slice_get}
 use Rattle.std.proofs.lemmas.Bool.{eq-eqb, or_left, or_right}
 use Rattle.std.proofs.lemmas.Option.{same_Some}
@@ -68,12 +69,15 @@ take_one (y ∷ ys) (suc i) x e = ap (λ zs. y ∷ zs) (take_one ys i x e)
 pub take_next : {A : Type 0} (xs : List A) (i : ℕ) (x : A) → slice_get xs i ≡ Some x → take (i + 1) xs ≡ take i xs ++ x ∷ []
 take_next xs i x e = ap (λ n. take n xs) (add-one i) ∙ take_one xs i x e
 
-pub more_of : {A : Type 0} (before new now xs : List A) (i : ℕ) (x : A) → now ≡ before ++ take i xs → slice_get xs i ≡ Some x → new ≡ now ++ x ∷ [] → new ≡ before ++ take (i + 1) xs
-more_of before new now xs i x e at is = is ∙ ap (λ l. l ++ x ∷ []) e ∙ append_assoc before (take i xs) (x ∷ []) ∙ sym (ap (λ l. before ++ l) (take_next xs i x at))
+pub more_of : {A : Type 0} (before new now xs : List A) (i : ℕ) (x : A) → now ≡ before ++ take i xs
+    → slice_get xs i ≡ Some x → new ≡ now ++ x ∷ [] → new ≡ before ++ take (i + 1) xs
+more_of before new now xs i x e at is = is ∙ ap (λ l. l ++ x ∷ []) e ∙ append_assoc before (take i xs) (x ∷ [])
+    ∙ sym (ap (λ l. before ++ l) (take_next xs i x at))
 
 flat-more : {A B : Type 0} (f : A → List B) (xs : List A) (x : A) → flat_map f (xs ++ x ∷ []) ≡ flat_map f xs ++ f x
 flat-more f [] x = append-nil (f x)
 flat-more f (y ∷ ys) x = ap (λ l. f y ++ l) (flat-more f ys x) ∙ sym (append_assoc (f y) (flat_map f ys) (f x))
 
-pub flat-next : {A B : Type 0} (f : A → List B) (xs : List A) (i : ℕ) (x : A) → slice_get xs i ≡ Some x → flat_map f (take i xs) ++ f x ≡ flat_map f (take (i + 1) xs)
+pub flat-next : {A B : Type 0} (f : A → List B) (xs : List A) (i : ℕ) (x : A) → slice_get xs i ≡ Some x
+    → flat_map f (take i xs) ++ f x ≡ flat_map f (take (i + 1) xs)
 flat-next f xs i x e = sym (ap (flat_map f) (take_next xs i x e) ∙ flat-more f (take i xs) x)

@@ -19,7 +19,8 @@ moved_all_parts (m ∷ ms) s =
     let rest = moved_all_parts ms (moved m s) in
     let first = moved_parts m s in (rest.0 ∙ first.0, rest.1 ∙ first.1)
 
-pub keeps_folded : (moves : RegionId → KeyState → List Move) (g : RegionId) (s : KeyState) → ((folded g (moved_all (moves g s) s)).base.key ≡ s.base.key) × ((folded g (moved_all (moves g s) s)).marks ≡ s.marks)
+pub keeps_folded : (moves : RegionId → KeyState → List Move) (g : RegionId) (s : KeyState)
+    → ((folded g (moved_all (moves g s) s)).base.key ≡ s.base.key) × ((folded g (moved_all (moves g s) s)).marks ≡ s.marks)
 keeps_folded moves g s = let parts = moved_all_parts (moves g s) s in (ap (λ (k : Kept). k.key) parts.0, parts.1)
 
 pub keeps_forgotten : (g : RegionId) (s : KeyState) → ((moved Forget s).base.key ≡ s.base.key) × ((moved Forget s).marks ≡ s.marks)
@@ -29,8 +30,12 @@ pub keeps_marked : (v : ℕ) (g : RegionId) (s : KeyState) → ((moved (Acknowle
 keeps_marked v g s = (refl, refl)
 
 -- an offer, acknowledgements and commits one after another
-pub accepted_moves : (g h : RegionId) (s : KeyState) (u : Update) (ends : List Version) (a b c : KeyState) → a ≡ moved_all (offered g s u) s → b ≡ moved_all (acknowledging ends) a → c ≡ folded h (moved_all (settled b) b) → h ≡ g → c ≡ folded g (moved_all (accepted g s u ends) s)
+pub accepted_moves : (g h : RegionId) (s : KeyState) (u : Update) (ends : List Version) (a b c : KeyState)
+    → a ≡ moved_all (offered g s u) s → b ≡ moved_all (acknowledging ends) a → c ≡ folded h (moved_all (settled b) b)
+    → h ≡ g → c ≡ folded g (moved_all (accepted g s u ends) s)
 accepted_moves g h s u ends a b c first second third same =
     let moves = offered g s u ++ acknowledging ends in
     let before : b ≡ moved_all moves s = second ∙ ap (moved_all (acknowledging ends)) first ∙ sym (moved_all-++ (offered g s u) (acknowledging ends) s) in
-    third ∙ ap (λ (r : RegionId). folded r (moved_all (settled b) b)) same ∙ ap (λ (x : KeyState). folded g (moved_all (settled x) x)) before ∙ ap (folded g) (sym (moved_all-++ moves (settled (moved_all moves s)) s))
+    third ∙ ap (λ (r : RegionId). folded r (moved_all (settled b) b)) same
+    ∙ ap (λ (x : KeyState). folded g (moved_all (settled x) x)) before
+    ∙ ap (folded g) (sym (moved_all-++ moves (settled (moved_all moves s)) s))

@@ -1,5 +1,7 @@
 -- The places of listed slots in byte order of keys, whatever the order in which they came.
-use Rattle.std.proofs.Common.{◌≡◌, ℕ, zero, suc, ◌+◌, ◌<◌, ◌≤◌, nat_lt, Bool, true, false, ◌&&◌, ◌||◌, cond, List, [], ◌∷◌, ◌++◌, length, insert, inl, inr, Option, Some, refl, ap, sym, ◌∙◌, subst, arith, eqb, take}
+use Rattle.std.proofs.Common.{◌≡◌, ℕ, zero, suc, ◌+◌, ◌<◌, ◌≤◌, nat_lt, Bool, true, false, ◌&&◌, ◌||◌, cond, List, []}
+use Rattle.std.proofs.Common.{◌∷◌, ◌++◌, length, insert, inl, inr, Option, Some, refl, ap, sym, ◌∙◌, subst, arith, eqb}
+use Rattle.std.proofs.Common.{take}
 use Rattle.std.specs.List.{AllByRecursion, filter, slice_get}
 use Rattle.std.proofs.lemmas.Bool.{cases_eq, cond_both, eq-eqb, eqb-true, false≢true, false_from_ne_true, lt-ltb, ltb-true, ne_eqb, or_cases, or_left, or_right}
 use Rattle.indexmap.specs.IndexMap.{set_value_at}
@@ -10,7 +12,9 @@ use Rattle.hx_types.specs.Words.{same_text, text_below, when_some}
 use Rattle.hx_index.specs.Orders.{stands_in}
 use Rattle.hx_index.proofs.Lemmas.{stands-filter, within-at}
 use Rattle.hx_store.specs.Indexed.{one_if, times}
-use Rattle.hx_store.specs.Invariant.{AscendAt, HasMoved, IsAdded, IsLateStore, IsListedAt, IsSplit, IsStore, KeysApart, below_from, in_order, is_listed, key_in, order_of, put_place, rooms_in, states_in, stored_at}
+use Rattle.hx_store.specs.Invariant.{AscendAt, HasMoved, IsAdded, IsLateStore, IsListedAt, IsSplit, IsStore, KeysApart}
+use Rattle.hx_store.specs.Invariant.{below_from, in_order, is_listed, key_in, order_of, put_place, rooms_in, states_in}
+use Rattle.hx_store.specs.Invariant.{stored_at}
 use Rattle.hx_store.specs.Slots.{Entry, StoreSlot}
 use Rattle.hx_store.specs.Stores.{StoreState, after_step, key_at, no_moves}
 use Rattle.hx_store.proofs.Lists.{at-front, set-elsewhere, set-here}
@@ -83,7 +87,11 @@ module _ (es : List Entry) where
   put-ascends j [] a h = (tt, tt)
   put-ascends j (k ∷ rest) a h = cond_both (text_below (key_in es j) (key_in es k)) (j ∷ k ∷ rest) (k ∷ put_place es j rest) (AscendAt es)
       (λ t. ((t, over rest t h.0), h))
-      (λ f. (put-all (λ m. text_below (key_in es k) (key_in es m) ≡ true) j rest (text_below-other (key_in es j) (key_in es k) (same_text-symm (key_in es j) (key_in es k) ∙ a.0) f) h.0, put-ascends j rest a.1 h.1))
+      (λ f. (
+        put-all (λ m. text_below (key_in es k) (key_in es m) ≡ true) j rest
+            (text_below-other (key_in es j) (key_in es k) (same_text-symm (key_in es j) (key_in es k) ∙ a.0) f) h.0,
+        put-ascends j rest a.1 h.1,
+      ))
     where
       over : (ms : List ℕ) → text_below (key_in es j) (key_in es k) ≡ true → AllByRecursion (λ m. text_below (key_in es k) (key_in es m) ≡ true) ms
           → AllByRecursion (λ m. text_below (key_in es j) (key_in es m) ≡ true) ms

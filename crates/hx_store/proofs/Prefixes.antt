@@ -17,8 +17,10 @@ prefix-seen (k ∷ ks) [] i h = absurd h
 prefix-seen (k ∷ ks) (p ∷ ps) zero h = h.0
 prefix-seen (k ∷ ks) (p ∷ ps) (suc i) h = prefix-seen ks ps i h.1
 
-pub prefix-there : (key : List ℕ) (ks : List Key) (ps : List ℕ) (i p : ℕ) → ArePrefixes ks ps → key ≡ when_some (slice_get ks i) [] (λ (k : Key). k.0) → p ≡ get_or ps i 0 → IsPrefixOf key p
-prefix-there key ks ps i p h e q = subst (λ (k : List ℕ). IsPrefixOf k p) (sym e) (subst (λ n. IsPrefixOf (when_some (slice_get ks i) [] (λ (k : Key). k.0)) n) (sym q) (prefix-seen ks ps i h))
+pub prefix-there : (key : List ℕ) (ks : List Key) (ps : List ℕ) (i p : ℕ) → ArePrefixes ks ps
+    → key ≡ when_some (slice_get ks i) [] (λ (k : Key). k.0) → p ≡ get_or ps i 0 → IsPrefixOf key p
+prefix-there key ks ps i p h e q = subst (λ (k : List ℕ). IsPrefixOf k p) (sym e)
+    (subst (λ n. IsPrefixOf (when_some (slice_get ks i) [] (λ (k : Key). k.0)) n) (sym q) (prefix-seen ks ps i h))
 
 pub set-prefix : (ks : List Key) (ps : List ℕ) (i : ℕ) (b : Bool) → ArePrefixes ks ps → ArePrefixes (set_value_at ks i b) ps
 set-prefix [] ps i b h = h
@@ -26,7 +28,8 @@ set-prefix (k ∷ ks) [] i b h = absurd h
 set-prefix (k ∷ ks) (p ∷ ps) zero b h = h
 set-prefix (k ∷ ks) (p ∷ ps) (suc i) b h = (h.0, set-prefix ks ps i b h.1)
 
-pub added-prefix : (ks : List Key) (ps : List ℕ) (key : List ℕ) (p : ℕ) → ArePrefixes ks ps → IsPrefixOf key p → ArePrefixes (ks ++ (key, false) ∷ []) (ps ++ p ∷ [])
+pub added-prefix : (ks : List Key) (ps : List ℕ) (key : List ℕ) (p : ℕ) → ArePrefixes ks ps → IsPrefixOf key p
+    → ArePrefixes (ks ++ (key, false) ∷ []) (ps ++ p ∷ [])
 added-prefix [] [] key p h own = (own, tt)
 added-prefix [] (q ∷ ps) key p h own = absurd h
 added-prefix (k ∷ ks) [] key p h own = absurd h

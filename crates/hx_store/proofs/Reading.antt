@@ -1,5 +1,6 @@
 -- What is read of a store's slots, one after another.
-use Rattle.std.proofs.Common.{◌≡◌, ℕ, zero, suc, ◌+◌, ◌==◌, nat_lt, Bool, true, cond, List, [], ◌∷◌, ◌++◌, map, take, None, Some, refl, ap, sym, ◌∙◌, arith, append_assoc, append-nil}
+use Rattle.std.proofs.Common.{◌≡◌, ℕ, zero, suc, ◌+◌, ◌==◌, nat_lt, Bool, true, cond, List, [], ◌∷◌, ◌++◌, map, take}
+use Rattle.std.proofs.Common.{None, Some, refl, ap, sym, ◌∙◌, arith, append_assoc, append-nil}
 use Rattle.std.specs.List.{All, AllByRecursion, filter, slice_get}
 use Rattle.std.proofs.lemmas.Bool.{cond-true, cond-false, lt-ltb, ne_eqb}
 use Rattle.std.proofs.lemmas.List.Elements.{All-push, filter-append}
@@ -12,7 +13,8 @@ use Rattle.hx_slot.specs.States.{SlotState}
 use Rattle.hx_store.specs.Reading.{committed_of}
 use Rattle.hx_store.proofs.Lists.{take_next}
 
-one_kept : (n : ℕ) (k : Kept) (g : RegionId) (s : KeyState) → kept_of g s ≡ k → map (kept_of g) (cond (nat_lt 0 n) (s ∷ []) []) ≡ list_of (cond (n == 0) None (Some k))
+one_kept : (n : ℕ) (k : Kept) (g : RegionId) (s : KeyState) → kept_of g s ≡ k
+    → map (kept_of g) (cond (nat_lt 0 n) (s ∷ []) []) ≡ list_of (cond (n == 0) None (Some k))
 one_kept zero k g s e = refl
 one_kept (suc n) k g s e =
     ap (map (kept_of g)) (cond-true (nat_lt 0 (suc n)) (s ∷ []) [] (lt-ltb 0 (suc n) (omega arith)))
@@ -26,11 +28,15 @@ map-more f (x ∷ xs) ys = ap (λ l. f x ∷ l) (map-more f xs ys)
 abbrev above_zero : KeyState → Bool
 above_zero s = nat_lt 0 s.floor
 
-pub kept-next : (g : RegionId) (states : List KeyState) (i : ℕ) (b : SlotState) (kept new : List Kept) → slice_get states i ≡ Some b.state → b.region ≡ g → kept ≡ snapshot_of g (take i states) → new ≡ kept ++ committed_of b → new ≡ snapshot_of g (take (i + 1) states)
+pub kept-next : (g : RegionId) (states : List KeyState) (i : ℕ) (b : SlotState) (kept new : List Kept)
+    → slice_get states i ≡ Some b.state → b.region ≡ g → kept ≡ snapshot_of g (take i states)
+    → new ≡ kept ++ committed_of b → new ≡ snapshot_of g (take (i + 1) states)
 kept-next g states i b kept new at region so is =
     is
     ∙ ap (λ (l : List Kept). l ++ committed_of b) so
-    ∙ ap (λ (l : List Kept). snapshot_of g (take i states) ++ l) (sym (one_kept b.state.floor (kept_of b.region b.state) g b.state (ap (λ (r : RegionId). kept_of r b.state) (sym region))))
+    ∙ ap (λ (l : List Kept). snapshot_of g (take i states) ++ l)
+    (sym (one_kept b.state.floor (kept_of b.region b.state) g b.state
+    (ap (λ (r : RegionId). kept_of r b.state) (sym region))))
     ∙ sym (map-more (kept_of g) (filter above_zero (take i states)) (filter above_zero (b.state ∷ [])))
     ∙ ap (map (kept_of g)) (sym (filter-append above_zero (take i states) (b.state ∷ [])))
     ∙ ap (snapshot_of g) (sym (take_next states i b.state at))
@@ -39,8 +45,11 @@ pending-more : (xs : List KeyState) (s : KeyState) → pending_of_all (xs ++ s �
 pending-more [] s = append-nil (pending_of s)
 pending-more (x ∷ xs) s = ap (λ (l : List Update). pending_of x ++ l) (pending-more xs s) ∙ sym (append_assoc (pending_of x) (pending_of_all xs) (pending_of s))
 
-pub pending-next : (states : List KeyState) (i : ℕ) (s : KeyState) (us new : List Update) → slice_get states i ≡ Some s → us ≡ pending_of_all (take i states) → new ≡ us ++ pending_of s → new ≡ pending_of_all (take (i + 1) states)
-pending-next states i s us new at so is = is ∙ ap (λ (l : List Update). l ++ pending_of s) so ∙ sym (pending-more (take i states) s) ∙ ap pending_of_all (sym (take_next states i s at))
+pub pending-next : (states : List KeyState) (i : ℕ) (s : KeyState) (us new : List Update)
+    → slice_get states i ≡ Some s → us ≡ pending_of_all (take i states) → new ≡ us ++ pending_of s
+    → new ≡ pending_of_all (take (i + 1) states)
+pending-next states i s us new at so is = is ∙ ap (λ (l : List Update). l ++ pending_of s) so
+    ∙ sym (pending-more (take i states) s) ∙ ap pending_of_all (sym (take_next states i s at))
 
 all-take : {A : Type 0} (P : A → Type 0) (i : ℕ) (xs : List A) → AllByRecursion P xs → AllByRecursion P (take i xs)
 all-take P zero xs h = tt
@@ -54,7 +63,8 @@ ascend-take (suc i) [] h = tt
 ascend-take (suc i) (s ∷ rest) h = (all-take (λ (t : KeyState). text_below s.base.key t.base.key ≡ true) i rest h.0, ascend-take i rest h.1)
 
 -- a slot above all others stands at their end
-pub put-last : (s : KeyState) (states : List KeyState) → AllByRecursion (λ (t : KeyState). text_below t.base.key s.base.key ≡ true) states → with_state s states ≡ states ++ s ∷ []
+pub put-last : (s : KeyState) (states : List KeyState)
+    → AllByRecursion (λ (t : KeyState). text_below t.base.key s.base.key ≡ true) states → with_state s states ≡ states ++ s ∷ []
 put-last s [] h = refl
 put-last s (x ∷ rest) h =
     cond-false (same_text x.base.key s.base.key) _ _ (text_below-differs x.base.key s.base.key h.0)

@@ -1,5 +1,6 @@
 -- What a store keeps where a slot is set at its place, listed or added.
-use Rattle.std.proofs.Common.{◌≡◌, ℕ, zero, suc, ◌+◌, ◌<◌, ◌≤◌, Bool, true, false, ◌||◌, List, [], ◌∷◌, ◌++◌, length, insert, inl, inr, Option, Some, refl, ap, sym, ◌∙◌, subst, arith, cond, eqb}
+use Rattle.std.proofs.Common.{◌≡◌, ℕ, zero, suc, ◌+◌, ◌<◌, ◌≤◌, Bool, true, false, ◌||◌, List, [], ◌∷◌, ◌++◌, length}
+use Rattle.std.proofs.Common.{insert, inl, inr, Option, Some, refl, ap, sym, ◌∙◌, subst, arith, cond, eqb}
 use Rattle.std.specs.List.{AllByRecursion, list_any, slice_get}
 use Rattle.std.proofs.lemmas.Bool.{cases_eq, cond_both, eq-eqb, false≢true, false_from_ne_true, ne_eqb, or_left, or_right}
 use Rattle.std.proofs.lemmas.Option.{same_Some}
@@ -22,16 +23,19 @@ abbrev in_listed : Option Entry → Bool
 in_listed o = when_some o false (λ (x : Entry). x.1.listed)
 
 -- the places are those of listed slots
-pub are-there : {g : RegionId} {marks : Bool} {es : List Entry} {order : List ℕ} {cap : ℕ} → IsStore g marks es order cap → AllByRecursion (λ j. is_listed es j ≡ true) order
+pub are-there : {g : RegionId} {marks : Bool} {es : List Entry} {order : List ℕ} {cap : ℕ}
+    → IsStore g marks es order cap → AllByRecursion (λ j. is_listed es j ≡ true) order
 are-there {es = es} {order = order} h = all-among (λ j. is_listed es j ≡ true) order (λ i t. sym (h.listed i) ∙ t)
 
 -- entries with one that is set
-set-all : (P : Entry → Type 0) (es : List Entry) (i : ℕ) (e : Entry) (w : StoreSlot) → AllByRecursion P es → slice_get es i ≡ Some e → P (e.0, w) → AllByRecursion P (set_value_at es i w)
+set-all : (P : Entry → Type 0) (es : List Entry) (i : ℕ) (e : Entry) (w : StoreSlot) → AllByRecursion P es
+    → slice_get es i ≡ Some e → P (e.0, w) → AllByRecursion P (set_value_at es i w)
 set-all P [] i e w h at p = tt
 set-all P (x ∷ es) zero e w h at p = (subst (λ (y : Entry). P (y.0, w)) (sym (same_Some x e at)) p, h.1)
 set-all P (x ∷ es) (suc i) e w h at p = (h.0, set-all P es i e w h.1 at p)
 
-set-keys : (Q : List ℕ → Type 0) (es : List Entry) (i : ℕ) (w : StoreSlot) → AllByRecursion (λ (f : Entry). Q f.0) es → AllByRecursion (λ (f : Entry). Q f.0) (set_value_at es i w)
+set-keys : (Q : List ℕ → Type 0) (es : List Entry) (i : ℕ) (w : StoreSlot) → AllByRecursion (λ (f : Entry). Q f.0) es
+    → AllByRecursion (λ (f : Entry). Q f.0) (set_value_at es i w)
 set-keys Q [] i w h = tt
 set-keys Q (x ∷ es) zero w h = h
 set-keys Q (x ∷ es) (suc i) w h = (h.0, set-keys Q es i w h.1)
@@ -44,7 +48,8 @@ set-apart (x ∷ es) (suc i) w h = (set-keys (λ (k : List ℕ). same_text x.0 k
 abbrev one_of : Bool → ℕ
 one_of b = cond b 1 0
 
-set-count : (es : List Entry) (i : ℕ) (e : Entry) (w : StoreSlot) → slice_get es i ≡ Some e → listed_count (set_value_at es i w) + one_of e.1.listed ≡ listed_count es + one_of w.listed
+set-count : (es : List Entry) (i : ℕ) (e : Entry) (w : StoreSlot) → slice_get es i ≡ Some e
+    → listed_count (set_value_at es i w) + one_of e.1.listed ≡ listed_count es + one_of w.listed
 set-count [] i e w at = absurd cc
 set-count (x ∷ es) zero e w at =
     let is : one_of x.1.listed ≡ one_of e.1.listed = ap (λ (o : Option Entry). one_of (in_listed o)) at in omega (arith, is)
@@ -53,30 +58,46 @@ set-count (x ∷ es) (suc i) e w at = let more = set-count es i e w at in omega 
 -- fewer are listed than there are, where one isn't
 pub count-most : (es : List Entry) → listed_count es ≤ length es
 count-most [] = omega arith
-count-most (x ∷ es) = let more = count-most es in cond_both x.1.listed 1 0 (λ n. n + listed_count es ≤ length (x ∷ es)) (λ t. omega (arith, more)) (λ f. omega (arith, more))
+count-most (x ∷ es) = let more = count-most es in
+    cond_both x.1.listed 1 0 (λ n. n + listed_count es ≤ length (x ∷ es)) (λ t. omega (arith, more)) (λ f. omega (arith, more))
 
 count-unlisted : (es : List Entry) (i : ℕ) (e : Entry) → slice_get es i ≡ Some e → e.1.listed ≡ false → listed_count es < length es
 count-unlisted [] i e at f = absurd cc
-count-unlisted (x ∷ es) zero e at f = let is : one_of x.1.listed ≡ 0 = ap (λ (o : Option Entry). one_of (in_listed o)) at ∙ ap one_of f in let most = count-most es in omega (arith, is, most)
+count-unlisted (x ∷ es) zero e at f = let is : one_of x.1.listed ≡ 0 =
+    ap (λ (o : Option Entry). one_of (in_listed o)) at ∙ ap one_of f in let most = count-most es in omega (arith, is, most)
 count-unlisted (x ∷ es) (suc i) e at f =
-    let more = count-unlisted es i e at f in cond_both x.1.listed 1 0 (λ n. n + listed_count es < length (x ∷ es)) (λ t. omega (arith, more)) (λ t. omega (arith, more))
+    let more = count-unlisted es i e at f in cond_both x.1.listed 1 0 (λ n. n + listed_count es < length (x ∷ es))
+    (λ t. omega (arith, more)) (λ t. omega (arith, more))
 
 -- rooms with one that is set
 same-rooms : (rs : List Room) → KeepsRooms rs rs
 same-rooms [] = tt
 same-rooms (r ∷ rs) = (refl, omega arith, same-rooms rs)
 
-pub set-keeps : (es : List Entry) (i : ℕ) (e : Entry) (w : StoreSlot) → slice_get es i ≡ Some e → e.1.slot.spare ≤ w.slot.spare → KeepsRooms (rooms_in es) (rooms_in (set_value_at es i w))
+pub set-keeps : (es : List Entry) (i : ℕ) (e : Entry) (w : StoreSlot) → slice_get es i ≡ Some e
+    → e.1.slot.spare ≤ w.slot.spare → KeepsRooms (rooms_in es) (rooms_in (set_value_at es i w))
 set-keeps [] i e w at l = tt
-set-keeps (x ∷ es) zero e w at l = (refl, (let is = ap (λ (o : Option Entry). when_some o 0 (λ (y : Entry). y.1.slot.spare)) at in omega (arith, is, l)), same-rooms (rooms_in es))
+set-keeps (x ∷ es) zero e w at l = (
+  refl,
+  (let is =
+      ap (λ (o : Option Entry). when_some o 0 (λ (y : Entry). y.1.slot.spare)) at in omega (arith, is, l)),
+  same-rooms (rooms_in es),
+)
 set-keeps (x ∷ es) (suc i) e w at l = (refl, omega arith, set-keeps es i e w at l)
 
-pub set-uses : (es : List Entry) (i : ℕ) (e : Entry) (w : StoreSlot) → slice_get es i ≡ Some e → e.1.slot.spare ≤ w.slot.spare + 1 → UsesRoom i (rooms_in es) (rooms_in (set_value_at es i w))
+pub set-uses : (es : List Entry) (i : ℕ) (e : Entry) (w : StoreSlot) → slice_get es i ≡ Some e
+    → e.1.slot.spare ≤ w.slot.spare + 1 → UsesRoom i (rooms_in es) (rooms_in (set_value_at es i w))
 set-uses [] i e w at l = tt
-set-uses (x ∷ es) zero e w at l = (refl, (let is = ap (λ (o : Option Entry). when_some o 0 (λ (y : Entry). y.1.slot.spare)) at in omega (arith, is, l)), same-rooms (rooms_in es))
+set-uses (x ∷ es) zero e w at l = (
+  refl,
+  (let is =
+      ap (λ (o : Option Entry). when_some o 0 (λ (y : Entry). y.1.slot.spare)) at in omega (arith, is, l)),
+  same-rooms (rooms_in es),
+)
 set-uses (x ∷ es) (suc i) e w at l = (refl, omega arith, set-uses es i e w at l)
 
-pub set-same : (es : List Entry) (i : ℕ) (e : Entry) (w : StoreSlot) → slice_get es i ≡ Some e → w.slot.spare ≡ e.1.slot.spare → rooms_in (set_value_at es i w) ≡ rooms_in es
+pub set-same : (es : List Entry) (i : ℕ) (e : Entry) (w : StoreSlot) → slice_get es i ≡ Some e
+    → w.slot.spare ≡ e.1.slot.spare → rooms_in (set_value_at es i w) ≡ rooms_in es
 set-same [] i e w at l = refl
 set-same (x ∷ es) zero e w at l =
     let is = ap (λ (o : Option Entry). when_some o 0 (λ (y : Entry). y.1.slot.spare)) at in
@@ -95,7 +116,8 @@ all-added P (e ∷ es) x h p = (h.0, all-added P es x h.1 p)
 apart-added : (es : List Entry) (x : Entry) → KeysApart es → list_any (λ (e : Entry). same_text e.0 x.0) es ≡ false → KeysApart (es ++ x ∷ [])
 apart-added [] x h n = (tt, tt)
 apart-added (e ∷ es) x h n = (
-  all-added (λ (f : Entry). same_text e.0 f.0 ≡ false) es x h.0 (false_from_ne_true (same_text e.0 x.0) (λ t. false≢true (sym n ∙ or_left (same_text e.0 x.0) _ t))),
+  all-added (λ (f : Entry). same_text e.0 f.0 ≡ false) es x h.0
+      (false_from_ne_true (same_text e.0 x.0) (λ t. false≢true (sym n ∙ or_left (same_text e.0 x.0) _ t))),
   apart-added es x h.1 (false_from_ne_true (list_any (λ (f : Entry). same_text f.0 x.0) es) (λ t. false≢true (sym n ∙ or_right (same_text e.0 x.0) _ t))),
 )
 
@@ -113,7 +135,8 @@ length-added : (es : List Entry) (x : Entry) → length (es ++ x ∷ []) ≡ len
 length-added [] x = refl
 length-added (e ∷ es) x = let more = length-added es x in omega (arith, more)
 
-states-added : (es : List Entry) (x : Entry) (order : List ℕ) → AllByRecursion (λ j. is_listed es j ≡ true) order → states_in (es ++ x ∷ []) order ≡ states_in es order
+states-added : (es : List Entry) (x : Entry) (order : List ℕ) → AllByRecursion (λ j. is_listed es j ≡ true) order
+    → states_in (es ++ x ∷ []) order ≡ states_in es order
 states-added es x [] h = refl
 states-added es x (j ∷ rest) h =
     let there = listed-there es j h.0 in
@@ -133,7 +156,8 @@ any-inserted k i (suc p) (j ∷ rest) = ap (λ b. eqb j k || b) (any-inserted k 
 
 module _ {g : RegionId} {marks : Bool} {es : List Entry} {order : List ℕ} {cap : ℕ} (h : IsStore g marks es order cap) where
   -- a key came
-  pub add-store : (x : Entry) (more : ℕ) → IsStoreSlot g marks x.0 x.1 → x.1.listed ≡ false → list_any (λ (e : Entry). same_text e.0 x.0) es ≡ false → length es + 1 ≤ more
+  pub add-store : (x : Entry) (more : ℕ) → IsStoreSlot g marks x.0 x.1 → x.1.listed ≡ false
+      → list_any (λ (e : Entry). same_text e.0 x.0) es ≡ false → length es + 1 ≤ more
       → IsStore g marks (es ++ x ∷ []) order more × (states_in (es ++ x ∷ []) order ≡ states_in es order)
   add-store x more own closed new room =
       let same = states-added es x order (are-there h) in (
@@ -150,7 +174,14 @@ module _ {g : RegionId} {marks : Bool} {es : List Entry} {order : List ℕ} {cap
 
   -- more room for places
   pub wide-store : (more : ℕ) → cap ≤ more → IsStore g marks es order more
-  wide-store more l = record { each = h.each; apart = h.apart; listed = h.listed; ascend = h.ascend; count = h.count; room = (let r = h.room in omega (arith, l, r)) }
+  wide-store more l = record {
+    each = h.each;
+    apart = h.apart;
+    listed = h.listed;
+    ascend = h.ascend;
+    count = h.count;
+    room = (let r = h.room in omega (arith, l, r));
+  }
 
   module _ (i : ℕ) (e : Entry) (at : slice_get es i ≡ Some e) where
     pub own : IsStoreSlot g marks e.0 e.1
@@ -163,7 +194,8 @@ module _ {g : RegionId} {marks : Bool} {es : List Entry} {order : List ℕ} {cap
     pub slot-state : state_among marks e.0 (states_in es order) ≡ e.1.slot.state
     slot-state =
         found-place g marks es h.each h.apart i e at order (are-there h)
-        ∙ cond_both (list_any (is_place i) order) e.1.slot.state (new_state marks e.0) (λ (s : KeyState). s ≡ e.1.slot.state) (λ t. refl) (λ f. sym (own.closed (sym is-among ∙ f)))
+        ∙ cond_both (list_any (is_place i) order) e.1.slot.state (new_state marks e.0)
+        (λ (s : KeyState). s ≡ e.1.slot.state) (λ t. refl) (λ f. sym (own.closed (sym is-among ∙ f)))
 
     module _ (w : StoreSlot) (kept : IsStoreSlot g marks e.0 w) where
       abbrev new : List Entry
@@ -189,7 +221,8 @@ module _ {g : RegionId} {marks : Bool} {es : List Entry} {order : List ℕ} {cap
       }
 
       -- a listed slot is set
-      pub set-listed : e.1.listed ≡ true → w.listed ≡ e.1.listed → IsStore g marks new order cap × (with_state w.slot.state (states_in es order) ≡ states_in new order)
+      pub set-listed : e.1.listed ≡ true → w.listed ≡ e.1.listed → IsStore g marks new order cap
+          × (with_state w.slot.state (states_in es order) ≡ states_in new order)
       set-listed t l =
           let is = replaced g marks es h.each h.apart i e at w kept.key_is order (are-there h) h.ascend (is-among ∙ t) in (
             stays l (subst KeysAscend is (ascend-with w.slot.state (states_in es order) h.ascend)),
@@ -219,7 +252,8 @@ module _ {g : RegionId} {marks : Bool} {es : List Entry} {order : List ℕ} {cap
               apart = set-apart es i w h.apart;
               listed = λ k. any-inserted k i p order ∙ now k;
               ascend = subst KeysAscend is (ascend-with w.slot.state (states_in es order) h.ascend);
-              count = (let c = set-count es i e w at in let q = h.count in let r = ap one_of f in let s = ap one_of t in let l = length-insert order p i within in omega (arith, c, q, r, s, l));
+              count = (let c = set-count es i e w at in let q = h.count in let r = ap one_of f in
+                  let s = ap one_of t in let l = length-insert order p i within in omega (arith, c, q, r, s, l));
               room = (let r = h.room in let s = set-length es i w in omega (arith, r, s));
             },
             is,

@@ -1,5 +1,6 @@
 -- Places in byte order of their keys: one list for each set of places.
-use Rattle.std.proofs.Common.{◌≡◌, ℕ, zero, suc, ◌+◌, ◌<◌, ◌≤◌, nat_lt, Bool, true, false, ◌||◌, cond, List, [], ◌∷◌, length, get_or, inl, inr, refl, ap, sym, ◌∙◌, subst, arith, eqb}
+use Rattle.std.proofs.Common.{◌≡◌, ℕ, zero, suc, ◌+◌, ◌<◌, ◌≤◌, nat_lt, Bool, true, false, ◌||◌, cond, List, [], ◌∷◌}
+use Rattle.std.proofs.Common.{length, get_or, inl, inr, refl, ap, sym, ◌∙◌, subst, arith, eqb}
 use Rattle.std.specs.Prelude.{⊤}
 use Rattle.std.specs.List.{AllByRecursion, IsDistinct, filter, sum_by}
 use denote.Ref.{Bor}
@@ -76,21 +77,29 @@ module _ (es : List Entry) where
   differ apart x y l m n = false_from_ne_true (same_text (key_in es x) (key_in es y)) (λ t.
       let f = at-within es x l in
       let e = at-within es y m in
-      n (same-place es y x e.0 f.0 apart e.1 f.1 (sym (λ k. same_text (when_some (f.1 k) [] (λ (z : Entry). z.0)) (when_some (e.1 k) [] (λ (z : Entry). z.0))) ∙ t)))
+      n (same-place es y x e.0 f.0 apart e.1 f.1 (sym
+      (λ k. same_text (when_some (f.1 k) [] (λ (z : Entry). z.0)) (when_some (e.1 k) [] (λ (z : Entry). z.0))) ∙ t)))
 
   -- each is above the one before it, where none stands twice
   pub ascend-from : KeysApart es → (xs : List ℕ) → ((i : ℕ) → stands_in xs i ≡ true → i < length es) → ((i : ℕ) → times i xs ≤ 1) → Rises xs → AscendAt es xs
   ascend-from apart [] within once up = tt
   ascend-from apart (x ∷ []) within once up = (tt, tt)
   ascend-from apart (x ∷ y ∷ rest) within once up =
-      let more = ascend-from apart (y ∷ rest) (λ i t. within i (or_right (eqb x i) (stands_in (y ∷ rest) i) t)) (λ i. (let n = once i in omega (arith, n))) up.1 in
-      let apart_here : x ≡ y → ⊥ = λ e. (let n = once y in let a : is-it y x ≡ 1 = ap (λ (b : Bool). cond {A = ℕ} b 1 0) (eq-eqb x y e) in let b : is-it y y ≡ 1 = ap (λ (b : Bool). cond {A = ℕ} b 1 0) (eq-eqb y y refl) in omega (arith, n, a, b)) in
+      let more = ascend-from apart (y ∷ rest) (λ i t. within i (or_right (eqb x i) (stands_in (y ∷ rest) i) t))
+      (λ i. (let n = once i in omega (arith, n))) up.1 in
+      let apart_here : x ≡ y → ⊥ = λ e. (let n = once y in
+      let a : is-it y x ≡ 1 = ap (λ (b : Bool). cond {A = ℕ} b 1 0) (eq-eqb x y e) in
+      let b : is-it y y ≡ 1 = ap (λ (b : Bool). cond {A = ℕ} b 1 0) (eq-eqb y y refl) in omega (arith, n, a, b)) in
       let below : text_below (key_in es x) (key_in es y) ≡ true =
-      text_below-other (key_in es y) (key_in es x) (differ apart y x (within y (or_right (eqb x y) _ (or_left (eqb y y) _ (eq-eqb y y refl)))) (within x (or_left (eqb x x) _ (eq-eqb x x refl))) (λ e. apart_here (sym e))) up.0
+      text_below-other (key_in es y) (key_in es x) (differ apart y x
+      (within y (or_right (eqb x y) _ (or_left (eqb y y) _ (eq-eqb y y refl))))
+      (within x (or_left (eqb x x) _ (eq-eqb x x refl))) (λ e. apart_here (sym e))) up.0
       in
       ((below, over x y rest below more.0), more)
     where
-      over : (x y : ℕ) (zs : List ℕ) → text_below (key_in es x) (key_in es y) ≡ true → AllByRecursion (λ k. text_below (key_in es y) (key_in es k) ≡ true) zs → AllByRecursion (λ k. text_below (key_in es x) (key_in es k) ≡ true) zs
+      over : (x y : ℕ) (zs : List ℕ) → text_below (key_in es x) (key_in es y) ≡ true
+          → AllByRecursion (λ k. text_below (key_in es y) (key_in es k) ≡ true) zs
+          → AllByRecursion (λ k. text_below (key_in es x) (key_in es k) ≡ true) zs
       over x y [] b h = tt
       over x y (z ∷ zs) b h = (text_below-trans (key_in es x) (key_in es y) (key_in es z) b h.0, over x y zs b h.1)
 
@@ -102,7 +111,9 @@ module _ (es : List Entry) where
   ]
 
   never-first : (x : ℕ) (xs : List ℕ) → AllByRecursion (λ k. text_below (key_in es x) (key_in es k) ≡ true) xs → stands_in xs x ≡ false
-  never-first x xs h = false_from_ne_true (stands_in xs x) (λ t. text_below-apart (key_in es x) (key_in es x) (all-stand (λ k. text_below (key_in es x) (key_in es k) ≡ true) xs x h t) refl)
+  never-first x xs h = false_from_ne_true (stands_in xs x)
+      (λ t. text_below-apart (key_in es x) (key_in es x)
+      (all-stand (λ k. text_below (key_in es x) (key_in es k) ≡ true) xs x h t) refl)
 
   -- two such lists of the same places are one
   pub same-list : (xs ys : List ℕ) → AscendAt es xs → AscendAt es ys → ((i : ℕ) → stands_in xs i ≡ stands_in ys i) → xs ≡ ys
@@ -114,7 +125,9 @@ module _ (es : List Entry) where
         | inl t ↦ sym (eqb-true y x t)
         | inr t ↦ elim (or_cases (eqb x y) (stands_in xs y) (s y ∙ or_left (eqb y y) _ (eq-eqb y y refl))) [
           | inl u ↦ eqb-true x y u
-          | inr u ↦ absurd (false≢true (sym (text_below-back (key_in es y) (key_in es x) (all-stand (λ k. text_below (key_in es y) (key_in es k) ≡ true) ys x b.0 t)) ∙ all-stand (λ k. text_below (key_in es x) (key_in es k) ≡ true) xs y a.0 u))
+          | inr u ↦ absurd (false≢true (sym (text_below-back (key_in es y) (key_in es x)
+              (all-stand (λ k. text_below (key_in es y) (key_in es k) ≡ true) ys x b.0 t))
+              ∙ all-stand (λ k. text_below (key_in es x) (key_in es k) ≡ true) xs y a.0 u))
         ]
       ] in
       λ k. first k ∷ same-list xs ys a.1 b.1 (rests first) k
@@ -128,7 +141,8 @@ module _ (es : List Entry) where
   -- a part of such a list is one
   filter-all : (Q : ℕ → Type 0) (p : ℕ → Bool) (xs : List ℕ) → AllByRecursion Q xs → AllByRecursion Q (filter p xs)
   filter-all Q p [] h = tt
-  filter-all Q p (x ∷ xs) h = cond_both (p x) (x ∷ filter p xs) (filter p xs) (AllByRecursion Q) (λ t. (h.0, filter-all Q p xs h.1)) (λ f. filter-all Q p xs h.1)
+  filter-all Q p (x ∷ xs) h = cond_both (p x) (x ∷ filter p xs) (filter p xs) (AllByRecursion Q)
+      (λ t. (h.0, filter-all Q p xs h.1)) (λ f. filter-all Q p xs h.1)
 
   pub filter-ascends : (p : ℕ → Bool) (xs : List ℕ) → AscendAt es xs → AscendAt es (filter p xs)
   filter-ascends p [] h = tt
@@ -139,7 +153,9 @@ module _ (es : List Entry) where
   pub ascend-times : (xs : List ℕ) → AscendAt es xs → (i : ℕ) → times i xs ≤ 1
   ascend-times [] h i = omega arith
   ascend-times (x ∷ xs) h i = cond_both (eqb x i) 1 0 (λ n. n + times i xs ≤ 1)
-      (λ t. (let z : nat_lt 0 (times i xs) ≡ false = sym (stands-times i xs) ∙ ap (stands_in xs) (sym (eqb-true x i t)) ∙ never-first x xs h.0 in let no : 0 < times i xs → ⊥ = λ l. false≢true (sym z ∙ lt-ltb 0 (times i xs) l) in omega (arith, no)))
+      (λ t. (let z : nat_lt 0 (times i xs) ≡ false =
+      sym (stands-times i xs) ∙ ap (stands_in xs) (sym (eqb-true x i t)) ∙ never-first x xs h.0 in
+      let no : 0 < times i xs → ⊥ = λ l. false≢true (sym z ∙ lt-ltb 0 (times i xs) l) in omega (arith, no)))
       (λ f. (let more = ascend-times xs h.1 i in omega (arith, more)))
 
 -- one list without one of a number
@@ -172,7 +188,8 @@ same-length (x ∷ xs) ys s =
     omega (arith, more, l)
 
 -- each once, and the same ones
-pub same-numbers : (xs ys : List ℕ) → ((i : ℕ) → times i xs ≤ 1) → ((i : ℕ) → times i ys ≤ 1) → ((i : ℕ) → stands_in xs i ≡ stands_in ys i) → length xs ≡ length ys
+pub same-numbers : (xs ys : List ℕ) → ((i : ℕ) → times i xs ≤ 1) → ((i : ℕ) → times i ys ≤ 1)
+    → ((i : ℕ) → stands_in xs i ≡ stands_in ys i) → length xs ≡ length ys
 same-numbers xs ys a b s = same-length xs ys (λ i. alike (times i xs) (times i ys) (a i) (b i) (sym (stands-times i xs) ∙ s i ∙ stands-times i ys))
   where
     alike : (m n : ℕ) → m ≤ 1 → n ≤ 1 → nat_lt 0 m ≡ nat_lt 0 n → m ≡ n
@@ -182,7 +199,10 @@ same-numbers xs ys a b s = same-length xs ys (λ i. alike (times i xs) (times i 
     alike (suc m) (suc n) l k e = omega (arith, l, k)
 
 -- what a sort by keys leaves
-pub sorted-from : {F : Type 0} {g : Mut F (Bor ℕ × (Bor ℕ × Unit {0})) Ordering} {f : F} (key : ℕ → List ℕ) (xs : List ℕ) → ((lt : ℕ → ℕ → Bool) → IsStrictWeakOrder lt → ComparesAs g lt f → IsSortedBy lt xs)
-    → ((a : Bor ℕ × (Bor ℕ × Unit {0})) (r : Ordering) (f' : F) → Called g f a r f' → (r ≡ slice_cmp nat_cmp (key a.0.now) (key a.1.0.now)) × (f' ≡ f)) → IsSortedBy (λ x y. is_lt (slice_cmp nat_cmp (key x) (key y))) xs
+pub sorted-from : {F : Type 0} {g : Mut F (Bor ℕ × (Bor ℕ × Unit {0})) Ordering} {f : F} (key : ℕ → List ℕ)
+    (xs : List ℕ) → ((lt : ℕ → ℕ → Bool) → IsStrictWeakOrder lt → ComparesAs g lt f → IsSortedBy lt xs)
+    → ((a : Bor ℕ × (Bor ℕ × Unit {0})) (r : Ordering) (f' : F) → Called g f a r f'
+    → (r ≡ slice_cmp nat_cmp (key a.0.now) (key a.1.0.now)) × (f' ≡ f))
+    → IsSortedBy (λ x y. is_lt (slice_cmp nat_cmp (key x) (key y))) xs
 sorted-from {g = g} {f = f} key xs up h = up (λ x y. is_lt (slice_cmp nat_cmp (key x) (key y))) (ranks_by nat_list_cmp_total key)
     (always_returns_same g (λ a r. is_lt r ≡ is_lt (slice_cmp nat_cmp (key a.0.now) (key a.1.0.now))) f (λ a r f' k. (ap is_lt (h a r f' k).0, (h a r f' k).1)))

@@ -1,5 +1,7 @@
 -- The members of a list in the order of another that has them all: marks of the members, and a walk over the order.
-use Rattle.std.proofs.Common.{◌≡◌, ℕ, zero, suc, ◌+◌, ◌<◌, Bool, true, false, ◌&&◌, ◌||◌, List, [], ◌∷◌, ◌++◌, get_or, if◌then◌else◌, is_some, length, inl, inr, Option, None, Some, refl, ap, sym, ◌∙◌, arith, eqb, take}
+use Rattle.std.proofs.Common.{◌≡◌, ℕ, zero, suc, ◌+◌, ◌<◌, Bool, true, false, ◌&&◌, ◌||◌, List, [], ◌∷◌, ◌++◌, get_or}
+use Rattle.std.proofs.Common.{if◌then◌else◌, is_some, length, inl, inr, Option, None, Some, refl, ap, sym, ◌∙◌, arith}
+use Rattle.std.proofs.Common.{eqb, take}
 use Rattle.std.specs.List.{IsDistinct, filter, slice_get, slice_set}
 use Rattle.std.proofs.lemmas.Bool.{cases_eq, cond-true, eq-eqb, false≢true, ne_eqb, or_left, or_right}
 use Rattle.std.proofs.lemmas.Option.{slice_get-get_or}

@@ -8,7 +8,8 @@ use Rattle.hx_mail.specs.Boxes.{Boxed}
 use Rattle.hx_outbox.specs.Places.{names_for, place_of, AreBoxes, Exists}
 use Rattle.hx_thread_tests.specs.Mailed.{first_server, no_calls, small}
 
-module _ (clock : TableId) (x y : Boxed) (first : x.names ≡ names_for no_calls clock Coordinator) (other : y.names ≡ names_for no_calls clock first_server) where
+module _ (clock : TableId) (x y : Boxed) (first : x.names ≡ names_for no_calls clock Coordinator)
+    (other : y.names ≡ names_for no_calls clock first_server) where
   by_server : (n : ℕ) → n ≡ 1 → (box : Boxed) → box ≡ slice_index_or (x ∷ y ∷ []) n box → box.names ≡ names_for no_calls clock (Server (record { 0 = n }))
   by_server n e box =
       subst (λ (k : ℕ). box ≡ slice_index_or (x ∷ y ∷ []) k box → box.names ≡ names_for no_calls clock (Server (record { 0 = k }))) (sym e)

@@ -42,12 +42,22 @@ actor_part actor part = record { actor = actor; part = part }
 
 -- the steps of the session and of the server are their own, whatever their stamps
 pub steps_own : (asked answered end : ℕ) (sent reply : PostId)
-    → AreOwnParts one_get (actor_part first_server (stamped answered (answering sent) ∷ []) ∷ actor_part first_session (stamped asked asking ∷ stamped end (ended reply) ∷ []) ∷ [])
+    → AreOwnParts one_get (actor_part first_server (stamped answered (answering sent) ∷ []) ∷ actor_part first_session
+    (stamped asked asking ∷ stamped end (ended reply) ∷ []) ∷ [])
 unfolding IsDistinct
 steps_own asked answered end sent reply = record {
   own = (
     (refl, (record { actor = refl; running = refl; input = tt; made = refl; enough = refl }, tt)),
-    ((refl, (record { actor = refl; running = refl; input = tt; made = refl; enough = refl }, (record { actor = refl; running = refl; input = tt; made = refl; enough = refl }, tt))), tt),
+    (
+      (
+        refl,
+        (
+          record { actor = refl; running = refl; input = tt; made = refl; enough = refl },
+          (record { actor = refl; running = refl; input = tt; made = refl; enough = refl }, tt),
+        ),
+      ),
+      tt,
+    ),
   );
   apart = ((refl, tt), (tt, tt));
 }

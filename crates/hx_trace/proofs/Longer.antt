@@ -17,7 +17,8 @@ module _ (posts : List Post) (notes : List Note) (wholes : List Entry) where
   length_entries (h ∷ hs) = ap suc (length_entries hs)
 
   -- it is that of the head there
-  pub entry_at_head : (hs : List Head) (i : ℕ) (h : Head) → slice_get hs i ≡ Some h → slice_get (entries_by posts notes wholes hs) i ≡ Some (entry_by posts notes wholes h (slice_get hs (suc i)))
+  pub entry_at_head : (hs : List Head) (i : ℕ) (h : Head) → slice_get hs i ≡ Some h
+      → slice_get (entries_by posts notes wholes hs) i ≡ Some (entry_by posts notes wholes h (slice_get hs (suc i)))
   entry_at_head [] i h is = let none : None ≡ Some h = is in absurd (cc)
   entry_at_head (g ∷ hs) zero h is = let same : g ≡ h = cc in ap (λ x. Some (entry_by posts notes wholes x (slice_get hs 0))) same
   entry_at_head (g ∷ hs) (suc i) h is = entry_at_head hs i h is
@@ -63,7 +64,8 @@ module _ (p p2 n n2 : ℕ) (new : Head) (at-posts : new.posts ≡ p) (at-notes :
   notes_next [] = at-notes
   notes_next (h ∷ hs) = refl
 
-  head_stays : (w w2 : ℕ) (h : Head) (hs : List Head) → p ≤ p2 → n ≤ n2 → w ≤ w2 → IsHeadIn p n w h (slice_get hs 0) → IsHeadIn p2 n2 w2 h (slice_get (hs ++ new ∷ []) 0)
+  head_stays : (w w2 : ℕ) (h : Head) (hs : List Head) → p ≤ p2 → n ≤ n2 → w ≤ w2 → IsHeadIn p n w h (slice_get hs 0)
+      → IsHeadIn p2 n2 w2 h (slice_get (hs ++ new ∷ []) 0)
   head_stays w w2 h hs lp ln lw is =
       let ps = posts_next hs in
       let ns = notes_next hs in
@@ -77,12 +79,19 @@ module _ (p p2 n n2 : ℕ) (new : Head) (at-posts : new.posts ≡ p) (at-notes :
 
   heads_stay : (w w2 : ℕ) (hs : List Head) → p ≤ p2 → n ≤ n2 → w ≤ w2 → IsInputIn p2 w2 new.input → AreHeadsIn p n w hs → AreHeadsIn p2 n2 w2 (hs ++ new ∷ [])
   heads_stay w w2 [] lp ln lw i all = (
-    record { input = i; posts_order = omega (arith, at-posts, lp); posts_within = omega arith; notes_order = omega (arith, at-notes, ln); notes_within = omega arith },
+    record {
+      input = i;
+      posts_order = omega (arith, at-posts, lp);
+      posts_within = omega arith;
+      notes_order = omega (arith, at-notes, ln);
+      notes_within = omega arith;
+    },
     tt,
   )
   heads_stay w w2 (h ∷ hs) lp ln lw i all = (head_stays w w2 h hs lp ln lw all.0, heads_stay w w2 hs lp ln lw i all.1)
 
-module _ (posts ps : List Post) (notes ns : List Note) (wholes ws : List Entry) (new : Head) (at-posts : new.posts ≡ length posts) (at-notes : new.notes ≡ length notes) where
+module _ (posts ps : List Post) (notes ns : List Note) (wholes ws : List Entry) (new : Head)
+    (at-posts : new.posts ≡ length posts) (at-notes : new.notes ≡ length notes) where
   filed_stays : (h : Head) (hs : List Head) → IsHeadIn (length posts) (length notes) (length wholes) h (slice_get hs 0)
       → filed_by (posts ++ ps) (notes ++ ns) h (slice_get (hs ++ new ∷ []) 0) ≡ filed_by posts notes h (slice_get hs 0)
   filed_stays h hs is =
@@ -104,7 +113,8 @@ module _ (posts ps : List Post) (notes ns : List Note) (wholes ws : List Entry) 
       λ i. when_some (whole i) (filed i) (λ e. e)
 
   entries_stay : (hs : List Head) → AreHeadsIn (length posts) (length notes) (length wholes) hs
-      → entries_by (posts ++ ps) (notes ++ ns) (wholes ++ ws) (hs ++ new ∷ []) ≡ entries_by posts notes wholes hs ++ entry_by (posts ++ ps) (notes ++ ns) (wholes ++ ws) new None ∷ []
+      → entries_by (posts ++ ps) (notes ++ ns) (wholes ++ ws) (hs ++ new ∷ []) ≡ entries_by posts notes wholes hs
+      ++ entry_by (posts ++ ps) (notes ++ ns) (wholes ++ ws) new None ∷ []
   entries_stay [] all = refl
   entries_stay (h ∷ hs) all = let here = entry_stays h hs all.0 in let rest = entries_stay hs all.1 in (λ i. here i ∷ rest i)
 
@@ -115,26 +125,33 @@ module _ (posts ps : List Post) (notes ns : List Note) (wholes ws : List Entry) 
 -- ---- one entry more
 
 -- the lists have one head more, and so one entry more
-pub record HasOneMore (posts : List Post) (notes : List Note) (wholes : List Entry) (hs : List Head) (p2 : List Post) (n2 : List Note) (w2 : List Entry) (h2 : List Head) (x : Entry) : Type 0 where
+pub record HasOneMore (posts : List Post) (notes : List Note) (wholes : List Entry) (hs : List Head) (p2 : List Post)
+    (n2 : List Note) (w2 : List Entry) (h2 : List Head) (x : Entry) : Type 0 where
   pub heads : AreHeadsIn (length p2) (length n2) (length w2) h2
   pub entries : entries_by p2 n2 w2 h2 ≡ entries_by posts notes wholes hs ++ x ∷ []
 
 more_of : (posts ps : List Post) (notes ns : List Note) (wholes ws : List Entry) (hs : List Head) (new : Head) (x : Entry)
-    → AreHeadsIn (length posts) (length notes) (length wholes) hs → new.posts ≡ length posts → new.notes ≡ length notes → IsInputIn (length (posts ++ ps)) (length (wholes ++ ws)) new.input
-    → entry_by (posts ++ ps) (notes ++ ns) (wholes ++ ws) new None ≡ x → HasOneMore posts notes wholes hs (posts ++ ps) (notes ++ ns) (wholes ++ ws) (hs ++ new ∷ []) x
+    → AreHeadsIn (length posts) (length notes) (length wholes) hs → new.posts ≡ length posts
+    → new.notes ≡ length notes → IsInputIn (length (posts ++ ps)) (length (wholes ++ ws)) new.input
+    → entry_by (posts ++ ps) (notes ++ ns) (wholes ++ ws) new None ≡ x
+    → HasOneMore posts notes wholes hs (posts ++ ps) (notes ++ ns) (wholes ++ ws) (hs ++ new ∷ []) x
 more_of posts ps notes ns wholes ws hs new x all at-posts at-notes within is =
     let lp = length-append posts ps in
     let ln = length-append notes ns in
     let lw = length-append wholes ws in
     record {
-      heads = heads_stay (length posts) (length (posts ++ ps)) (length notes) (length (notes ++ ns)) new at-posts at-notes (length wholes) (length (wholes ++ ws)) hs (omega (arith, lp)) (omega (arith, ln))
+      heads = heads_stay (length posts) (length (posts ++ ps)) (length notes)
+          (length (notes ++ ns)) new at-posts at-notes (length wholes) (length (wholes ++ ws)) hs (omega (arith, lp))
+          (omega (arith, ln))
           (omega (arith, lw)) within all;
       entries = entries_stay posts ps notes ns wholes ws new at-posts at-notes hs all ∙ ap (λ e. entries_by posts notes wholes hs ++ e ∷ []) is;
     }
 
 -- where an entry's posts and notes are put at the end
-pub parts_more : (posts ps p2 : List Post) (notes ns n2 : List Note) (wholes : List Entry) (hs h2 : List Head) (new : Head) → AreHeadsIn (length posts) (length notes) (length wholes) hs
-    → p2 ≡ posts ++ ps → n2 ≡ notes ++ ns → h2 ≡ hs ++ new ∷ [] → new.posts ≡ length posts → new.notes ≡ length notes → IsInputIn (length posts) (length wholes) new.input → whole_by wholes new.input ≡ None
+pub parts_more : (posts ps p2 : List Post) (notes ns n2 : List Note) (wholes : List Entry) (hs h2 : List Head)
+    (new : Head) → AreHeadsIn (length posts) (length notes) (length wholes) hs
+    → p2 ≡ posts ++ ps → n2 ≡ notes ++ ns → h2 ≡ hs ++ new ∷ [] → new.posts ≡ length posts → new.notes ≡ length notes
+    → IsInputIn (length posts) (length wholes) new.input → whole_by wholes new.input ≡ None
     → HasOneMore posts notes wholes hs p2 n2 wholes h2 (record { actor = new.actor; input = input_by posts new.input; outputs = ps; notes = ns })
 parts_more posts ps p2 notes ns n2 wholes hs h2 new all ep en eh at-posts at-notes within none =
     let x : Entry = record { actor = new.actor; input = input_by posts new.input; outputs = ps; notes = ns } in
@@ -142,18 +159,24 @@ parts_more posts ps p2 notes ns n2 wholes hs h2 new all ep en eh at-posts at-not
     let lp = length-append posts ps in
     let lw = length-append wholes [] in
     let more : HasOneMore posts notes wholes hs (posts ++ ps) (notes ++ ns) (wholes ++ []) (hs ++ new ∷ []) x =
-    more_of posts ps notes ns wholes [] hs new x all at-posts at-notes (input_in_more (length posts) (length (posts ++ ps)) (length wholes) (length (wholes ++ [])) new.input (omega (arith, lp)) (omega (arith, lw)) within)
-    (last_entry posts ps notes ns wholes [] new at-posts at-notes (input_by posts new.input) (ap (λ w. whole_by w new.input) same ∙ none) (input_grows posts ps (length wholes) new.input within)) in
+    more_of posts ps notes ns wholes [] hs new x all at-posts at-notes
+    (input_in_more (length posts) (length (posts ++ ps)) (length wholes) (length (wholes ++ [])) new.input
+    (omega (arith, lp)) (omega (arith, lw)) within)
+    (last_entry posts ps notes ns wholes [] new at-posts at-notes (input_by posts new.input)
+    (ap (λ w. whole_by w new.input) same ∙ none) (input_grows posts ps (length wholes) new.input within)) in
     rw (ep, en, eh) (subst (λ w. HasOneMore posts notes wholes hs (posts ++ ps) (notes ++ ns) w (hs ++ new ∷ []) x) same more)
 
 -- where it is kept whole
-pub whole_more : (posts : List Post) (notes : List Note) (wholes w2 : List Entry) (hs h2 : List Head) (new : Head) (x : Entry) → AreHeadsIn (length posts) (length notes) (length wholes) hs
-    → w2 ≡ wholes ++ x ∷ [] → h2 ≡ hs ++ new ∷ [] → new ≡ kept (length posts) (length notes) (length wholes) → HasOneMore posts notes wholes hs posts notes w2 h2 x
+pub whole_more : (posts : List Post) (notes : List Note) (wholes w2 : List Entry) (hs h2 : List Head) (new : Head)
+    (x : Entry) → AreHeadsIn (length posts) (length notes) (length wholes) hs
+    → w2 ≡ wholes ++ x ∷ [] → h2 ≡ hs ++ new ∷ [] → new ≡ kept (length posts) (length notes) (length wholes)
+    → HasOneMore posts notes wholes hs posts notes w2 h2 x
 whole_more posts notes wholes w2 hs h2 new x all ew eh is =
     let head : Head = kept (length posts) (length notes) (length wholes) in
     let lw = length-append wholes (x ∷ []) in
     let more : HasOneMore posts notes wholes hs (posts ++ []) (notes ++ []) (wholes ++ x ∷ []) (hs ++ head ∷ []) x =
-    more_of posts [] notes [] wholes (x ∷ []) hs head x all refl refl (omega (arith, lw)) (ap (λ o. when_some o (filed_by (posts ++ []) (notes ++ []) head None) (λ e. e)) (get_end wholes x)) in
+    more_of posts [] notes [] wholes (x ∷ []) hs head x all refl refl (omega (arith, lw))
+    (ap (λ o. when_some o (filed_by (posts ++ []) (notes ++ []) head None) (λ e. e)) (get_end wholes x)) in
     let at : HasOneMore posts notes wholes hs posts notes (wholes ++ x ∷ []) (hs ++ head ∷ []) x =
     subst (λ p. HasOneMore posts notes wholes hs p notes (wholes ++ x ∷ []) (hs ++ head ∷ []) x) (append-nil posts)
     (subst (λ n. HasOneMore posts notes wholes hs (posts ++ []) n (wholes ++ x ∷ []) (hs ++ head ∷ []) x) (append-nil notes) more) in

@@ -1,5 +1,6 @@
 -- The post of a name lies where the posts of its entry start.
-use Rattle.std.proofs.Common.{◌≡◌, ℕ, zero, suc, ◌+◌, ◌-◌, ◌<◌, ◌≤◌, List, [], ◌∷◌, ◌++◌, length, length-append, map, Option, Some, None, refl, sym, ap, ◌∙◌, arith, subst}
+use Rattle.std.proofs.Common.{◌≡◌, ℕ, zero, suc, ◌+◌, ◌-◌, ◌<◌, ◌≤◌, List, [], ◌∷◌, ◌++◌, length, length-append, map}
+use Rattle.std.proofs.Common.{Option, Some, None, refl, sym, ap, ◌∙◌, arith, subst}
 use Rattle.std.proofs.lemmas.List.{length-map}
 use Rattle.std.specs.Prelude.{IfSome, MatchOption, slice_get, reverse, unwrap_or}
 use Rattle.std.specs.Option.{option_map}
@@ -35,7 +36,8 @@ get_after (x ∷ xs) ys (suc i) h =
     rw same (get_after xs ys i (omega (arith, h)))
 
 -- the post of a name is one of the entry in its place
-pub post_at : (t : List Entry) (id : PostId) → 0 < id.entry → post_named id (reverse t) ≡ when_some (slice_get t (id.entry - 1)) None (λ (x : Entry). slice_get x.outputs id.place)
+pub post_at : (t : List Entry) (id : PostId) → 0 < id.entry
+    → post_named id (reverse t) ≡ when_some (slice_get t (id.entry - 1)) None (λ (x : Entry). slice_get x.outputs id.place)
 post_at t id some = ap (λ (o : Option Entry). when_some o None (λ (x : Entry). slice_get x.outputs id.place)) (entry_is t id.entry some)
 
 -- the same, where the posts of the entry are told
@@ -71,9 +73,11 @@ pub record LiesAt (posts : List Post) (notes : List Note) (wholes : List Entry) 
   pub post_is : slice_get (entry_by posts notes wholes head (slice_get hs (suc at))).outputs place ≡ Some p
 
 by_head : (posts : List Post) (notes : List Note) (wholes : List Entry) (hs : List Head) (at place : ℕ) (p : Post) (o : Option Head) → slice_get hs at ≡ o
-    → when_some (slice_get (entries_by posts notes wholes hs) at) None (λ (x : Entry). slice_get x.outputs place) ≡ Some p → LiesAt posts notes wholes hs at place p
+    → when_some (slice_get (entries_by posts notes wholes hs) at) None (λ (x : Entry). slice_get x.outputs place)
+    ≡ Some p → LiesAt posts notes wholes hs at place p
 by_head posts notes wholes hs at place p None e h =
-    let none : None ≡ Some p = ap (λ (o : Option Entry). when_some o None (λ (x : Entry). slice_get x.outputs place)) (sym (no_entry_at posts notes wholes hs at e)) ∙ h in absurd (cc)
+    let none : None ≡ Some p = ap (λ (o : Option Entry). when_some o None (λ (x : Entry). slice_get x.outputs place))
+    (sym (no_entry_at posts notes wholes hs at e)) ∙ h in absurd (cc)
 by_head posts notes wholes hs at place p (Some head) e h = record {
   head = head;
   head_is = e;
@@ -82,7 +86,8 @@ by_head posts notes wholes hs at place p (Some head) e h = record {
 }
 
 pub lies_at : (posts : List Post) (notes : List Note) (wholes : List Entry) (first : List Entry) (hs : List Head) (id : PostId) (p : Post)
-    → post_named id (reverse (first ++ entries_by posts notes wholes hs)) ≡ Some p → length first ≤ id.entry - 1 → LiesAt posts notes wholes hs (id.entry - 1 - length first) id.place p
+    → post_named id (reverse (first ++ entries_by posts notes wholes hs)) ≡ Some p → length first ≤ id.entry - 1
+    → LiesAt posts notes wholes hs (id.entry - 1 - length first) id.place p
 lies_at posts notes wholes first hs id p h past =
     let entries : List Entry = entries_by posts notes wholes hs in
     let some : 0 < id.entry = sent_some (first ++ entries) id p h in
@@ -91,7 +96,9 @@ lies_at posts notes wholes first hs id p h past =
     (ap (λ (o : Option Entry). when_some o None (λ (x : Entry). slice_get x.outputs id.place)) (sym here) ∙ sym (post_at (first ++ entries) id some) ∙ h)
 
 -- the same for the entries of lists, whose heads come after so many places
-pub lies_in : (l : Lists) (id : PostId) (p : Post) (places place : ℕ) → post_named id (reverse (entries_in l)) ≡ Some p → places ≡ length l.places.items → places ≤ id.entry - 1 → place ≡ id.entry - 1 - places
+pub lies_in : (l : Lists) (id : PostId) (p : Post) (places place : ℕ)
+    → post_named id (reverse (entries_in l)) ≡ Some p → places ≡ length l.places.items → places ≤ id.entry - 1
+    → place ≡ id.entry - 1 - places
     → LiesAt l.posts.items l.notes.items l.wholes.items l.heads.items place id.place p
 lies_in l id p places place sent many past is =
     let first : List Entry = map (placed l.parts.items) l.places.items in
@@ -101,7 +108,8 @@ lies_in l id p places place sent many past is =
     (lies_at l.posts.items l.notes.items l.wholes.items first l.heads.items id p sent (omega (arith, long, many, past)))
 
 -- the post of a head lies among all posts, where its entry isn't kept whole
-filed_post : (posts : List Post) (notes : List Note) (wholes : List Entry) (head : Head) (next : Option Head) (place : ℕ) (p : Post) → whole_by wholes head.input ≡ None
+filed_post : (posts : List Post) (notes : List Note) (wholes : List Entry) (head : Head) (next : Option Head)
+    (place : ℕ) (p : Post) → whole_by wholes head.input ≡ None
     → slice_get (entry_by posts notes wholes head next).outputs place ≡ Some p → slice_get posts (head.posts + place) ≡ Some p
 filed_post posts notes wholes head next place p none h =
     get_range posts head.posts (posts_from (length posts) next) place p
@@ -115,7 +123,8 @@ unkept wholes (Sent entry place at) h = refl
 unkept wholes (Whole at) h = absurd (h at refl)
 
 same_head : (posts : List Post) (notes : List Note) (wholes : List Entry) (hs : List Head) (i place : ℕ) (p : Post) (head : Head)
-    → LiesAt posts notes wholes hs i place p → slice_get hs i ≡ Some head → slice_get (entry_by posts notes wholes head (slice_get hs (suc i))).outputs place ≡ Some p
+    → LiesAt posts notes wholes hs i place p → slice_get hs i ≡ Some head
+    → slice_get (entry_by posts notes wholes head (slice_get hs (suc i))).outputs place ≡ Some p
 same_head posts notes wholes hs i place p head at is =
     let same : at.head ≡ head = some_is at.head head (sym at.head_is ∙ is) in
     subst (λ (h : Head). slice_get (entry_by posts notes wholes h (slice_get hs (suc i))).outputs place ≡ Some p) same at.post_is
@@ -128,8 +137,10 @@ post_filed posts notes wholes hs i place p head at is none =
     filed_post posts notes wholes head (slice_get hs (suc i)) place p none (same_head posts notes wholes hs i place p head at is)
 
 -- the entry of the head at a place
-head_entry : (l : Lists) (id : PostId) (places number place : ℕ) (head : Head) → places ≡ length l.places.items → (1 ≤ id.entry) × (number ≡ id.entry - 1) → (places ≤ number) × (place ≡ number - places)
-    → slice_get l.heads.items place ≡ Some head → slice_get (entries_in l) (id.entry - 1) ≡ Some (entry_by l.posts.items l.notes.items l.wholes.items head (slice_get l.heads.items (suc place)))
+head_entry : (l : Lists) (id : PostId) (places number place : ℕ) (head : Head) → places ≡ length l.places.items
+    → (1 ≤ id.entry) × (number ≡ id.entry - 1) → (places ≤ number) × (place ≡ number - places)
+    → slice_get l.heads.items place ≡ Some head → slice_get (entries_in l) (id.entry - 1)
+    ≡ Some (entry_by l.posts.items l.notes.items l.wholes.items head (slice_get l.heads.items (suc place)))
 head_entry l id places number place head many from past is =
     let first : List Entry = map (placed l.parts.items) l.places.items in
     let rest : List Entry = entries_by l.posts.items l.notes.items l.wholes.items l.heads.items in
@@ -140,17 +151,22 @@ head_entry l id places number place head many from past is =
     ∙ entry_at_head l.posts.items l.notes.items l.wholes.items l.heads.items place head is
 
 -- an entry that isn't kept whole is told by its head
-filed_entry : (posts : List Post) (notes : List Note) (wholes : List Entry) (head : Head) (next : Option Head) → whole_by wholes head.input ≡ None → entry_by posts notes wholes head next ≡ filed_by posts notes head next
+filed_entry : (posts : List Post) (notes : List Note) (wholes : List Entry) (head : Head) (next : Option Head)
+    → whole_by wholes head.input ≡ None → entry_by posts notes wholes head next ≡ filed_by posts notes head next
 filed_entry posts notes wholes head next none = ap (λ (o : Option Entry). when_some o (filed_by posts notes head next) (λ whole. whole)) none
 
 -- a post of a name lies where the posts of its head start
-named_post : (l : Lists) (id : PostId) (places number place : ℕ) (head : Head) → places ≡ length l.places.items → (1 ≤ id.entry) × (number ≡ id.entry - 1) → (places ≤ number) × (place ≡ number - places)
-    → slice_get l.heads.items place ≡ Some head → whole_by l.wholes.items head.input ≡ None → head.posts + id.place < posts_from (length l.posts.items) (slice_get l.heads.items (suc place))
+named_post : (l : Lists) (id : PostId) (places number place : ℕ) (head : Head) → places ≡ length l.places.items
+    → (1 ≤ id.entry) × (number ≡ id.entry - 1) → (places ≤ number) × (place ≡ number - places)
+    → slice_get l.heads.items place ≡ Some head → whole_by l.wholes.items head.input ≡ None
+    → head.posts + id.place < posts_from (length l.posts.items) (slice_get l.heads.items (suc place))
     → slice_get l.posts.items (head.posts + id.place) ≡ post_named id (reverse (entries_in l))
 named_post l id places number place head many from past is none few =
     sym (get_within_range l.posts.items head.posts (posts_from (length l.posts.items) (slice_get l.heads.items (suc place))) id.place few)
-    ∙ ap (λ (e : Entry). slice_get e.outputs id.place) (sym (filed_entry l.posts.items l.notes.items l.wholes.items head (slice_get l.heads.items (suc place)) none))
-    ∙ ap (λ (o : Option Entry). when_some o None (λ (x : Entry). slice_get x.outputs id.place)) (sym (head_entry l id places number place head many from past is))
+    ∙ ap (λ (e : Entry). slice_get e.outputs id.place)
+    (sym (filed_entry l.posts.items l.notes.items l.wholes.items head (slice_get l.heads.items (suc place)) none))
+    ∙ ap (λ (o : Option Entry). when_some o None (λ (x : Entry). slice_get x.outputs id.place))
+    (sym (head_entry l id places number place head many from past is))
     ∙ sym (post_at (entries_in l) id (omega (arith, from)))
 
 -- that place, if it is one of them
@@ -158,9 +174,11 @@ pub record IsPlaced (l : Lists) (id : PostId) (o : Option ℕ) : Type 0 where
   pub within : IfSome o (λ at. at < length l.posts.items)
   pub post : IfSome o (λ at. slice_get l.posts.items at ≡ post_named id (reverse (entries_in l)))
 
-pub filed_place : (l : Lists) (id : PostId) (places number place : ℕ) (head : Head) → AreWhole l → places ≡ length l.places.items → (1 ≤ id.entry) × (number ≡ id.entry - 1) → (places ≤ number) × (place ≡ number - places)
+pub filed_place : (l : Lists) (id : PostId) (places number place : ℕ) (head : Head) → AreWhole l
+    → places ≡ length l.places.items → (1 ≤ id.entry) × (number ≡ id.entry - 1) → (places ≤ number) × (place ≡ number - places)
     → slice_get l.heads.items place ≡ Some head → whole_by l.wholes.items head.input ≡ None
-    → (end : ℕ) → end ≡ posts_from (length l.posts.items) (slice_get l.heads.items (suc place)) → (o : Option ℕ) → MatchOption o (end ≤ head.posts + id.place) (λ at. (at ≡ head.posts + id.place) × (at < end)) → IsPlaced l id o
+    → (end : ℕ) → end ≡ posts_from (length l.posts.items) (slice_get l.heads.items (suc place)) → (o : Option ℕ)
+    → MatchOption o (end ≤ head.posts + id.place) (λ at. (at ≡ head.posts + id.place) × (at < end)) → IsPlaced l id o
 filed_place l id places number place head whole many from past is none end ends None h = record { within = tt; post = tt }
 filed_place l id places number place head whole many from past is none end ends (Some at) h =
     let lies = head_in (length l.posts.items) (length l.notes.items) (length l.wholes.items) l.heads.items place head whole.heads is in
@@ -173,7 +191,8 @@ filed_place l id places number place head whole many from past is none end ends 
 sent_within : (t : List Entry) (id : PostId) (p : Post) → post_named id (reverse t) ≡ Some p → id.entry ≤ length t
 sent_within t id p h =
     let some = sent_some t id p h in by (slice_get t (id.entry - 1)) refl some (sym (post_at t id some) ∙ h) where
-      by : (o : Option Entry) → slice_get t (id.entry - 1) ≡ o → 0 < id.entry → when_some o None (λ (x : Entry). slice_get x.outputs id.place) ≡ Some p → id.entry ≤ length t
+      by : (o : Option Entry) → slice_get t (id.entry - 1) ≡ o → 0 < id.entry
+          → when_some o None (λ (x : Entry). slice_get x.outputs id.place) ≡ Some p → id.entry ≤ length t
       by None is some e = let none : None ≡ Some p = e in absurd (cc)
       by (Some x) is some e = let within = get_within t (id.entry - 1) x is in omega (arith, within, some)
 

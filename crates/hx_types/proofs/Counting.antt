@@ -20,7 +20,8 @@ pub size_of_rest : (a : Axis) (axes : List Axis) → ArePart a.parts → size_of
 size_of_rest a axes part = grind (arith, part)
 
 -- the parts of a list of axes, and its size, from those of its first axis and the rest
-pub parts_of_rest : (axes : List Axis) (a : Axis) (rest : List Axis) → axes ≡ a ∷ rest → All (λ (x : Axis). ArePart x.parts) axes → ArePart a.parts × All (λ (x : Axis). ArePart x.parts) rest
+pub parts_of_rest : (axes : List Axis) (a : Axis) (rest : List Axis) → axes ≡ a ∷ rest
+    → All (λ (x : Axis). ArePart x.parts) axes → ArePart a.parts × All (λ (x : Axis). ArePart x.parts) rest
 parts_of_rest axes a rest e h =
     let r : AllByRecursion (λ (x : Axis). ArePart x.parts) (a ∷ rest) = recursion_from_All (λ (x : Axis). ArePart x.parts) (a ∷ rest) (rw e at h) in
     (r.0, All-from_recursion (λ (x : Axis). ArePart x.parts) rest r.1)

@@ -14,7 +14,8 @@ module _ {A : Type 0} (f : A → ℕ) (xs : List A) (x : A) (rest : List A) (par
   of_first h = subst (λ m. All (λ y. f y ≢ m) rest) number h
 
   -- where the first differs from the rest, a test of the rest tells
-  pub told_by_rest : (b : Bool) → All (λ y. f y ≢ n) rest → (IsTrue b → AllDiffer (map f rest)) × (AllDiffer (map f rest) → IsTrue b) → (IsTrue b → AllDiffer (map f xs)) × (AllDiffer (map f xs) → IsTrue b)
+  pub told_by_rest : (b : Bool) → All (λ y. f y ≢ n) rest → (IsTrue b → AllDiffer (map f rest))
+      × (AllDiffer (map f rest) → IsTrue b) → (IsTrue b → AllDiffer (map f xs)) × (AllDiffer (map f xs) → IsTrue b)
   told_by_rest b first told = (
     λ t. subst (λ ys. AllDiffer (map f ys)) (sym parts) (All-map (λ m. m ≢ f x) f rest (of_first first), told.0 t),
     λ once. told.1 (subst (λ ys. AllDiffer (map f ys)) parts once).1,

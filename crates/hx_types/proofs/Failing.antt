@@ -8,7 +8,13 @@ use Rattle.hx_types.specs.Editing.{Fails}
 use Rattle.hx_types.specs.declared.edits.EditError.{EditError}
 use Rattle.hx_types.specs.declared.edits.EditError.TheVariants.{Memory, Overflow, TooLong}
 
-pub fails_here : (old object : List Value) (e : Edit) (rest all : List Edit) (error : EditError) → edited_from old object (e ∷ rest) ≡ edited_from old old all → Fails (edit_of old e) error → Fails (edited_from old old all) error
+pub fails_here : (old object : List Value) (e : Edit) (rest all : List Edit) (error : EditError)
+    → edited_from old object (e ∷ rest) ≡ edited_from old old all → Fails (edit_of old e) error
+    → Fails (edited_from old old all) error
 fails_here old object e rest all Memory same h = tt
-fails_here old object e rest all Overflow same h = sym same ∙ ap (λ (r : Result Value _). and_then r (λ (v : Value). edited_from old (slice_set object (e.attribute - 1) v) rest)) h
-fails_here old object e rest all TooLong same h = sym same ∙ ap (λ (r : Result Value _). and_then r (λ (v : Value). edited_from old (slice_set object (e.attribute - 1) v) rest)) h
+fails_here old object e rest all Overflow same h =
+    sym same ∙ ap (λ (r : Result Value _). and_then r
+    (λ (v : Value). edited_from old (slice_set object (e.attribute - 1) v) rest)) h
+fails_here old object e rest all TooLong same h =
+    sym same ∙ ap (λ (r : Result Value _). and_then r
+    (λ (v : Value). edited_from old (slice_set object (e.attribute - 1) v) rest)) h

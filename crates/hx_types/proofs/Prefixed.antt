@@ -1,5 +1,6 @@
 -- Order of texts by their first bytes.
-use Rattle.std.proofs.Common.{◌≡◌, ℕ, zero, suc, ◌+◌, ◌*◌, ◌^◌, ◌<◌, ◌≤◌, List, [], ◌∷◌, drop, take, length, get_or, add-one, inl, inr, refl, ap, sym, ◌∙◌, subst, arith}
+use Rattle.std.proofs.Common.{◌≡◌, ℕ, zero, suc, ◌+◌, ◌*◌, ◌^◌, ◌<◌, ◌≤◌, List, [], ◌∷◌, drop, take, length, get_or}
+use Rattle.std.proofs.Common.{add-one, inl, inr, refl, ap, sym, ◌∙◌, subst, arith}
 use Rattle.std.specs.List.{AllByRecursion}
 use Rattle.std.specs.Cmp.{nat_cmp_is}
 use Rattle.std.specs.Int.{from_be_bytes, w64}
@@ -87,7 +88,8 @@ one-byte k n (suc i) (x ∷ xs) = one-byte k n i xs
 
 -- a number so far is below that many bytes
 pub few-bytes : (n i : ℕ) → n < 256 ^ i → i < 8 → n < 256 ^ 7
-few-bytes n i l m = let most : i ≤ 7 = omega (arith, m) in let p : 256 ^ i ≤ 256 ^ 7 = pow-le-pow_right {n = 256} (omega arith) {i = i} {j = 7} most in omega (arith, l, p)
+few-bytes n i l m = let most : i ≤ 7 = omega (arith, m) in
+    let p : 256 ^ i ≤ 256 ^ 7 = pow-le-pow_right {n = 256} (omega arith) {i = i} {j = 7} most in omega (arith, l, p)
 
 pub more-bytes : (n i b : ℕ) → n < 256 ^ i → b < 256 → n * 256 + b < 256 ^ (i + 1)
 more-bytes n i b l h = subst (λ z. n * 256 + b < z) (ap (λ j. 256 ^ j) (sym (add-one i))) (let e = pow-suc 256 i in omega (arith, l, h, e))

@@ -25,7 +25,9 @@ use Rattle.hx_types.specs.Words.{IsIn}
 
 -- ---- of the space
 
--- all that the post carries is of the space, its receiver may be an actor of it, and the message is one between such a sender and such a receiver; for some number of sessions, and some bound of epochs and versions
+-- all that the post carries is of the space, its receiver may be an actor of it, and the message is
+-- one between such a sender and such a receiver; for some number of sessions, and some bound of
+-- epochs and versions
 pub record IsPostOf (space : Space) (p : Post) : Type 0 where
   pub sessions : ℕ
   pub most : ℕ

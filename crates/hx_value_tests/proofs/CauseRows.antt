@@ -112,7 +112,8 @@ told_nowhere : (newer : List Entry) (x : Entry) (before : List Entry) (leader : 
     → ⊥
 told_nowhere [] x before leader told u e a t p g l =
     let is : server 1 ≡ leader = ap (λ (l : List Entry). server_of_actor (actor_first l)) e ∙ ap server_of_actor a in
-    let here = subst (λ (s : ServerId). IsIn u (pending_at shop (server_of script s doubting) the_key)) (sym is) (subst (λ (l : List Entry). IsIn u (pending_at shop (server_of script leader l) the_key)) (sym e) p) in
+    let here = subst (λ (s : ServerId). IsIn u (pending_at shop (server_of script s doubting) the_key)) (sym is)
+    (subst (λ (l : List Entry). IsIn u (pending_at shop (server_of script leader l) the_key)) (sym e) p) in
     never (sym (behind_in (pending_at shop (server_of script (server 1) doubting) the_key) u here g l) ∙ none_behind)
 told_nowhere (y ∷ []) x before leader told u e a t p g l = subst (λ (ps : List Post). IsIn told ps) (sym (ap (λ (l : List Entry). posts_first (drop 1 l)) e)) t
 told_nowhere (y ∷ z ∷ newer) x before leader told u e a t p g l = never (ap (λ (l : List Entry). has_none (drop 2 l)) e ∙ some_entry newer x before)

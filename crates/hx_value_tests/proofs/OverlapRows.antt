@@ -196,6 +196,7 @@ stranger = server_of script (server 1) trace
 stranger_hears : hears_update stranger.config first_update (place_number (region 1) first_update.places) (server 1) (Server (server 2)) ≡ true
 stranger_hears = refl
 
-not_without_replica : ¬ HearsNeighbour shop (server 1) stranger (record stranger { halted = true }) [] (Server (server 2)) (a_message.Update (epoch 1) (region 1) first_update)
+not_without_replica : ¬ HearsNeighbour shop (server 1) stranger (record stranger { halted = true }) []
+    (Server (server 2)) (a_message.Update (epoch 1) (region 1) first_update)
 not_without_replica (inl h) = absurd (let e : None ≡ Some h.0 = h.1 in cc)
 not_without_replica (inr d) = false≢true (sym (ap (λ (s : ServerState). s.halted) d.state))

@@ -16,7 +16,9 @@ use Rattle.hx_model.specs.Slots.{KeyState, has_place, top_of}
 use Rattle.hx_model.proofs.Lemmas.{caller, epoch, first_update, key_slot, put_color, red, region, replica, second_update, server, shop, the_key, version}
 use Rattle.hx_law_chains.specs.Chains.{InOrder, IsComing, IsHeld, IsUp, SnapStands, StandsEarlier}
 use Rattle.hx_law_chains.proofs.Lemmas.{runs_answer_committed, runs_keep_order, runs_posts_stand, runs_send_parts}
-use Rattle.hx_value_tests.proofs.SnapshotRun.{its_empty, its_line, its_newest, its_post, its_red_replica, its_reply, its_run, its_script, its_sender, newest, pending, red_kept, red_slot, script, sent_slot, snapshot, trace}
+use Rattle.hx_value_tests.proofs.SnapshotRun.{its_empty, its_line, its_newest, its_post, its_red_replica, its_reply}
+use Rattle.hx_value_tests.proofs.SnapshotRun.{its_run, its_script, its_sender, newest, pending, red_kept, red_slot}
+use Rattle.hx_value_tests.proofs.SnapshotRun.{script, sent_slot, snapshot, trace}
 
 none_is_some : {A : Type 0} (x : A) → None ≡ Some x → ⊥
 none_is_some x e = absurd (cc)
@@ -120,11 +122,13 @@ joiner_first = inl (omega arith)
 
 behind_sender : (u : Update) → IsIn u (line_of the_key trace) → has_place (region 0) u ≡ true → InOrder u sent_slot held
 behind_sender u stands placed =
-    runs_keep_order script its_script trace its_run the_key u stands (region 0) (region 0) (server 2) (server 3) sent_slot held placed placed sent_is_held is_held (sender_first u)
+    runs_keep_order script its_script trace its_run the_key u stands (region 0) (region 0) (server 2)
+    (server 3) sent_slot held placed placed sent_is_held is_held (sender_first u)
 
 before_red : InOrder first_update held red_slot
 before_red =
-    runs_keep_order script its_script trace its_run the_key first_update red_stands (region 0) (region 1) (server 3) (server 2) held red_slot refl refl is_held red_is_held joiner_first
+    runs_keep_order script its_script trace its_run the_key first_update red_stands (region 0) (region 1) (server 3)
+    (server 2) held red_slot refl refl is_held red_is_held joiner_first
 
 -- its sender has accepted blue, as the snapshot has
 sender_has_blue : 2 ≤ top_of sent_slot
@@ -142,4 +146,6 @@ red_replica_has_red = before_red.committed (omega arith)
 
 answered_is_committed : first_update.version.0 ≤ held.floor
 answered_is_committed =
-    runs_answer_committed script its_script trace its_run (Server (server 1)) (caller 1 1) (version 1) an_answer.Done its_reply (put_color red) the_key refl refl refl first_update red_stands (omega arith) (region 0) (server 3) held refl is_held
+    runs_answer_committed script its_script trace its_run (Server (server 1)) (caller 1 1)
+    (version 1) an_answer.Done its_reply (put_color red) the_key refl refl refl first_update red_stands
+    (omega arith) (region 0) (server 3) held refl is_held

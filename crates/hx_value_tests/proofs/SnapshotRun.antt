@@ -17,7 +17,8 @@ use Rattle.hx_model.specs.Runs.{IsRun, coordinator_of, post_named, server_of}
 use Rattle.hx_model.specs.Schedule.{stepped}
 use Rattle.hx_model.specs.Slots.{KeyState}
 use Rattle.hx_model.specs.ServerSteps.{if_installed, replica_of}
-use Rattle.hx_model.proofs.Lemmas.{blue, configured, epoch, first_update, key_slot, mark, not_installed, other_slot, put_color, ready, red, region, replica, row, second_update}
+use Rattle.hx_model.proofs.Lemmas.{blue, configured, epoch, first_update, key_slot, mark, not_installed, other_slot}
+use Rattle.hx_model.proofs.Lemmas.{put_color, ready, red, region, replica, row, second_update}
 use Rattle.hx_model.proofs.Lemmas.{server, session, shop, the_key, touch, version}
 use Rattle.hx_law_lemmas.specs.Words.{posts_of}
 use Rattle.hx_law_lemmas.proofs.Lemmas.{arrived}
@@ -67,7 +68,8 @@ pub its_space : IsSpace shop
 its_space = record {
   name = a_name shop.name refl (omega arith) (λ p. cc) (λ p. cc);
   key_name = a_name shop.key_name refl (omega arith) (λ p. cc) (λ p. cc);
-  names = All-from_recursion (λ (a : Attribute). IsName a.name × IsKind a.kind) shop.attributes ((a_name (codes "color") refl (omega arith) (λ p. cc) (λ p. cc), tt), tt);
+  names = All-from_recursion (λ (a : Attribute). IsName a.name × IsKind a.kind) shop.attributes
+      ((a_name (codes "color") refl (omega arith) (λ p. cc) (λ p. cc), tt), tt);
   names_differ = (
     All-from_recursion (λ (m : List ℕ). m ≢ codes "name") (codes "color" ∷ []) ((λ p. cc), tt),
     (All-from_recursion (λ (m : List ℕ). m ≢ codes "color") [] tt, tt),
@@ -78,7 +80,9 @@ its_space = record {
     record {
       some = omega arith;
       few = omega arith;
-      declared = All-from_recursion (λ (a : Axis). (0 < a.attribute) × (a.attribute ≤ length shop.attributes) × ArePart a.parts) (record { attribute = 1; parts = 2 } ∷ []) ((omega arith, omega arith, (omega arith, omega arith)), tt);
+      declared = All-from_recursion (λ (a : Axis). (0 < a.attribute) × (a.attribute ≤ length shop.attributes)
+          × ArePart a.parts) (record { attribute = 1; parts = 2 } ∷ [])
+          ((omega arith, omega arith, (omega arith, omega arith)), tt);
       once = (All-from_recursion (λ m. m ≢ 1) [] tt, tt);
     },
     tt,
@@ -138,7 +142,8 @@ pending = second_update ∷ []
 
 -- the newest configuration has server 3 as a joiner
 abbrev pub newest : Config
-newest = configured 2 (1 ∷ 2 ∷ 3 ∷ []) ((ready 1 ∷ ready 2 ∷ record { server = server 3; ready = false } ∷ []) ∷ (ready 2 ∷ ready 3 ∷ []) ∷ (ready 3 ∷ ready 1 ∷ []) ∷ [])
+newest = configured 2 (1 ∷ 2 ∷ 3 ∷ []) ((ready 1 ∷ ready 2 ∷ record { server = server 3; ready = false } ∷ [])
+    ∷ (ready 2 ∷ ready 3 ∷ []) ∷ (ready 3 ∷ ready 1 ∷ []) ∷ [])
 
 pub its_newest : config_of script (epoch 2) trace ≡ Some newest
 its_newest = refl

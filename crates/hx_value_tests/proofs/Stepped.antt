@@ -29,7 +29,8 @@ runs true e = absurd (false≢true e)
 runs false e = refl
 
 -- the entry of an input that may be taken
-entered : (script : Script) (older : List Entry) → IsRun script older → (next : Next) → MayTake older next.actor next.input → acts script older next ≡ true → IsRun script (entry_by script older next ∷ older)
+entered : (script : Script) (older : List Entry) → IsRun script older → (next : Next)
+    → MayTake older next.actor next.input → acts script older next ≡ true → IsRun script (entry_by script older next ∷ older)
 entered script older run next may e =
     let a = and_parts (is_actor script next.actor) _ e in
     let b = and_parts (not (has_halted script older next.actor)) (does_something next.input (made_of script older next.actor next.input)) a.1 in
@@ -50,7 +51,8 @@ taken script older run (a_step.Tick a) e = entered script older run (record { ac
 taken script older run (a_step.Halt a) e = absurd (false≢true e)
 
 -- all of them
-pub stepped_run : (script : Script) (older : List Entry) → IsRun script older → (steps : List Step) → go_on script older steps ≡ true → IsRun script (stepped script older steps)
+pub stepped_run : (script : Script) (older : List Entry) → IsRun script older → (steps : List Step)
+    → go_on script older steps ≡ true → IsRun script (stepped script older steps)
 stepped_run script older run [] e = run
 stepped_run script older run (step ∷ rest) e =
     let h = and_parts (goes_on script older step) _ e in

@@ -22,9 +22,13 @@ begins text n h e = subst BeginsAsDecimal (sym e) (record {
   lone_zero = lone_zero n h;
 })
 
-read_back : {E : Type 0} (text : List ℕ) (r : Result ℕ E) → OkIff r (AllDigits 10 text × (0 < length text) × (digits_value 10 text < 2 ^ 64)) (digits_value 10 text) → BeginsAsDecimal text → (n : ℕ) → result_ok r ≡ Some n → text ≡ decimal n
+read_back : {E : Type 0} (text : List ℕ) (r : Result ℕ E)
+    → OkIff r (AllDigits 10 text × (0 < length text) × (digits_value 10 text < 2 ^ 64)) (digits_value 10 text)
+    → BeginsAsDecimal text → (n : ℕ) → result_ok r ≡ Some n → text ≡ decimal n
 read_back text (Err error) h b n e = absurd (none-some n e)
-read_back text (Ok x) h b n e = sym (decimal-digits_value digits text h.0.0 h.0.1 (λ first. omega (arith, b.lone_zero first, h.0.1)) h.0.2) ∙ ap decimal (sym h.1 ∙ same_Some x n e)
+read_back text (Ok x) h b n e = sym (decimal-digits_value digits text h.0.0 h.0.1
+    (λ first. omega (arith, b.lone_zero first, h.0.1)) h.0.2) ∙ ap decimal (sym h.1 ∙ same_Some x n e)
 
-pub parsed : {E : Type 0} (text : List ℕ) (r : Result ℕ E) → ParsesUnsigned 64 10 text r → BeginsAsDecimal text → (n : ℕ) → n < 2 ^ 64 → (result_ok r ≡ Some n) ↔ (text ≡ decimal n)
+pub parsed : {E : Type 0} (text : List ℕ) (r : Result ℕ E) → ParsesUnsigned 64 10 text r → BeginsAsDecimal text
+    → (n : ℕ) → n < 2 ^ 64 → (result_ok r ≡ Some n) ↔ (text ≡ decimal n)
 parsed text r p b n h = (read_back text r (parse_plain digits 64 text r p b.no_sign) b n, λ e. ap result_ok (parse-decimal 64 n text r h h e p))

@@ -52,7 +52,8 @@ is_said words others name answer request spelled named followed =
     exactly (SaysRequest words) answer request says (λ other. one_request words answer other says)
 
 -- what was answered is said
-pub says_request : {words : List (String Global)} {answer : Option Request} {told request : Request} → ((r : Request) → (answer ≡ Some r) ↔ SaysRequest words r) → answer ≡ Some told → told ≡ request
+pub says_request : {words : List (String Global)} {answer : Option Request} {told request : Request}
+    → ((r : Request) → (answer ≡ Some r) ↔ SaysRequest words r) → answer ≡ Some told → told ≡ request
     → SaysRequest words request
 says_request {words} exact is same = subst (SaysRequest words) same ((exact _).0 is)
 

@@ -43,7 +43,8 @@ told Trace (Seed b) xs ys h g e = absurd (omega (arith, letter e))
 told Trace Trace xs ys h g e = (refl, ap (drop 1) e)
 
 -- an option of two words is the only one of them
-pub only : (a : CommandOption) (name text : List ℕ) → words_of a ≡ name ∷ text ∷ [] → IsWithin a → (b : CommandOption) → (Some a ≡ Some b) ↔ ((words_of b ≡ name ∷ text ∷ []) × IsWithin b)
+pub only : (a : CommandOption) (name text : List ℕ) → words_of a ≡ name ∷ text ∷ [] → IsWithin a → (b : CommandOption)
+    → (Some a ≡ Some b) ↔ ((words_of b ≡ name ∷ text ∷ []) × IsWithin b)
 only a name text e h b = (to, from)
   where
     to : Some a ≡ Some b → (words_of b ≡ name ∷ text ∷ []) × IsWithin b

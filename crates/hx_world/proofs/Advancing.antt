@@ -56,7 +56,8 @@ few_after t x few fresh a =
     (λ e. few a)
 
 -- the trace after the entry
-pub past_after : (script : Script) (t : List Entry) (a : Actor) (input : Input) → IsFewRun script t → IsGiven script t a input → IsFewRun script (entry_by script t (given a input) ∷ t)
+pub past_after : (script : Script) (t : List Entry) (a : Actor) (input : Input) → IsFewRun script t
+    → IsGiven script t a input → IsFewRun script (entry_by script t (given a input) ∷ t)
 past_after script t a input w g = record {
   valid = w.valid;
   sound = w.sound;
@@ -82,13 +83,20 @@ server_unmoved script t s input place h differ at =
     let other = other_server s place differ in
     record {
       space = at.space;
-      state = at.state ∙ ap folded_server (sym (cond-false (same_server s (server_at place)) (server_step script.space (server_of script (server_at place) t) input).state (server_of script (server_at place) t) other));
-      in_order = subst (AreInOrder script.space) (sym (cond-false (same_server s (server_at place)) (server_step script.space (server_of script (server_at place) t) input).state (server_of script (server_at place) t) other)) at.in_order;
-      entries = at.entries ∙ sym (cond-false (same_server s (server_at place)) (entries_of (Server (server_at place)) t + 1) (entries_of (Server (server_at place)) t) other);
+      state = at.state ∙ ap folded_server (sym (cond-false (same_server s (server_at place))
+          (server_step script.space (server_of script (server_at place) t) input).state
+          (server_of script (server_at place) t) other));
+      in_order = subst (AreInOrder script.space) (sym
+          (cond-false (same_server s (server_at place))
+          (server_step script.space (server_of script (server_at place) t) input).state
+          (server_of script (server_at place) t) other)) at.in_order;
+      entries = at.entries ∙ sym (cond-false (same_server s (server_at place))
+          (entries_of (Server (server_at place)) t + 1) (entries_of (Server (server_at place)) t) other);
     }
 
 -- and the one that took the input has the next
-server_takes : (script : Script) (t : List Entry) (place : ℕ) (input : Input) (old new : CountedServer) → IsServerAt script t place old → counted_server.HasTaken old new input → InputFits input
+server_takes : (script : Script) (t : List Entry) (place : ℕ) (input : Input) (old new : CountedServer)
+    → IsServerAt script t place old → counted_server.HasTaken old new input → InputFits input
     → IsServerAt script (entry_by script t (given (Server (server_at place)) input) ∷ t) place new
 server_takes script t place input old new at takes fits =
     let self : same_server (server_at place) (server_at place) ≡ true = eq-eqb (place + 1) (place + 1) refl in
@@ -98,11 +106,18 @@ server_takes script t place input old new at takes fits =
           takes.state
           ∙ (λ i. folded_server (server_step (at.space i) (at.state i) input).state)
           ∙ ap (λ (x : ServerStep). x.state) (server-folds script.space (server_of script (server_at place) t) at.in_order input fits)
-          ∙ ap folded_server (sym (cond-true (same_server (server_at place) (server_at place)) (server_step script.space (server_of script (server_at place) t) input).state (server_of script (server_at place) t) self));
-      in_order = subst (AreInOrder script.space) (sym (cond-true (same_server (server_at place) (server_at place)) (server_step script.space (server_of script (server_at place) t) input).state (server_of script (server_at place) t) self)) (server-stays script.space (server_of script (server_at place) t) at.in_order input fits);
+          ∙ ap folded_server (sym (cond-true (same_server (server_at place) (server_at place))
+          (server_step script.space (server_of script (server_at place) t) input).state
+          (server_of script (server_at place) t) self));
+      in_order = subst (AreInOrder script.space) (sym
+          (cond-true (same_server (server_at place) (server_at place))
+          (server_step script.space (server_of script (server_at place) t) input).state
+          (server_of script (server_at place) t) self))
+          (server-stays script.space (server_of script (server_at place) t) at.in_order input fits);
       entries =
           takes.entries ∙ ap (λ n. n + 1) at.entries
-          ∙ sym (cond-true (same_server (server_at place) (server_at place)) (entries_of (Server (server_at place)) t + 1) (entries_of (Server (server_at place)) t) self);
+          ∙ sym (cond-true (same_server (server_at place) (server_at place))
+          (entries_of (Server (server_at place)) t + 1) (entries_of (Server (server_at place)) t) self);
     }
 
 -- a session of another place keeps its state
@@ -112,12 +127,16 @@ session_unmoved script t u input place s differ at =
     let other = other_session u place differ in
     record {
       space = at.space;
-      state = at.state ∙ sym (cond-false (same_session u (session_at place)) (session_step script.space (session_of script (session_at place) t) input).state (session_of script (session_at place) t) other);
-      entries = at.entries ∙ sym (cond-false (same_session u (session_at place)) (entries_of (Session (session_at place)) t + 1) (entries_of (Session (session_at place)) t) other);
+      state = at.state ∙ sym (cond-false (same_session u (session_at place))
+          (session_step script.space (session_of script (session_at place) t) input).state
+          (session_of script (session_at place) t) other);
+      entries = at.entries ∙ sym (cond-false (same_session u (session_at place))
+          (entries_of (Session (session_at place)) t + 1) (entries_of (Session (session_at place)) t) other);
     }
 
 -- and the one that took the input has the next
-session_takes : (script : Script) (t : List Entry) (place : ℕ) (input : Input) (old new : CountedSession) → IsSessionAt script t place old → counted_session.HasTaken old new input
+session_takes : (script : Script) (t : List Entry) (place : ℕ) (input : Input) (old new : CountedSession)
+    → IsSessionAt script t place old → counted_session.HasTaken old new input
     → IsSessionAt script (entry_by script t (given (Session (session_at place)) input) ∷ t) place new
 session_takes script t place input old new at takes =
     let self : same_session (session_at place) (session_at place) ≡ true = eq-eqb (place + 1) (place + 1) refl in
@@ -126,16 +145,21 @@ session_takes script t place input old new at takes =
       state =
           takes.state
           ∙ (λ i. (session_step (at.space i) (at.state i) input).state)
-          ∙ sym (cond-true (same_session (session_at place) (session_at place)) (session_step script.space (session_of script (session_at place) t) input).state (session_of script (session_at place) t) self);
+          ∙ sym (cond-true (same_session (session_at place) (session_at place))
+          (session_step script.space (session_of script (session_at place) t) input).state
+          (session_of script (session_at place) t) self);
       entries =
           takes.entries ∙ ap (λ n. n + 1) at.entries
-          ∙ sym (cond-true (same_session (session_at place) (session_at place)) (entries_of (Session (session_at place)) t + 1) (entries_of (Session (session_at place)) t) self);
+          ∙ sym (cond-true (same_session (session_at place) (session_at place))
+          (entries_of (Session (session_at place)) t + 1) (entries_of (Session (session_at place)) t) self);
     }
 
-module _ (script : Script) (t : List Entry) (servers : List CountedServer) (sessions : List CountedSession) (coordinator : CountedCoordinator) (waiting : List PostId) (w : IsWorldOf script t servers sessions coordinator waiting) where
+module _ (script : Script) (t : List Entry) (servers : List CountedServer) (sessions : List CountedSession)
+    (coordinator : CountedCoordinator) (waiting : List PostId) (w : IsWorldOf script t servers sessions coordinator waiting) where
   -- after an entry of a server
   pub served_world : (place : ℕ) (input : Input) (old new : CountedServer) (servers_after : List CountedServer) (names : List PostId)
-      → IsGiven script t (Server (server_at place)) input → IsServerAt script t place old → counted_server.HasTaken old new input → servers_after ≡ set servers place new
+      → IsGiven script t (Server (server_at place)) input → IsServerAt script t place old
+      → counted_server.HasTaken old new input → servers_after ≡ set servers place new
       → names ≡ names_after (length t) (entry_by script t (given (Server (server_at place)) input)) waiting
       → IsWorldOf script (entry_by script t (given (Server (server_at place)) input) ∷ t) servers_after sessions coordinator names
   served_world place input old new servers_after names g at takes servers_are names_are =
@@ -156,7 +180,8 @@ module _ (script : Script) (t : List Entry) (servers : List CountedServer) (sess
 
   -- after an entry of a session
   pub attended_world : (place : ℕ) (input : Input) (old new : CountedSession) (sessions_after : List CountedSession) (names : List PostId)
-      → IsGiven script t (Session (session_at place)) input → IsSessionAt script t place old → counted_session.HasTaken old new input → sessions_after ≡ set sessions place new
+      → IsGiven script t (Session (session_at place)) input → IsSessionAt script t place old
+      → counted_session.HasTaken old new input → sessions_after ≡ set sessions place new
       → names ≡ names_after (length t) (entry_by script t (given (Session (session_at place)) input)) waiting
       → IsWorldOf script (entry_by script t (given (Session (session_at place)) input) ∷ t) servers sessions_after coordinator names
   attended_world place input old new sessions_after names g at takes sessions_are names_are =
@@ -176,7 +201,8 @@ module _ (script : Script) (t : List Entry) (servers : List CountedServer) (sess
       }
 
   -- after an entry of the coordinator
-  pub coordinated_world : (input : Input) (names : List PostId) (after : CountedCoordinator) → IsGiven script t Coordinator input → counted_coordinator.HasTaken coordinator after input
+  pub coordinated_world : (input : Input) (names : List PostId) (after : CountedCoordinator)
+      → IsGiven script t Coordinator input → counted_coordinator.HasTaken coordinator after input
       → names ≡ names_after (length t) (entry_by script t (given Coordinator input)) waiting
       → IsWorldOf script (entry_by script t (given Coordinator input) ∷ t) servers sessions after names
   coordinated_world input names after g takes names_are = record {
@@ -197,10 +223,15 @@ module _ (script : Script) (t : List Entry) (servers : List CountedServer) (sess
   }
 
   -- what each makes is the entry of its actor
-  pub served_entry : (place : ℕ) (h : CountedServer) (input : Input) → IsServerAt script t place h → MayTake t (Server (server_at place)) input → server_entry h.server.space h.server.state input ≡ entry_by script t (given (Server (server_at place)) input)
+  pub served_entry : (place : ℕ) (h : CountedServer) (input : Input) → IsServerAt script t place h
+      → MayTake t (Server (server_at place)) input → server_entry h.server.space h.server.state input
+      ≡ entry_by script t (given (Server (server_at place)) input)
   served_entry place h input at may =
       (λ i. server_entry (at.space i) (at.state i) input)
-      ∙ ap (λ (x : ServerStep). entry_of (Server (server_of script (server_at place) t).id) input (record { posts = x.posts; notes = x.notes })) (server-folds script.space (server_of script (server_at place) t) at.in_order input (fits_here script t w.past (server_at place) input may))
+      ∙ ap (λ (x : ServerStep). entry_of (Server (server_of script (server_at place) t).id) input
+      (record { posts = x.posts; notes = x.notes }))
+      (server-folds script.space (server_of script (server_at place) t) at.in_order input
+      (fits_here script t w.past (server_at place) input may))
       ∙ ap (λ (x : ServerId). entry_of (Server x) input (made_of script t (Server (server_at place)) input)) (server_id script t w.past (server_at place))
 
   pub attended_entry : (place : ℕ) (s : CountedSession) (input : Input) → IsSessionAt script t place s

@@ -25,10 +25,12 @@ calls_at script place calls e =
     ap (λ (o : Option (List Op)). when_some o [] (λ (own : List Op). own)) here
 
 -- the next session has started
-pub session_starts : (script : Script) (all : List (List Op)) (place : ℕ) (calls own : List Op) (s : CountedSession) → all ≡ script.sessions → place < length all → calls ≡ get_or all place calls → own ≡ calls
+pub session_starts : (script : Script) (all : List (List Op)) (place : ℕ) (calls own : List Op) (s : CountedSession)
+    → all ≡ script.sessions → place < length all → calls ≡ get_or all place calls → own ≡ calls
     → s.session.space ≡ script.space → s.session.state ≡ session_at_start script.space (session_at place) own → s.entries ≡ 0 → IsNewSession script place s
 session_starts script all place calls own s same within read copied space state entries =
-    let here : slice_get script.sessions place ≡ Some calls = subst (λ (l : List (List Op)). slice_get l place ≡ Some calls) same (item_read all place calls within read) in
+    let here : slice_get script.sessions place ≡ Some calls =
+    subst (λ (l : List (List Op)). slice_get l place ≡ Some calls) same (item_read all place calls within read) in
     record {
       space_is = space;
       state = state ∙ ap (session_at_start script.space (session_at place)) (copied ∙ sym (calls_at script place calls here));
@@ -52,7 +54,12 @@ world_starts script actors log valid posts versions epochs started no_entry no_p
           };
       servers_are =
           at_each script.space.servers (IsNewServer script.space) (IsServerAt script []) actors.servers.items started.servers
-          (λ place h within new. record { space = new.space_is; state = new.state ∙ lean-of script (server_at place) [] tt; in_order = server-of script (server_at place) [] tt; entries = new.entries });
+          (λ place h within new. record {
+            space = new.space_is;
+            state = new.state ∙ lean-of script (server_at place) [] tt;
+            in_order = server-of script (server_at place) [] tt;
+            entries = new.entries;
+          });
       sessions_are =
           at_each (length script.sessions) (IsNewSession script) (IsSessionAt script []) actors.sessions.items started.sessions
           (λ place s within new. record { space = new.space_is; state = new.state; entries = new.entries });

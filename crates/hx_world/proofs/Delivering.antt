@@ -26,12 +26,14 @@ use Rattle.hx_world.proofs.Stepping.{delivered}
 pub receives : (script : Script) (t : List Entry) (id : PostId) (p : Post) → IsRunningPost script t id p → can_receive script t id ≡ true
 receives script t id p r = ap (λ (o : Option Post). when_some o false (λ (x : Post). not (has_halted script t x.to))) r.named ∙ ap not r.running
 
-pub found_receives : (script : Script) (t : List Entry) (id : PostId) (o : Option (Bor Post)) → IfSome o (λ (b : Bor Post). IsRunningPost script t id b.now) → is_some o ≡ true → can_receive script t id ≡ true
+pub found_receives : (script : Script) (t : List Entry) (id : PostId) (o : Option (Bor Post))
+    → IfSome o (λ (b : Bor Post). IsRunningPost script t id b.now) → is_some o ≡ true → can_receive script t id ≡ true
 found_receives script t id None r e = absurd (false≢true e)
 found_receives script t id (Some b) r e = receives script t id b.now r
 
 -- and one that was not found cannot
-pub missed : (script : Script) (t : List Entry) (id : PostId) (o : Option (Bor Post)) → IfNone o (can_receive script t id ≡ false) → is_some o ≡ false → can_receive script t id ≡ false
+pub missed : (script : Script) (t : List Entry) (id : PostId) (o : Option (Bor Post))
+    → IfNone o (can_receive script t id ≡ false) → is_some o ≡ false → can_receive script t id ≡ false
 missed script t id None n e = n
 missed script t id (Some b) n e = absurd (false≢true (sym e))
 
@@ -42,7 +44,8 @@ module _ (script other : Script) (trace before : List Entry) (waiting : List Pos
   posted = lowest_posted script other trace before waiting id q same earlier first (receives script (reverse trace) id p r)
 
   -- its delivery was made
-  pub made_next : (input : Input) (new : List Entry) → input ≡ Deliver id p.from p.message → HasTurn script (reverse trace) new p.to input → DeliversNext other (reverse before) new true
+  pub made_next : (input : Input) (new : List Entry) → input ≡ Deliver id p.from p.message
+      → HasTurn script (reverse trace) new p.to input → DeliversNext other (reverse before) new true
   made_next input new is h =
       let o = posted in
       let made =
@@ -51,11 +54,13 @@ module _ (script other : Script) (trace before : List Entry) (waiting : List Pos
       (delivered script (reverse trace) new id p r.named (subst (λ (x : Input). HasTurn script (reverse trace) new p.to x) is h))) in (
         delivery_of id o.sent,
         o.first,
-        made.trace ∙ ap (λ (x : Option Post). with_entry (reverse before) (option_map (entry_by other (reverse before)) (option_map (delivery_of id) x))) o.named,
+        made.trace ∙ ap (λ (x : Option Post). with_entry (reverse before)
+            (option_map (entry_by other (reverse before)) (option_map (delivery_of id) x))) o.named,
       )
 
   -- or not: only a worn receiver stands in its way
-  pub failed_next : (input : Input) (e : DrainError) → FailsTurn script (reverse trace) p.to input e → FailsAt (reverse before) (delivery_in other (reverse before)) e
+  pub failed_next : (input : Input) (e : DrainError) → FailsTurn script (reverse trace) p.to input e
+      → FailsAt (reverse before) (delivery_in other (reverse before)) e
   failed_next input Memory h = tt
   failed_next input (Worn b) h =
       let o = posted in
@@ -67,7 +72,8 @@ module _ (script other : Script) (trace before : List Entry) (waiting : List Pos
       )
 
 -- a delivery to an actor makes an entry
-pub delivers_copy : (script : Script) (old new : List Entry) (a : Actor) (id : PostId) (p : Post) (input other : Input) (made : Bool) → input ≡ Deliver id p.from p.message → input ≡ other
+pub delivers_copy : (script : Script) (old new : List Entry) (a : Actor) (id : PostId) (p : Post)
+    (input other : Input) (made : Bool) → input ≡ Deliver id p.from p.message → input ≡ other
     → IsTurn script old new a input (Ok made) → HasTurn script old new a other
 delivers_copy script old new a id p input other true is same h = subst (HasTurn script old new a) same h
 delivers_copy script old new a id p input other false is same h =
@@ -97,7 +103,8 @@ module _ (script after : Script) (trace later : List Entry) (sessions : List Cou
 
   -- nor is a session idle
   pub rests_after : IsNoneIdle sessions → Advances script (reverse trace) (reverse later) false
-  rests_after idle = before (λ x t. Advances x t (reverse later) false) (rested after (reverse later) (none_next after (reverse later) sessions are none_after idle))
+  rests_after idle = before (λ x t. Advances x t (reverse later) false)
+      (rested after (reverse later) (none_next after (reverse later) sessions are none_after idle))
 
   -- the lowest idle session begins its next call
   module _ (place : ℕ) (first : IsFirstIdle sessions place) where

@@ -16,13 +16,15 @@ pub heard_is : (id : PostId) (t : List Entry) (p : Post) → post_named id (reve
 heard_is id t p named = ap (delivery id) named
 
 -- it waits no longer
-pub without_heard : (g : Growth) (id : PostId) (at : ℕ) (names : List PostId) → LiesAt g id at → without_delivered (heard id g.entries) names ≡ names_but id names
+pub without_heard : (g : Growth) (id : PostId) (at : ℕ) (names : List PostId) → LiesAt g id at
+    → without_delivered (heard id g.entries) names ≡ names_but id names
 without_heard g id at names lies =
     let p = item_at g.filed at lies.within in
     ap (λ (i : Input). without_delivered i names) (heard_is id g.entries p.0 (sym lies.post ∙ p.1))
 
 -- an entry that was filed behind the entries of a log
-pub filed_on : (log after : Log) (t new : List Entry) (waits : List PostId) (e : List Entry → Entry) → t ≡ log.trace → IsFiled t new log.waiting.items waits (e t) → after.trace ≡ new → after.waiting.items ≡ waits
+pub filed_on : (log after : Log) (t new : List Entry) (waits : List PostId) (e : List Entry → Entry) → t ≡ log.trace
+    → IsFiled t new log.waiting.items waits (e t) → after.trace ≡ new → after.waiting.items ≡ waits
     → Files log after (e log.trace)
 filed_on log after t new waits e same filed trace waiting =
     let here = subst (λ (u : List Entry). IsFiled u new log.waiting.items waits (e u)) same filed in

@@ -1,8 +1,10 @@
 -- The posts that wait: each is named in the trace, and their names ascend.
-use Rattle.std.proofs.Common.{◌≡◌, ℕ, suc, ◌+◌, ◌-◌, ◌<◌, ◌≤◌, inl, inr, ◌⊎◌, Bool, true, not, ◌&&◌, List, [], ◌∷◌, ◌++◌, length, Option, Some, None, refl, ap, ◌∙◌, subst, sym, arith, eqb, ltb}
+use Rattle.std.proofs.Common.{◌≡◌, ℕ, suc, ◌+◌, ◌-◌, ◌<◌, ◌≤◌, inl, inr, ◌⊎◌, Bool, true, not, ◌&&◌, List, [], ◌∷◌}
+use Rattle.std.proofs.Common.{◌++◌, length, Option, Some, None, refl, ap, ◌∙◌, subst, sym, arith, eqb, ltb}
 use Rattle.std.specs.Prelude.{slice_get}
 use Rattle.std.specs.List.{filter}
-use Rattle.std.proofs.lemmas.Bool.{cond_both, cond-true, cond-false, eqb-true, eq-eqb, ne_eqb, lt-ltb, ltb-true, or_cases, or_left, or_right, and_from, and_parts}
+use Rattle.std.proofs.lemmas.Bool.{cond_both, cond-true, cond-false, eqb-true, eq-eqb, ne_eqb, lt-ltb, ltb-true}
+use Rattle.std.proofs.lemmas.Bool.{or_cases, or_left, or_right, and_from, and_parts}
 use Rattle.hx_model.specs.Types.{Deliver, Entry, Halt, Input, Post, PostId, Tick}
 use Rattle.hx_types.specs.Words.{IsIn, when_some}
 use Rattle.hx_model.specs.Runs.{entry_at, post_named}
@@ -19,10 +21,13 @@ number_within n (y ∷ older) x =
     (λ h e. let k = number_within n older x e in omega (arith, k))
 
 -- what has a name is an entry's post
-named_entry : (id : PostId) (t : List Entry) (p : Post) → post_named id t ≡ Some p → (x : Entry) × (entry_at id.entry t ≡ Some x) × (slice_get x.outputs id.place ≡ Some p)
+named_entry : (id : PostId) (t : List Entry) (p : Post) → post_named id t ≡ Some p → (x : Entry)
+    × (entry_at id.entry t ≡ Some x) × (slice_get x.outputs id.place ≡ Some p)
 named_entry id t p = λ e. by (entry_at id.entry t) refl e
   where
-    by : (o : Option Entry) → entry_at id.entry t ≡ o → when_some o None (λ (x : Entry). slice_get x.outputs id.place) ≡ Some p → (x : Entry) × (entry_at id.entry t ≡ Some x) × (slice_get x.outputs id.place ≡ Some p)
+    by : (o : Option Entry) → entry_at id.entry t ≡ o
+        → when_some o None (λ (x : Entry). slice_get x.outputs id.place) ≡ Some p → (x : Entry)
+        × (entry_at id.entry t ≡ Some x) × (slice_get x.outputs id.place ≡ Some p)
     by None h e = absurd (cc)
     by (Some x) h e = (x, h, e)
 
@@ -39,7 +44,8 @@ named_still id t x p e =
     ∙ e
 
 -- the posts of the newest entry are named
-pub named_new : (t : List Entry) (x : Entry) (i : ℕ) (p : Post) → slice_get x.outputs i ≡ Some p → post_named (record { entry = length t + 1; place = i }) (x ∷ t) ≡ Some p
+pub named_new : (t : List Entry) (x : Entry) (i : ℕ) (p : Post) → slice_get x.outputs i ≡ Some p
+    → post_named (record { entry = length t + 1; place = i }) (x ∷ t) ≡ Some p
 named_new t x i p e =
     ap (λ (o : Option Entry). when_some o None (λ (y : Entry). slice_get y.outputs i))
     (cond-true (eqb (length t + 1) (length t + 1)) (Some x) (entry_at (length t + 1) t) (eq-eqb (length t + 1) (length t + 1) refl))
@@ -94,7 +100,8 @@ before_entry a b l = or_left (ltb a.entry b.entry) (eqb a.entry b.entry && ltb a
 
 pub before_place : (a b : PostId) → a.entry ≡ b.entry → a.place < b.place → is_before a b ≡ true
 before_place a b e l =
-    or_right (ltb a.entry b.entry) (eqb a.entry b.entry && ltb a.place b.place) (and_from (eqb a.entry b.entry) (ltb a.place b.place) (eq-eqb a.entry b.entry e) (lt-ltb a.place b.place l))
+    or_right (ltb a.entry b.entry) (eqb a.entry b.entry && ltb a.place b.place)
+    (and_from (eqb a.entry b.entry) (ltb a.place b.place) (eq-eqb a.entry b.entry e) (lt-ltb a.place b.place l))
 
 pub before_cases : (a b : PostId) → is_before a b ≡ true → (a.entry < b.entry) ⊎ ((a.entry ≡ b.entry) × (a.place < b.place))
 before_cases a b h =
@@ -119,7 +126,8 @@ before_all a b c h k =
 pub names-ascend : (entry place : ℕ) (posts : List Post) → AreAscending (names_from entry place posts)
 names-ascend entry place [] = tt
 names-ascend entry place (p ∷ rest) = (
-  λ y i. (let n = name_in entry (place + 1) rest y i in let after = n.after in before_place (record { entry = entry; place = place }) y (sym n.entry_is) (omega (arith, after))),
+  λ y i. (let n = name_in entry (place + 1) rest y i in let after = n.after in
+      before_place (record { entry = entry; place = place }) y (sym n.entry_is) (omega (arith, after))),
   names-ascend entry (place + 1) rest,
 )
 
@@ -130,7 +138,8 @@ filter-ascends test (x ∷ rest) h =
     (λ e. ((λ y i. h.0 y (in-filter test rest y i).0), filter-ascends test rest h.1))
     (λ e. filter-ascends test rest h.1)
 
-pub append-ascends : (xs ys : List PostId) → AreAscending xs → AreAscending ys → ((x y : PostId) → IsIn x xs → IsIn y ys → is_before x y ≡ true) → AreAscending (xs ++ ys)
+pub append-ascends : (xs ys : List PostId) → AreAscending xs → AreAscending ys
+    → ((x y : PostId) → IsIn x xs → IsIn y ys → is_before x y ≡ true) → AreAscending (xs ++ ys)
 append-ascends [] ys h k f = k
 append-ascends (x ∷ xs) ys h k f = (
   λ y i. elim (in-append xs ys y i) [ inl j ↦ h.0 y j | inr j ↦ f x y (inl refl) j ],

@@ -23,7 +23,11 @@ counted_push entry place (suc n) =
 names_push : (entry n : ℕ) → names_counted entry 0 (n + 1) ≡ names_counted entry 0 n ++ record { entry = entry; place = n } ∷ []
 names_push entry n =
     let k : 0 + n ≡ n = omega arith in
-    rw add-one (subst (λ (m : ℕ). names_counted entry 0 (suc n) ≡ names_counted entry 0 n ++ record { entry = entry; place = m } ∷ []) k (counted_push entry 0 n))
+    rw add-one (subst (λ (m : ℕ). names_counted entry 0 (suc n) ≡ names_counted entry 0 n ++ record {
+      entry = entry;
+      place = m;
+    } ∷ []) k (counted_push entry 0 n))
 
-pub names_at_end : (entry n : ℕ) (names : List PostId) → (names ++ names_counted entry 0 n) ++ record { entry = entry; place = n } ∷ [] ≡ names ++ names_counted entry 0 (n + 1)
+pub names_at_end : (entry n : ℕ) (names : List PostId)
+    → (names ++ names_counted entry 0 n) ++ record { entry = entry; place = n } ∷ [] ≡ names ++ names_counted entry 0 (n + 1)
 names_at_end entry n names = rw (append_assoc, names_push entry n) refl

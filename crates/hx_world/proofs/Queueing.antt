@@ -1,5 +1,6 @@
 -- The queue: names of posts, among them the undelivered ones whose receivers haven't halted.
-use Rattle.std.proofs.Common.{◌≡◌, ◌+◌, inl, inr, Bool, true, false, not, List, [], ◌∷◌, ◌++◌, length, drop, Option, Some, None, refl, sym, ap, ◌∙◌, subst, arith, cond}
+use Rattle.std.proofs.Common.{◌≡◌, ◌+◌, inl, inr, Bool, true, false, not, List, [], ◌∷◌, ◌++◌, length, drop, Option}
+use Rattle.std.proofs.Common.{Some, None, refl, sym, ap, ◌∙◌, subst, arith, cond}
 use Rattle.std.specs.Prelude.{reverse, slice_get}
 use Rattle.std.specs.List.{filter}
 use Rattle.std.proofs.lemmas.Bool.{cond-true, cond-false, cond_both, eqb-true, false≢true, not-true}
@@ -16,7 +17,8 @@ use Rattle.hx_world.specs.Filing.{names_after}
 use Rattle.hx_world.specs.Idle.{IsPostedFirst}
 use Rattle.hx_world.specs.Invariant.{IsQueue, IsWorldOf}
 use Rattle.hx_world.specs.Names.{can_receive}
-use Rattle.hx_world.proofs.Naming.{append-ascends, before_entry, delivery-ascends, name_in, named_still, named_within, names-ascend, new_named, still_named, waiting_named}
+use Rattle.hx_world.proofs.Naming.{append-ascends, before_entry, delivery-ascends, name_in, named_still, named_within}
+use Rattle.hx_world.proofs.Naming.{names-ascend, new_named, still_named, waiting_named}
 
 -- ---- filters
 
@@ -24,7 +26,8 @@ filter-append : {A : Type 0} (test : A → Bool) (xs ys : List A) → filter tes
 filter-append test [] ys = refl
 filter-append test (x ∷ xs) ys = by (test x) refl (filter-append test xs ys)
   where
-    by : (b : Bool) → test x ≡ b → filter test (xs ++ ys) ≡ filter test xs ++ filter test ys → filter test ((x ∷ xs) ++ ys) ≡ filter test (x ∷ xs) ++ filter test ys
+    by : (b : Bool) → test x ≡ b → filter test (xs ++ ys) ≡ filter test xs ++ filter test ys
+        → filter test ((x ∷ xs) ++ ys) ≡ filter test (x ∷ xs) ++ filter test ys
     by true e h = rw e (ap (λ l. x ∷ l) h)
     by false e h = rw e h
 
@@ -53,7 +56,8 @@ filter-less f g (x ∷ xs) h = by (f x) (g x) refl refl (filter-less f g xs (λ 
     by false true d e k = rw (d, e) (rw d k)
     by false false d e k = rw (d, e) k
 
-without-turns : (test : PostId → Bool) (input : Input) (names : List PostId) → filter test (without_delivered input names) ≡ without_delivered input (filter test names)
+without-turns : (test : PostId → Bool) (input : Input) (names : List PostId)
+    → filter test (without_delivered input names) ≡ without_delivered input (filter test names)
 without-turns test Tick names = refl
 without-turns test Halt names = refl
 without-turns test (Deliver id from message) names = filter-turns test (λ (x : PostId). not (same_name x id)) names
@@ -69,7 +73,9 @@ module _ (script : Script) (t : List Entry) (x : Entry) (running : has_halted sc
       (
       cond_both (same_server r s) (server_step script.space (server_of script s t) x.input).state (server_of script s t)
       (λ (y : ServerState). y.halted ≡ false → has_halted script t (Server s) ≡ false)
-      (λ same h. let n = eqb-true r.0 s.0 same in let q : r ≡ s = λ i. record { 0 = n i } in subst (λ (y : ServerId). has_halted script t (Server y) ≡ false) q (subst (λ (a : Actor). has_halted script t a ≡ false) e running))
+      (λ same h. let n = eqb-true r.0 s.0 same in let q : r ≡ s = λ i. record { 0 = n i } in
+      subst (λ (y : ServerId). has_halted script t (Server y) ≡ false) q
+      (subst (λ (a : Actor). has_halted script t a ≡ false) e running))
       (λ other h. h)
       )
 
@@ -80,7 +86,9 @@ module _ (script : Script) (t : List Entry) (x : Entry) (running : has_halted sc
 
   receives : (id : PostId) (p : Post) → post_named id t ≡ Some p → can_receive script (x ∷ t) id ≡ true → can_receive script t id ≡ true
   receives id p named h =
-      let now : not (has_halted script (x ∷ t) p.to) ≡ true = ap (λ (o : Option Post). when_some o false (λ (q : Post). not (has_halted script (x ∷ t) q.to))) (sym (named_still id t x p named)) ∙ h in
+      let now : not (has_halted script (x ∷ t) p.to) ≡ true =
+      ap (λ (o : Option Post). when_some o false (λ (q : Post). not (has_halted script (x ∷ t) q.to)))
+      (sym (named_still id t x p named)) ∙ h in
       let before = still-runs p.to (not-true (has_halted script (x ∷ t) p.to) now) in
       ap (λ (o : Option Post). when_some o false (λ (q : Post). not (has_halted script t q.to))) named ∙ ap not before
 
@@ -140,12 +148,14 @@ module _ (script : Script) (t : List Entry) where
           halts true q k = refl
           halts false q k = absurd (false≢true (sym k))
 
-  takes : (id : PostId) (rest : List PostId) (p : Post) → post_named id t ≡ Some p → has_halted script t p.to ≡ false → First (id ∷ rest) ≡ Some (delivery_of id p)
+  takes : (id : PostId) (rest : List PostId) (p : Post) → post_named id t ≡ Some p → has_halted script t p.to ≡ false
+      → First (id ∷ rest) ≡ Some (delivery_of id p)
   takes id rest p named runs =
       ap (λ (o : Option Post). when_some o (First rest) (λ (x : Post). cond (has_halted script t x.to) (First rest) (Some (delivery_of id x)))) named
       ∙ cond-false (has_halted script t p.to) (First rest) (Some (delivery_of id p)) runs
 
-  pub first-of : (names : List PostId) (id : PostId) (rest : List PostId) (p : Post) → filter (can_receive script t) names ≡ id ∷ rest → post_named id t ≡ Some p → has_halted script t p.to ≡ false
+  pub first-of : (names : List PostId) (id : PostId) (rest : List PostId) (p : Post)
+      → filter (can_receive script t) names ≡ id ∷ rest → post_named id t ≡ Some p → has_halted script t p.to ≡ false
       → First names ≡ Some (delivery_of id p)
   first-of [] id rest p e named runs = cc
   first-of (x ∷ xs) id rest p e named runs = by (can_receive script t x) refl e (λ k. first-of xs id rest p k named runs)
@@ -168,16 +178,20 @@ module _ (script : Script) (t : List Entry) where
   receiver : (id : PostId) → can_receive script t id ≡ true → (p : Post) × (post_named id t ≡ Some p) × (has_halted script t p.to ≡ false)
   receiver id = by (post_named id t) refl
     where
-      by : (o : Option Post) → post_named id t ≡ o → when_some o false (λ (p : Post). not (has_halted script t p.to)) ≡ true → (p : Post) × (post_named id t ≡ Some p) × (has_halted script t p.to ≡ false)
+      by : (o : Option Post) → post_named id t ≡ o → when_some o false (λ (p : Post). not (has_halted script t p.to))
+          ≡ true → (p : Post) × (post_named id t ≡ Some p) × (has_halted script t p.to ≡ false)
       by None e h = absurd (false≢true h)
       by (Some p) e h = (p, e, not-true (has_halted script t p.to) h)
 
   -- the first name of the queue is that of the first delivery
-  pub posted_first : (waiting : List PostId) (id : PostId) (rest : List PostId) → IsQueue script t waiting → waiting ≡ id ∷ rest → can_receive script t id ≡ true → IsPostedFirst script t id
+  pub posted_first : (waiting : List PostId) (id : PostId) (rest : List PostId) → IsQueue script t waiting
+      → waiting ≡ id ∷ rest → can_receive script t id ≡ true → IsPostedFirst script t id
   posted_first waiting id rest q e h =
       let p = receiver id h in
       let all : filter (can_receive script t) (undelivered t) ≡ id ∷ filter (can_receive script t) rest =
-      sym q.same ∙ ap (filter (can_receive script t)) e ∙ cond-true (can_receive script t id) (id ∷ filter (can_receive script t) rest) (filter (can_receive script t) rest) h in
+      sym q.same ∙ ap (filter (can_receive script t)) e
+      ∙ cond-true (can_receive script t id) (id ∷ filter (can_receive script t) rest)
+      (filter (can_receive script t) rest) h in
       record { sent = p.0; named = p.1; running = p.2; first = first-of (undelivered t) id (filter (can_receive script t) rest) p.0 all p.1 p.2 }
 
   -- an empty queue has none
@@ -185,7 +199,8 @@ module _ (script : Script) (t : List Entry) where
   none_posted waiting q e = none-of (undelivered t) (sym q.same ∙ ap (filter (can_receive script t)) e)
 
   -- the queue without its first name, whose receiver has halted
-  pub queue_less : (waiting : List PostId) (id : PostId) (rest : List PostId) → IsQueue script t waiting → waiting ≡ id ∷ rest → can_receive script t id ≡ false → IsQueue script t rest
+  pub queue_less : (waiting : List PostId) (id : PostId) (rest : List PostId) → IsQueue script t waiting
+      → waiting ≡ id ∷ rest → can_receive script t id ≡ false → IsQueue script t rest
   queue_less waiting id rest q e h =
       let k : IsQueue script t (id ∷ rest) = subst (IsQueue script t) e q in
       record {
@@ -205,7 +220,8 @@ nothing_first [] e = refl
 nothing_first (x ∷ rest) e = cc
 
 -- a queue whose lowest name is of a post that can be received
-pub lowest_posted : (script other : Script) (trace before : List Entry) (waiting : List PostId) (id : PostId) → IsQueue script (reverse trace) waiting → script ≡ other → trace ≡ before
+pub lowest_posted : (script other : Script) (trace before : List Entry) (waiting : List PostId) (id : PostId)
+    → IsQueue script (reverse trace) waiting → script ≡ other → trace ≡ before
     → slice_get waiting 0 ≡ Some id → can_receive script (reverse trace) id ≡ true → IsPostedFirst other (reverse before) id
 lowest_posted script other trace before waiting id q same earlier e h =
     let first = first_item waiting id e in
@@ -213,14 +229,17 @@ lowest_posted script other trace before waiting id q same earlier e h =
     (subst (λ (x : Script). IsPostedFirst x (reverse trace) id) same (posted_first script (reverse trace) waiting id first.0 q first.1 h))
 
 -- a queue without names
-pub none_waiting : (script other : Script) (trace before : List Entry) (waiting : List PostId) → IsQueue script (reverse trace) waiting → script ≡ other → trace ≡ before
+pub none_waiting : (script other : Script) (trace before : List Entry) (waiting : List PostId)
+    → IsQueue script (reverse trace) waiting → script ≡ other → trace ≡ before
     → slice_get waiting 0 ≡ None → first_delivery other (reverse before) (undelivered (reverse before)) ≡ None
 none_waiting script other trace before waiting q same earlier e =
     subst (λ (l : List Entry). first_delivery other (reverse l) (undelivered (reverse l)) ≡ None) earlier
-    (subst (λ (x : Script). first_delivery x (reverse trace) (undelivered (reverse trace)) ≡ None) same (none_posted script (reverse trace) waiting q (nothing_first waiting e)))
+    (subst (λ (x : Script). first_delivery x (reverse trace) (undelivered (reverse trace)) ≡ None) same
+    (none_posted script (reverse trace) waiting q (nothing_first waiting e)))
 
 -- the world without the lowest name, whose receiver has halted
-pub popped : (script : Script) (trace : List Entry) (servers : List CountedServer) (sessions : List CountedSession) (coordinator : CountedCoordinator) (waiting rest : List PostId) (id : PostId)
+pub popped : (script : Script) (trace : List Entry) (servers : List CountedServer) (sessions : List CountedSession)
+    (coordinator : CountedCoordinator) (waiting rest : List PostId) (id : PostId)
     → IsWorldOf script trace servers sessions coordinator waiting → slice_get waiting 0 ≡ Some id → can_receive script trace id ≡ false → rest ≡ drop 1 waiting
     → IsWorldOf script trace servers sessions coordinator rest
 popped script trace servers sessions coordinator waiting rest id w e h is =

@@ -1,5 +1,6 @@
 -- A name is taken out of ascending names where halving finds it.
-use Rattle.std.proofs.Common.{◌≡◌, ℕ, zero, suc, zero-add, suc-add, ◌+◌, ◌<◌, ◌≤◌, inl, inr, true, false, not, List, [], ◌∷◌, length, drop, remove, Some, refl, sym, ap, ◌∙◌, subst, arith, get_or}
+use Rattle.std.proofs.Common.{◌≡◌, ℕ, zero, suc, zero-add, suc-add, ◌+◌, ◌<◌, ◌≤◌, inl, inr, true, false, not, List}
+use Rattle.std.proofs.Common.{[], ◌∷◌, length, drop, remove, Some, refl, sym, ap, ◌∙◌, subst, arith, get_or}
 use Rattle.std.specs.Prelude.{slice_get}
 use Rattle.std.specs.List.Sorted.{IsPartitionedBy}
 use Rattle.std.proofs.lemmas.Bool.{cond-true, cond-false, cases_Bool, eqb-true, eq-eqb, ne_eqb, and_parts, and_left, and_right, false≢true}
@@ -80,13 +81,16 @@ drop_removed [] (suc n) i = rw suc-add (sym (none i))
 drop_removed (x ∷ rest) (suc n) i = rw suc-add (drop_removed rest n i)
 
 -- a name that stands where it would is the one that is looked for
-pub stands_there : (names : List PostId) (id : PostId) (i : ℕ) → when_some (slice_get names i) false (λ (x : PostId). same_name x id) ≡ true → slice_get names i ≡ Some id
+pub stands_there : (names : List PostId) (id : PostId) (i : ℕ)
+    → when_some (slice_get names i) false (λ (x : PostId). same_name x id) ≡ true → slice_get names i ≡ Some id
 stands_there [] id i e = absurd (false≢true e)
 stands_there (x ∷ rest) id zero e = ap Some (name_is x id e)
 stands_there (x ∷ rest) id (suc i) e = stands_there rest id i e
 
 -- the first name is taken out where it is the one that is looked for
-pub removed_first : (names rest : List PostId) (id : PostId) → AreAscending names → when_some (slice_get names 0) false (λ (x : PostId). same_name x id) ≡ true → rest ≡ drop 1 names → rest ≡ names_but id names
+pub removed_first : (names rest : List PostId) (id : PostId) → AreAscending names
+    → when_some (slice_get names 0) false (λ (x : PostId). same_name x id) ≡ true → rest ≡ drop 1 names
+    → rest ≡ names_but id names
 removed_first [] rest id h e is = absurd (false≢true e)
 removed_first (x ∷ names) rest id h e is = is ∙ removed (x ∷ names) id 0 h (stands_there (x ∷ names) id 0 e)
 
@@ -105,7 +109,8 @@ differs (x ∷ rest) id zero h low high e y (inr j) =
       | inl t ↦ absurd (false≢true (sym (high 0 x (omega arith) (omega arith)) ∙ subst (λ (z : PostId). is_before x z ≡ true) (name_is y id t) (h.0 y j)))
       | inr f ↦ f
     ]
-differs (x ∷ rest) id (suc i) h low high e y (inl same) = subst (λ (z : PostId). same_name z id ≡ false) (sym same) (before_differs x id (low 0 x (omega arith) (omega arith)))
+differs (x ∷ rest) id (suc i) h low high e y (inl same) =
+    subst (λ (z : PostId). same_name z id ≡ false) (sym same) (before_differs x id (low 0 x (omega arith) (omega arith)))
 differs (x ∷ rest) id (suc i) h low high e y (inr j) =
     differs rest id i h.1 (λ k d l m. low (suc k) d (omega arith) (omega (arith, m))) (λ k d l m. high (suc k) d (omega (arith, l)) (omega (arith, m))) e y j
 

@@ -1,5 +1,6 @@
 -- Which entry the schedule makes next.
-use Rattle.std.proofs.Common.{◌≡◌, ℕ, zero, suc, ◌+◌, ◌<◌, inl, inr, Bool, true, false, not, ◌&&◌, List, [], ◌∷◌, ◌++◌, length, Option, Some, None, refl, sym, ap, ◌∙◌, subst, arith, ltb, leb, add-one}
+use Rattle.std.proofs.Common.{◌≡◌, ℕ, zero, suc, ◌+◌, ◌<◌, inl, inr, Bool, true, false, not, ◌&&◌, List, [], ◌∷◌, ◌++◌}
+use Rattle.std.proofs.Common.{length, Option, Some, None, refl, sym, ap, ◌∙◌, subst, arith, ltb, leb, add-one}
 use Rattle.std.specs.Prelude.{Ok, reverse, is_some, IsSomeAnd, MatchOption}
 use Rattle.std.specs.Option.{option_map}
 use Rattle.std.proofs.lemmas.Bool.{cond-true, cond-false, cases_eq, and_from, and_parts, and_right, false≢true, le-leb, lt-ltb, ltb-true, not-true}
@@ -45,7 +46,8 @@ module _ (script : Script) (t : List Entry) where
       ∙ ap (λ (o : Option Next). first_some o (idle_among script t (n ∷ []))) before
       ∙ cond-false (idle_at n) (Some (tick_of n)) None (f n (omega arith))
 
-  first_below : (n place : ℕ) → place < n → idle_at place ≡ true → ((j : ℕ) → j < place → idle_at j ≡ false) → idle_among script t (below n) ≡ Some (tick_of place)
+  first_below : (n place : ℕ) → place < n → idle_at place ≡ true → ((j : ℕ) → j < place → idle_at j ≡ false)
+      → idle_among script t (below n) ≡ Some (tick_of place)
   first_below zero place within here f = absurd (omega arith)
   first_below (suc n) place within here f =
       elim (cases_eq place n) [
@@ -59,12 +61,14 @@ module _ (script : Script) (t : List Entry) where
         | inr e ↦
             (
             idle-append (below n) (n ∷ [])
-            ∙ ap (λ (o : Option Next). first_some o (idle_among script t (n ∷ []))) (first_below n place (let l : place < n = omega (arith, within, e) in l) here f)
+            ∙ ap (λ (o : Option Next). first_some o (idle_among script t (n ∷ [])))
+            (first_below n place (let l : place < n = omega (arith, within, e) in l) here f)
             )
       ]
 
 -- an idle session's tick makes something
-idle_makes : (space : Space) (s : SessionState) → is_idle s ≡ true → let step = session_step space s Tick in does_something Tick (record { posts = step.posts; notes = step.notes }) ≡ true
+idle_makes : (space : Space) (s : SessionState) → is_idle s ≡ true → let step = session_step space s Tick in
+    does_something Tick (record { posts = step.posts; notes = step.notes }) ≡ true
 idle_makes space s e =
     let parts = and_parts (not s.under_way) (ltb s.begun (length s.calls)) e in
     let off = not-true s.under_way parts.0 in
@@ -76,7 +80,9 @@ idle_makes space s e =
     ap (λ (x : SessionStep). not (is_empty x.posts && is_empty x.notes)) ticks
     ∙ ap not (and_right (is_empty (begin space s op.0).posts) false refl)
 
-module _ (script : Script) (t : List Entry) (sessions : List CountedSession) (are : AreAt (length script.sessions) (IsSessionAt script t) sessions) (none : first_delivery script t (undelivered t) ≡ None) where
+module _ (script : Script) (t : List Entry) (sessions : List CountedSession)
+    (are : AreAt (length script.sessions) (IsSessionAt script t) sessions)
+    (none : first_delivery script t (undelivered t) ≡ None) where
   -- whether the session of a place is idle
   idle_is : (place : ℕ) → place < length sessions → is_idle (session_of script (session_at place) t) ≡ is_idle_at sessions place
   idle_is place within =
@@ -98,7 +104,8 @@ module _ (script : Script) (t : List Entry) (sessions : List CountedSession) (ar
     first_there =
         let within = first.within in
         let count = are.count in
-        and_from (ltb 0 (place + 1)) (leb (place + 1) (length script.sessions)) (lt-ltb 0 (place + 1) (omega arith)) (le-leb (place + 1) (length script.sessions) (omega (arith, within, count)))
+        and_from (ltb 0 (place + 1)) (leb (place + 1) (length script.sessions)) (lt-ltb 0 (place + 1) (omega arith))
+        (le-leb (place + 1) (length script.sessions) (omega (arith, within, count)))
 
     -- else that is next
     pub first_next : next_input script t ≡ Some (tick_of place)
@@ -118,7 +125,8 @@ sessions_still script after trace later sessions same earlier are =
     (subst (λ (x : Script). AreAt (length x.sessions) (IsSessionAt x (reverse later)) sessions) same are)
 
 -- the next entry was made
-pub made_advances : (script : Script) (old new : List Entry) (next : Next) → next_input script old ≡ Some next → Makes script old new next → Advances script old new true
+pub made_advances : (script : Script) (old new : List Entry) (next : Next) → next_input script old ≡ Some next
+    → Makes script old new next → Advances script old new true
 made_advances script old new next is made = record {
   trace = made ∙ sym (ap (λ (o : Option Next). with_entry old (option_map (entry_by script old) o)) is);
   told = sym (ap (λ (o : Option Next). is_some (option_map (entry_by script old) o)) is);
@@ -138,15 +146,18 @@ some_same {A} {x} {y} h = ap (λ (o : Option A). from o) h where
   from (Some z) = z
 
 -- or not
-pub next_fails : (script : Script) (t : List Entry) (next : Next) (e : DrainError) → next_input script t ≡ Some next → FailsAt t (Some next) e → Fails script t e
+pub next_fails : (script : Script) (t : List Entry) (next : Next) (e : DrainError) → next_input script t ≡ Some next
+    → FailsAt t (Some next) e → Fails script t e
 next_fails script t next Memory is h = tt
 next_fails script t next (Worn a) is (n, same, actor, worn) = record {
-  next = subst (λ (o : Option Next). IsSomeAnd (option_map (entry_by script t) o) (λ (x : Entry). x.actor ≡ a)) (sym is) (ap (λ (x : Next). x.actor) (some_same same) ∙ actor);
+  next = subst (λ (o : Option Next). IsSomeAnd (option_map (entry_by script t) o) (λ (x : Entry). x.actor ≡ a))
+      (sym is) (ap (λ (x : Next). x.actor) (some_same same) ∙ actor);
   worn = worn;
 }
 
 -- there is a next entry where a post can be delivered
-pub next_posted : (script : Script) (t : List Entry) (o : Option PostId) → MatchOption o (first_delivery script t (undelivered t) ≡ None) (IsPostedFirst script t) → is_some o ≡ true
+pub next_posted : (script : Script) (t : List Entry) (o : Option PostId)
+    → MatchOption o (first_delivery script t (undelivered t) ≡ None) (IsPostedFirst script t) → is_some o ≡ true
     → true ≡ is_some (next_entry script t)
 next_posted script t None none e = absurd (false≢true e)
 next_posted script t (Some id) first e =
@@ -166,7 +177,8 @@ next_idle script t sessions are None none e (Some place) h =
 
 module _ (script : Script) (t : List Entry) (u : SessionId) where
   -- an idle session makes an entry
-  pub begins : (new : List Entry) (made : Bool) → is_idle (session_of script u t) ≡ true → IsTurn script t new (Session u) Tick (Ok made) → Makes script t new (nexts.tick_of u)
+  pub begins : (new : List Entry) (made : Bool) → is_idle (session_of script u t) ≡ true
+      → IsTurn script t new (Session u) Tick (Ok made) → Makes script t new (nexts.tick_of u)
   begins new true idle h = h.trace
   begins new false idle h = absurd (false≢true (sym h.nothing ∙ idle_makes script.space (session_of script u t) idle))
 

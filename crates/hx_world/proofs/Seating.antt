@@ -45,7 +45,8 @@ at_each n P Q xs h f = record {
   each = λ i x e. f i x (let w = slice_get_within xs i x e in omega (arith, w, h.count)) (h.each i x e);
 }
 
-get-set : {A : Type 0} (xs : List A) (i : ℕ) (y : A) (j : ℕ) (x : A) → slice_get (set xs i y) j ≡ Some x → ((j ≡ i) × (x ≡ y)) ⊎ ((j ≢ i) × (slice_get xs j ≡ Some x))
+get-set : {A : Type 0} (xs : List A) (i : ℕ) (y : A) (j : ℕ) (x : A) → slice_get (set xs i y) j ≡ Some x
+    → ((j ≡ i) × (x ≡ y)) ⊎ ((j ≢ i) × (slice_get xs j ≡ Some x))
 get-set [] i y j x e = cc
 get-set (z ∷ xs) zero y zero x e = inl (refl, (let same : x ≡ y = cc in same))
 get-set (z ∷ xs) zero y (suc j) x e = inr ((λ h. omega arith), e)

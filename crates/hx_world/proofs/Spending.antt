@@ -10,11 +10,13 @@ pub none_there : {A : Type 0} (o : Option A) → is_some o ≡ false → o ≡ N
 none_there None e = refl
 none_there (Some x) e = cc
 
-pub scheduled_more : (script : Script) (t : List Entry) (n : ℕ) → scheduled script t (n + 1) ≡ with_entry (scheduled script t n) (next_entry script (scheduled script t n))
+pub scheduled_more : (script : Script) (t : List Entry) (n : ℕ)
+    → scheduled script t (n + 1) ≡ with_entry (scheduled script t n) (next_entry script (scheduled script t n))
 scheduled_more script t n = rw add-one refl
 
 -- a quiet schedule stays
-scheduled_stays : (script : Script) (t : List Entry) (n k : ℕ) → next_entry script (scheduled script t n) ≡ None → scheduled script t (n + k) ≡ scheduled script t n
+scheduled_stays : (script : Script) (t : List Entry) (n k : ℕ) → next_entry script (scheduled script t n) ≡ None
+    → scheduled script t (n + k) ≡ scheduled script t n
 scheduled_stays script t n zero quiet = rw add-zero refl
 scheduled_stays script t n (suc k) quiet =
     let more : n + suc k ≡ suc (n + k) = omega arith in
@@ -27,7 +29,8 @@ stays_none script old new a =
     (none, rw none at a.trace)
 
 -- a drain that finds no next entry is quiet
-pub quiet_drains : (script : Script) (start old new : List Entry) (n i : ℕ) → i ≤ n → old ≡ scheduled script start i → Advances script old new false → Drains script n start new Quiet
+pub quiet_drains : (script : Script) (start old new : List Entry) (n i : ℕ) → i ≤ n → old ≡ scheduled script start i
+    → Advances script old new false → Drains script n start new Quiet
 quiet_drains script start old new n i within here a =
     let t = stays_none script old new a in
     let quiet : next_entry script (scheduled script start i) ≡ None = rw (← here) t.0 in

@@ -15,12 +15,14 @@ use Rattle.hx_world.specs.Worlds.{Refuses, Steps}
 
 module _ (script : Script) (t : List Entry) where
   -- a delivery to an actor that hasn't halted has only a worn receiver in its way
-  delivery_fault : (id : PostId) (p : Post) → post_named id t ≡ Some p → has_halted script t p.to ≡ false → fault_of script t (a_step.Deliver id) ≡ worn_fault t p.to
+  delivery_fault : (id : PostId) (p : Post) → post_named id t ≡ Some p → has_halted script t p.to ≡ false
+      → fault_of script t (a_step.Deliver id) ≡ worn_fault t p.to
   delivery_fault id p named running =
       ap (λ (o : Option Post). when_some o (Some model.Unsent) (λ (x : Post). first_some (halted_fault script t x.to) (worn_fault t x.to))) named
       ∙ ap (λ (b : Bool). first_some (cond b (Some model.Halted) None) (worn_fault t p.to)) running
 
-  delivery_halted : (id : PostId) (p : Post) → post_named id t ≡ Some p → has_halted script t p.to ≡ true → fault_of script t (a_step.Deliver id) ≡ Some model.Halted
+  delivery_halted : (id : PostId) (p : Post) → post_named id t ≡ Some p → has_halted script t p.to ≡ true
+      → fault_of script t (a_step.Deliver id) ≡ Some model.Halted
   delivery_halted id p named halted =
       ap (λ (o : Option Post). when_some o (Some model.Unsent) (λ (x : Post). first_some (halted_fault script t x.to) (worn_fault t x.to))) named
       ∙ ap (λ (b : Bool). first_some (cond b (Some model.Halted) None) (worn_fault t p.to)) halted
@@ -44,14 +46,16 @@ module _ (script : Script) (t : List Entry) where
   idle a e = ap (λ (b : Bool). cond b None (Some model.Idle)) e
 
   -- a delivery that was made
-  pub delivered : (new : List Entry) (id : PostId) (p : Post) → post_named id t ≡ Some p → HasTurn script t new p.to (Deliver id p.from p.message) → Steps script t new (a_step.Deliver id)
+  pub delivered : (new : List Entry) (id : PostId) (p : Post) → post_named id t ≡ Some p
+      → HasTurn script t new p.to (Deliver id p.from p.message) → Steps script t new (a_step.Deliver id)
   delivered new id p named h = record {
     possible = delivery_fault id p named h.running ∙ not_worn p.to h.fresh;
     trace = h.trace ∙ sym (ap (λ (o : Option Post). with_entry t (option_map (entry_by script t) (option_map (delivery_of id) o))) named);
   }
 
   -- and one that was not
-  pub not_delivered : (id : PostId) (p : Post) → post_named id t ≡ Some p → (e : StepError) → HasNoTurn script t p.to (Deliver id p.from p.message) e → Refuses script t (a_step.Deliver id) e
+  pub not_delivered : (id : PostId) (p : Post) → post_named id t ≡ Some p → (e : StepError)
+      → HasNoTurn script t p.to (Deliver id p.from p.message) e → Refuses script t (a_step.Deliver id) e
   not_delivered id p named Memory h = tt
   not_delivered id p named Unsent h = absurd h
   not_delivered id p named Halted h = delivery_halted id p named h
@@ -77,7 +81,8 @@ module _ (script : Script) (t : List Entry) where
   not_ticked a Halted h = tick_halted a h
   not_ticked a NotServer h = absurd h
   not_ticked a Idle h = tick_fault a h.running ∙ ap (λ (o : Option StepFault). first_some o (worn_fault t a)) (idle a h.nothing)
-  not_ticked a (Worn b) h = tick_fault a h.running ∙ ap (λ (o : Option StepFault). first_some o (worn_fault t a)) (not_idle a h.enough) ∙ worn a b h.worn h.actor
+  not_ticked a (Worn b) h = tick_fault a h.running
+      ∙ ap (λ (o : Option StepFault). first_some o (worn_fault t a)) (not_idle a h.enough) ∙ worn a b h.worn h.actor
 
 -- the input is the delivery of the post
 pub may_take : (t : List Entry) (id : PostId) (p : Post) (input : Input) → post_named id t ≡ Some p → input ≡ Deliver id p.from p.message → MayTake t p.to input

@@ -33,7 +33,8 @@ small_folded : (space : Space) (s : ServerState) → AreInOrder space s → serv
 small_folded space s order small r i k j =
     let from = in-map folded_replica s.replicas r i in
     let state = in-map (folded from.0.region) from.0.states k (subst (λ (x : Replica). IsIn k x.states) from.2 j) in
-    let slot = all_in (IsSlotIn (is_key_region space from.0.region) from.0.region) from.0.states state.0 (all_in (IsReplicaOf space) s.replicas from.0 order from.1) state.1 in
+    let slot = all_in (IsSlotIn (is_key_region space from.0.region) from.0.region) from.0.states state.0
+    (all_in (IsReplicaOf space) s.replicas from.0 order from.1) state.1 in
     subst (λ n. n ≤ 4611686018427387904) (sym (ap top_of state.2 ∙ top-folded from.0.region state.0 slot.slot.floor)) (small from.0 from.1 state.0 state.1)
 
 module _ (script : Script) (t : List Entry) (w : IsFewRun script t) where
@@ -81,10 +82,16 @@ module _ (script : Script) (t : List Entry) (w : IsFewRun script t) where
   input_to_server s Tick may = tt
   input_to_server s Halt may = tt
   input_to_server s (Deliver id from m) may =
-      record { sessions = length script.sessions; entry = id.entry; few = few_named id (post from (Server s) m) may; sound = sound_here id (post from (Server s) m) may }
+      record {
+        sessions = length script.sessions;
+        entry = id.entry;
+        few = few_named id (post from (Server s) m) may;
+        sound = sound_here id (post from (Server s) m) may;
+      }
 
   -- a server that hasn't halted can take what it is given
-  pub serves : (s : ServerId) (input : Input) → AreInOrder script.space (server_of script s t) → has_halted script t (Server s) ≡ false → MayTake t (Server s) input
+  pub serves : (s : ServerId) (input : Input) → AreInOrder script.space (server_of script s t)
+      → has_halted script t (Server s) ≡ false → MayTake t (Server s) input
       → server.CanTake script.space (folded_server (server_of script s t)) input
   serves s input order running may = record {
     running = running;
@@ -103,7 +110,12 @@ module _ (script : Script) (t : List Entry) (w : IsFewRun script t) where
   input_to_session st u same Halt may = may
   input_to_session st u same (Deliver id from m) may =
       subst (λ (x : SessionId). session.IsSoundDelivery script.space x from m) (sym same)
-      (record { sessions = length script.sessions; entry = id.entry; few = few_named id (post from (Session u) m) may; sound = sound_here id (post from (Session u) m) may })
+      (record {
+        sessions = length script.sessions;
+        entry = id.entry;
+        few = few_named id (post from (Session u) m) may;
+        sound = sound_here id (post from (Session u) m) may;
+      })
 
   -- a session can take what it is given
   pub attends : (u : SessionId) (input : Input) → MayTake t (Session u) input → session.CanTake script.space (session_of script u t) input

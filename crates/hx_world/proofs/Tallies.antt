@@ -40,7 +40,8 @@ sum_most (suc n) most f h =
 -- the entries of the actors together
 tally : Script → List Entry → ℕ
 tally script t =
-    entries_of Coordinator t + sum_to script.space.servers (λ i. entries_of (Server (server_at i)) t) + sum_to (length script.sessions) (λ i. entries_of (Session (session_at i)) t)
+    entries_of Coordinator t + sum_to script.space.servers (λ i. entries_of (Server (server_at i)) t) + sum_to
+    (length script.sessions) (λ i. entries_of (Session (session_at i)) t)
 
 one_more : (a : Actor) (x : Entry) (older : List Entry) → entries_of a older ≤ entries_of a (x ∷ older)
 one_more a x older =
@@ -49,33 +50,42 @@ one_more a x older =
 counted : (a : Actor) (x : Entry) (older : List Entry) → same_actor x.actor a ≡ true → entries_of a older + 1 ≤ entries_of a (x ∷ older)
 counted a x older e = rw e (omega arith)
 
-tally_more : (script : Script) (x : Entry) (older : List Entry) (a : Actor) → x.actor ≡ a → is_actor script a ≡ true → tally script older + 1 ≤ tally script (x ∷ older)
+tally_more : (script : Script) (x : Entry) (older : List Entry) (a : Actor) → x.actor ≡ a → is_actor script a ≡ true
+    → tally script older + 1 ≤ tally script (x ∷ older)
 unfolding tally
 tally_more script x older Coordinator e h =
     let more = counted Coordinator x older (ap (λ (a : Actor). same_actor a Coordinator) e) in
-    let servers = sum_least script.space.servers (λ i. entries_of (Server (server_at i)) older) (λ i. entries_of (Server (server_at i)) (x ∷ older)) (λ i. one_more (Server (server_at i)) x older) in
-    let sessions = sum_least (length script.sessions) (λ i. entries_of (Session (session_at i)) older) (λ i. entries_of (Session (session_at i)) (x ∷ older)) (λ i. one_more (Session (session_at i)) x older) in
+    let servers = sum_least script.space.servers (λ i. entries_of (Server (server_at i)) older)
+    (λ i. entries_of (Server (server_at i)) (x ∷ older)) (λ i. one_more (Server (server_at i)) x older) in
+    let sessions = sum_least (length script.sessions) (λ i. entries_of (Session (session_at i)) older)
+    (λ i. entries_of (Session (session_at i)) (x ∷ older)) (λ i. one_more (Session (session_at i)) x older) in
     omega (arith, more, servers, sessions)
 tally_more script x older (Server s) e h =
     let parts = and_parts (ltb 0 s.0) (leb s.0 script.space.servers) h in
     let low : 0 < s.0 = ltb-true 0 s.0 parts.0 in
     let high : s.0 ≤ script.space.servers = leb-true s.0 script.space.servers parts.1 in
     let place : s.0 ≡ (s.0 - 1) + 1 = omega (arith, low) in
-    let here : same_actor x.actor (Server (server_at (s.0 - 1))) ≡ true = ap (λ (a : Actor). same_actor a (Server (server_at (s.0 - 1)))) e ∙ eq-eqb s.0 ((s.0 - 1) + 1) place in
+    let here : same_actor x.actor (Server (server_at (s.0 - 1))) ≡ true =
+    ap (λ (a : Actor). same_actor a (Server (server_at (s.0 - 1)))) e ∙ eq-eqb s.0 ((s.0 - 1) + 1) place in
     let others = one_more Coordinator x older in
-    let servers = sum_more script.space.servers (λ i. entries_of (Server (server_at i)) older) (λ i. entries_of (Server (server_at i)) (x ∷ older)) (λ i. one_more (Server (server_at i)) x older)
+    let servers = sum_more script.space.servers (λ i. entries_of (Server (server_at i)) older)
+    (λ i. entries_of (Server (server_at i)) (x ∷ older)) (λ i. one_more (Server (server_at i)) x older)
     (s.0 - 1) (omega (arith, low, high)) (counted (Server (server_at (s.0 - 1))) x older here) in
-    let sessions = sum_least (length script.sessions) (λ i. entries_of (Session (session_at i)) older) (λ i. entries_of (Session (session_at i)) (x ∷ older)) (λ i. one_more (Session (session_at i)) x older) in
+    let sessions = sum_least (length script.sessions) (λ i. entries_of (Session (session_at i)) older)
+    (λ i. entries_of (Session (session_at i)) (x ∷ older)) (λ i. one_more (Session (session_at i)) x older) in
     omega (arith, others, servers, sessions)
 tally_more script x older (Session u) e h =
     let parts = and_parts (ltb 0 u.0) (leb u.0 (length script.sessions)) h in
     let low : 0 < u.0 = ltb-true 0 u.0 parts.0 in
     let high : u.0 ≤ length script.sessions = leb-true u.0 (length script.sessions) parts.1 in
     let place : u.0 ≡ (u.0 - 1) + 1 = omega (arith, low) in
-    let here : same_actor x.actor (Session (session_at (u.0 - 1))) ≡ true = ap (λ (a : Actor). same_actor a (Session (session_at (u.0 - 1)))) e ∙ eq-eqb u.0 ((u.0 - 1) + 1) place in
+    let here : same_actor x.actor (Session (session_at (u.0 - 1))) ≡ true =
+    ap (λ (a : Actor). same_actor a (Session (session_at (u.0 - 1)))) e ∙ eq-eqb u.0 ((u.0 - 1) + 1) place in
     let others = one_more Coordinator x older in
-    let servers = sum_least script.space.servers (λ i. entries_of (Server (server_at i)) older) (λ i. entries_of (Server (server_at i)) (x ∷ older)) (λ i. one_more (Server (server_at i)) x older) in
-    let sessions = sum_more (length script.sessions) (λ i. entries_of (Session (session_at i)) older) (λ i. entries_of (Session (session_at i)) (x ∷ older)) (λ i. one_more (Session (session_at i)) x older)
+    let servers = sum_least script.space.servers (λ i. entries_of (Server (server_at i)) older)
+    (λ i. entries_of (Server (server_at i)) (x ∷ older)) (λ i. one_more (Server (server_at i)) x older) in
+    let sessions = sum_more (length script.sessions) (λ i. entries_of (Session (session_at i)) older)
+    (λ i. entries_of (Session (session_at i)) (x ∷ older)) (λ i. one_more (Session (session_at i)) x older)
     (u.0 - 1) (omega (arith, low, high)) (counted (Session (session_at (u.0 - 1))) x older here) in
     omega (arith, others, servers, sessions)
 
@@ -99,6 +109,7 @@ few_in_all script t valid run few =
     omega (arith, all, coordinator, servers, sessions, valid.sessions, valid.space.servers.1)
 
 -- the same of a trace that stands oldest first
-pub few_entries : (script : Script) (trace : List Entry) → IsScript script → IsRun script (reverse trace) → HasFewEntries (reverse trace) → length trace ≤ most_entries
+pub few_entries : (script : Script) (trace : List Entry) → IsScript script → IsRun script (reverse trace)
+    → HasFewEntries (reverse trace) → length trace ≤ most_entries
 few_entries script trace valid run few =
     let all = few_in_all script (reverse trace) valid run few in omega (arith, all, length-reverse trace)

@@ -62,10 +62,12 @@ names_now old new e f files same =
     files.waiting
     ∙ (λ i. names_after (sym (length-reverse old.trace) i) (same i) old.waiting.items)
 
-goes : (script : Script) (old new : Log) (a : Actor) (input : Input) (actors : Actors) (e : Entry) → e ≡ entry_by script (reverse old.trace) (given a input) → Files old new e
+goes : (script : Script) (old new : Log) (a : Actor) (input : Input) (actors : Actors) (e : Entry)
+    → e ≡ entry_by script (reverse old.trace) (given a input) → Files old new e
     → has_halted script (reverse old.trace) a ≡ false
     → does_something input (made_of script (reverse old.trace) a input) ≡ true → entries_of a (reverse old.trace) < 1048576
-    → IsWorldOf script (entry_by script (reverse old.trace) (given a input) ∷ reverse old.trace) actors.servers.items actors.sessions.items actors.coordinator new.waiting.items
+    → IsWorldOf script (entry_by script (reverse old.trace) (given a input) ∷ reverse old.trace) actors.servers.items
+    actors.sessions.items actors.coordinator new.waiting.items
     → Goes script old a input actors new
 goes script old new a input actors e is files running enough fresh w =
     let trace : reverse new.trace ≡ entry_by script (reverse old.trace) (given a input) ∷ reverse old.trace =
@@ -76,7 +78,8 @@ goes script old new a input actors e is files running enough fresh w =
     }
 
 -- an entry that is barred is no turn
-no_turn : (script : Script) (t : List Entry) (a : Actor) (input : Input) (e : Entry) (n : ℕ) (error : DrainError) → e ≡ entry_by script t (given a input) → n ≡ entries_of a t → has_halted script t a ≡ false
+no_turn : (script : Script) (t : List Entry) (a : Actor) (input : Input) (e : Entry) (n : ℕ) (error : DrainError)
+    → e ≡ entry_by script t (given a input) → n ≡ entries_of a t → has_halted script t a ≡ false
     → IsBarred e n error → FailsTurn script t a input error
 no_turn script t a input e n Memory is count running b = tt
 no_turn script t a input e n (Worn x) is count running b =
@@ -118,25 +121,38 @@ module _ (script : Script) (actors : Actors) (log : Log) (w : IsWorldOn script a
     coordinated_is = coordinated_entry script t actors.servers.items actors.sessions.items actors.coordinator log.waiting.items w input
 
     -- it took the input
-    coordinated : (actors_after : Actors) (after : Log) → MayTake t Coordinator input → Files log after (coordinator.coordinator_entry actors.coordinator.coordinator input)
+    coordinated : (actors_after : Actors) (after : Log) → MayTake t Coordinator input
+        → Files log after (coordinator.coordinator_entry actors.coordinator.coordinator input)
         → IsAdmitted (coordinator.coordinator_entry actors.coordinator.coordinator input) actors.coordinator.entries
-        → counted_coordinator.HasTaken actors.coordinator actors_after.coordinator input → actors_after.servers.items ≡ actors.servers.items → actors_after.sessions.items ≡ actors.sessions.items
+        → counted_coordinator.HasTaken actors.coordinator actors_after.coordinator input
+        → actors_after.servers.items ≡ actors.servers.items → actors_after.sessions.items ≡ actors.sessions.items
         → Goes script log Coordinator input actors_after after
     coordinated actors_after after may files admitted takes servers sessions =
         let enough : does_something input (made_of script t Coordinator input) ≡ true = ap entry_does_something (sym coordinated_is) ∙ admitted.enough in
         let fresh : entries_of Coordinator t < 1048576 = subst (λ n. n < 1048576) w.coordinator_is.entries admitted.fresh in
-        let names = names_now log after (coordinator.coordinator_entry actors.coordinator.coordinator input) (entry_by script t (given Coordinator input)) files coordinated_is in
+        let names = names_now log after (coordinator.coordinator_entry actors.coordinator.coordinator input)
+        (entry_by script t (given Coordinator input)) files coordinated_is in
         let g : IsGiven script t Coordinator input = record { actor = refl; running = refl; may = may; enough = enough; fresh = fresh } in
-        let at = coordinated_world script t actors.servers.items actors.sessions.items actors.coordinator log.waiting.items w input after.waiting.items actors_after.coordinator g takes names in
-        goes script log after Coordinator input actors_after (coordinator.coordinator_entry actors.coordinator.coordinator input) coordinated_is files refl enough fresh
+        let at = coordinated_world script t actors.servers.items actors.sessions.items actors.coordinator
+        log.waiting.items w input after.waiting.items actors_after.coordinator g takes names in
+        goes script log after Coordinator input actors_after
+        (coordinator.coordinator_entry actors.coordinator.coordinator input) coordinated_is files refl enough fresh
         (
-        subst (λ (l : List CountedServer). IsWorldOf script (entry_by script t (given Coordinator input) ∷ t) l actors_after.sessions.items actors_after.coordinator after.waiting.items) (sym servers)
-        (subst (λ (l : List CountedSession). IsWorldOf script (entry_by script t (given Coordinator input) ∷ t) actors.servers.items l actors_after.coordinator after.waiting.items) (sym sessions) at)
+        subst (λ (l : List CountedServer). IsWorldOf script
+        (entry_by script t (given Coordinator input) ∷ t) l actors_after.sessions.items actors_after.coordinator
+        after.waiting.items) (sym servers)
+        (subst (λ (l : List CountedSession). IsWorldOf script
+        (entry_by script t (given Coordinator input) ∷ t) actors.servers.items l actors_after.coordinator
+        after.waiting.items) (sym sessions) at)
         )
 
     -- it may not make the entry
-    not_coordinated : (error : DrainError) → IsBarred (coordinator.coordinator_entry actors.coordinator.coordinator input) actors.coordinator.entries error → FailsTurn script t Coordinator input error
-    not_coordinated error b = no_turn script t Coordinator input (coordinator.coordinator_entry actors.coordinator.coordinator input) actors.coordinator.entries error coordinated_is w.coordinator_is.entries refl b
+    not_coordinated : (error : DrainError) → IsBarred
+        (coordinator.coordinator_entry actors.coordinator.coordinator input) actors.coordinator.entries error
+        → FailsTurn script t Coordinator input error
+    not_coordinated error b = no_turn script t Coordinator input
+        (coordinator.coordinator_entry actors.coordinator.coordinator input) actors.coordinator.entries error
+        coordinated_is w.coordinator_is.entries refl b
 
     -- it is as before
     uncoordinated : (after : Actors) (same : Log) → IsSameLog log same → counted_coordinator.IsSameCoordinator actors.coordinator after.coordinator
@@ -151,7 +167,8 @@ module _ (script : Script) (actors : Actors) (log : Log) (w : IsWorldOn script a
     pub came_to_coordinator : (after : Actors) (new : Log) (result : Result Bool DrainError) → MayTake t Coordinator input
         → IsDecided (coordinator.coordinator_entry actors.coordinator.coordinator input) actors.coordinator.entries result
         → IfMade result (Files log new (coordinator.coordinator_entry actors.coordinator.coordinator input)) (IsSameLog log new)
-        → IfMade result (counted_coordinator.HasTaken actors.coordinator after.coordinator input) (counted_coordinator.IsSameCoordinator actors.coordinator after.coordinator)
+        → IfMade result (counted_coordinator.HasTaken actors.coordinator after.coordinator input)
+        (counted_coordinator.IsSameCoordinator actors.coordinator after.coordinator)
         → after.servers.items ≡ actors.servers.items → after.sessions.items ≡ actors.sessions.items → Came script log Coordinator input after new result
     came_to_coordinator after new (Ok true) may d files takes servers sessions =
         let g = coordinated after new may files d takes servers sessions in
@@ -179,10 +196,12 @@ module _ (script : Script) (actors : Actors) (log : Log) (w : IsWorldOn script a
     place_is = let low = server_low in let e : s.0 - 1 + 1 ≡ s.0 = omega (arith, low) in λ i. record { 0 = e i }
 
     server_here : (h : CountedServer) → h ≡ get_or actors.servers.items (s.0 - 1) h → IsServerAt script t (s.0 - 1) h
-    server_here h e = w.servers_are.each (s.0 - 1) h (item_read actors.servers.items (s.0 - 1) h (let within = server_in in omega (arith, within, actors.servers.ok.0)) e)
+    server_here h e = w.servers_are.each (s.0 - 1) h
+        (item_read actors.servers.items (s.0 - 1) h (let within = server_in in omega (arith, within, actors.servers.ok.0)) e)
 
     -- it can take the input
-    pub can_serve : (h : CountedServer) → h ≡ get_or actors.servers.items (s.0 - 1) h → (input : Input) → has_halted script t (Server s) ≡ false → MayTake t (Server s) input → server.CanTake h.server.space h.server.state input
+    pub can_serve : (h : CountedServer) → h ≡ get_or actors.servers.items (s.0 - 1) h → (input : Input)
+        → has_halted script t (Server s) ≡ false → MayTake t (Server s) input → server.CanTake h.server.space h.server.state input
     can_serve h e input running may =
         let at = server_here h e in
         subst (λ (x : Space). server.CanTake x h.server.state input) (sym at.space)
@@ -192,25 +211,35 @@ module _ (script : Script) (actors : Actors) (log : Log) (w : IsWorldOn script a
         )
 
     -- it has its number
-    pub may_serve : (h : CountedServer) → h ≡ get_or actors.servers.items (s.0 - 1) h → (input : Input) → MayTake t (Server s) input → MayTake t (Server h.server.state.id) input
+    pub may_serve : (h : CountedServer) → h ≡ get_or actors.servers.items (s.0 - 1) h → (input : Input)
+        → MayTake t (Server s) input → MayTake t (Server h.server.state.id) input
     may_serve h e input may =
-        let number : h.server.state.id ≡ s = ap (λ (x : ServerState). x.id) (server_here h e).state ∙ server_id script t w.past (server_at (s.0 - 1)) ∙ place_is in
+        let number : h.server.state.id ≡ s = ap (λ (x : ServerState). x.id) (server_here h e).state
+        ∙ server_id script t w.past (server_at (s.0 - 1)) ∙ place_is in
         subst (λ (x : ServerId). MayTake t (Server x) input) (sym number) may
 
     -- whether it has halted
     pub halted_here : (h : CountedServer) → h ≡ get_or actors.servers.items (s.0 - 1) h → h.server.state.halted ≡ has_halted script t (Server s)
     halted_here h e = ap (λ (x : ServerState). x.halted) (server_here h e).state ∙ ap (λ (x : ServerId). has_halted script t (Server x)) place_is
 
-    module _ (h : CountedServer) (read : h ≡ get_or actors.servers.items (s.0 - 1) h) (input : Input) (running : has_halted script t (Server s) ≡ false) (may_take : MayTake t (Server s) input) where
+    module _ (h : CountedServer) (read : h ≡ get_or actors.servers.items (s.0 - 1) h) (input : Input)
+        (running : has_halted script t (Server s) ≡ false) (may_take : MayTake t (Server s) input) where
       running_at : has_halted script t (Server (server_at (s.0 - 1))) ≡ false
       running_at = subst (λ (x : ServerId). has_halted script t (Server x) ≡ false) (sym place_is) running
 
       served_is : server.server_entry h.server.space h.server.state input ≡ entry_by script t (given (Server (server_at (s.0 - 1))) input)
-      served_is = served_entry script t actors.servers.items actors.sessions.items actors.coordinator log.waiting.items w (s.0 - 1) h input (server_here h read) (subst (λ (x : ServerId). MayTake t (Server x) input) (sym place_is) may_take)
+      served_is = served_entry script t actors.servers.items actors.sessions.items actors.coordinator
+          log.waiting.items w (s.0 - 1) h input (server_here h read)
+          (subst (λ (x : ServerId). MayTake t (Server x) input) (sym place_is) may_take)
 
-      served_at : (after_server : CountedServer) (actors_after : Actors) (after : Log) → MayTake t (Server (server_at (s.0 - 1))) input → is_actor script (Server (server_at (s.0 - 1))) ≡ true
-          → Files log after (server.server_entry h.server.space h.server.state input) → counted_server.HasTaken h after_server input → IsAdmitted (server.server_entry h.server.space h.server.state input) h.entries
-          → actors_after.coordinator ≡ actors.coordinator → actors_after.servers.items ≡ set actors.servers.items (s.0 - 1) after_server → actors_after.sessions.items ≡ actors.sessions.items
+      served_at : (after_server : CountedServer) (actors_after : Actors) (after : Log)
+          → MayTake t (Server (server_at (s.0 - 1))) input → is_actor script (Server (server_at (s.0 - 1))) ≡ true
+          → Files log after (server.server_entry h.server.space h.server.state input)
+          → counted_server.HasTaken h after_server input
+          → IsAdmitted (server.server_entry h.server.space h.server.state input) h.entries
+          → actors_after.coordinator ≡ actors.coordinator
+          → actors_after.servers.items ≡ set actors.servers.items (s.0 - 1) after_server
+          → actors_after.sessions.items ≡ actors.sessions.items
           → Goes script log (Server (server_at (s.0 - 1))) input actors_after after
       served_at after_server actors_after after may here files takes admitted coordinator servers sessions =
           let a : Actor = Server (server_at (s.0 - 1)) in
@@ -219,40 +248,57 @@ module _ (script : Script) (actors : Actors) (log : Log) (w : IsWorldOn script a
           let fresh : entries_of a t < 1048576 = subst (λ n. n < 1048576) at.entries admitted.fresh in
           let names = names_now log after (server.server_entry h.server.space h.server.state input) (entry_by script t (given a input)) files served_is in
           let g : IsGiven script t a input = record { actor = here; running = running_at; may = may; enough = enough; fresh = fresh } in
-          let at_end = served_world script t actors.servers.items actors.sessions.items actors.coordinator log.waiting.items w (s.0 - 1) input h after_server actors_after.servers.items after.waiting.items g at takes servers names in
+          let at_end = served_world script t actors.servers.items actors.sessions.items actors.coordinator
+          log.waiting.items w (s.0 - 1) input h after_server actors_after.servers.items after.waiting.items g at
+          takes servers names in
           goes script log after a input actors_after (server.server_entry h.server.space h.server.state input) served_is files running_at enough fresh
           (
-          subst (λ (l : List CountedSession). IsWorldOf script (entry_by script t (given a input) ∷ t) actors_after.servers.items l actors_after.coordinator after.waiting.items) (sym sessions)
-          (subst (λ (n : CountedCoordinator). IsWorldOf script (entry_by script t (given a input) ∷ t) actors_after.servers.items actors.sessions.items n after.waiting.items) (sym coordinator) at_end)
+          subst (λ (l : List CountedSession). IsWorldOf script
+          (entry_by script t (given a input) ∷ t) actors_after.servers.items l actors_after.coordinator
+          after.waiting.items) (sym sessions)
+          (subst (λ (n : CountedCoordinator). IsWorldOf script
+          (entry_by script t (given a input) ∷ t) actors_after.servers.items actors.sessions.items n
+          after.waiting.items) (sym coordinator) at_end)
           )
 
       -- it took the input
       pub served : (after_server : CountedServer) (actors_after : Actors) (after : Log)
-          → Files log after (server.server_entry h.server.space h.server.state input) → counted_server.HasTaken h after_server input → IsAdmitted (server.server_entry h.server.space h.server.state input) h.entries
-          → actors_after.coordinator ≡ actors.coordinator → actors_after.servers.items ≡ set actors.servers.items (s.0 - 1) after_server → actors_after.sessions.items ≡ actors.sessions.items
+          → Files log after (server.server_entry h.server.space h.server.state input)
+          → counted_server.HasTaken h after_server input
+          → IsAdmitted (server.server_entry h.server.space h.server.state input) h.entries
+          → actors_after.coordinator ≡ actors.coordinator
+          → actors_after.servers.items ≡ set actors.servers.items (s.0 - 1) after_server
+          → actors_after.sessions.items ≡ actors.sessions.items
           → Goes script log (Server s) input actors_after after
       served after_server actors_after after files takes admitted coordinator servers sessions =
           subst (λ (x : ServerId). Goes script log (Server x) input actors_after after) place_is
           (
-          served_at after_server actors_after after (subst (λ (x : ServerId). MayTake t (Server x) input) (sym place_is) may_take) (subst (λ (x : ServerId). is_actor script (Server x) ≡ true) (sym place_is) actor)
+          served_at after_server actors_after after (subst (λ (x : ServerId). MayTake t (Server x) input)
+          (sym place_is) may_take) (subst (λ (x : ServerId). is_actor script (Server x) ≡ true) (sym place_is) actor)
           files takes admitted coordinator servers sessions
           )
 
       -- it may not make the entry
-      pub not_served : (error : DrainError) → IsBarred (server.server_entry h.server.space h.server.state input) h.entries error → FailsTurn script t (Server s) input error
+      pub not_served : (error : DrainError) → IsBarred
+          (server.server_entry h.server.space h.server.state input) h.entries error → FailsTurn script t (Server s) input error
       not_served error b =
           subst (λ (x : ServerId). FailsTurn script t (Server x) input error) place_is
-          (no_turn script t (Server (server_at (s.0 - 1))) input (server.server_entry h.server.space h.server.state input) h.entries error served_is (server_here h read).entries running_at b)
+          (no_turn script t (Server (server_at (s.0 - 1))) input
+          (server.server_entry h.server.space h.server.state input) h.entries error served_is
+          (server_here h read).entries running_at b)
 
       -- it is as before
       pub unserved : (after_server : CountedServer) (actors_after : Actors) (same : Log) → counted_server.IsSameServer h after_server → IsSameLog log same
-          → actors_after.coordinator ≡ actors.coordinator → actors_after.servers.items ≡ set actors.servers.items (s.0 - 1) after_server → actors_after.sessions.items ≡ actors.sessions.items
+          → actors_after.coordinator ≡ actors.coordinator
+          → actors_after.servers.items ≡ set actors.servers.items (s.0 - 1) after_server
+          → actors_after.sessions.items ≡ actors.sessions.items
           → IsWorldOn script actors_after same
       unserved after_server actors_after same kept logs coordinator servers sessions =
           let at = server_here h read in
           world_with script actors actors_after log same w logs
           (
-          at_set script.space.servers (IsServerAt script t) (IsServerAt script t) actors.servers.items actors_after.servers.items (s.0 - 1) after_server w.servers_are servers
+          at_set script.space.servers (IsServerAt script t)
+          (IsServerAt script t) actors.servers.items actors_after.servers.items (s.0 - 1) after_server w.servers_are servers
           (record { space = kept.space ∙ at.space; state = kept.state ∙ at.state; in_order = at.in_order; entries = kept.entries ∙ at.entries })
           (λ j x differ k. k)
           )
@@ -260,10 +306,12 @@ module _ (script : Script) (actors : Actors) (log : Log) (w : IsWorldOn script a
           (subst (IsCoordinatorAfter script t) (sym coordinator) w.coordinator_is)
 
       -- what became of the input
-      pub came_to_server : (after_server : CountedServer) (after : Actors) (new : Log) (result : Result Bool DrainError) → IsDecided (server.server_entry h.server.space h.server.state input) h.entries result
+      pub came_to_server : (after_server : CountedServer) (after : Actors) (new : Log)
+          (result : Result Bool DrainError) → IsDecided (server.server_entry h.server.space h.server.state input) h.entries result
           → IfMade result (Files log new (server.server_entry h.server.space h.server.state input)) (IsSameLog log new)
           → IfMade result (counted_server.HasTaken h after_server input) (counted_server.IsSameServer h after_server)
-          → after.coordinator ≡ actors.coordinator → after.servers.items ≡ set actors.servers.items (s.0 - 1) after_server → after.sessions.items ≡ actors.sessions.items
+          → after.coordinator ≡ actors.coordinator → after.servers.items
+          ≡ set actors.servers.items (s.0 - 1) after_server → after.sessions.items ≡ actors.sessions.items
           → Came script log (Server s) input after new result
       came_to_server after_server after new (Ok true) d files takes coordinator servers sessions =
           let g = served after_server after new files takes d coordinator servers sessions in
@@ -293,13 +341,15 @@ module _ (script : Script) (actors : Actors) (log : Log) (w : IsWorldOn script a
     session_is = let low = session_low in let e : u.0 - 1 + 1 ≡ u.0 = omega (arith, low) in λ i. record { 0 = e i }
 
     pub session_here : (x : CountedSession) → x ≡ get_or actors.sessions.items (u.0 - 1) x → IsSessionAt script t (u.0 - 1) x
-    session_here x e = w.sessions_are.each (u.0 - 1) x (item_read actors.sessions.items (u.0 - 1) x (let within = session_in in omega (arith, within, actors.sessions.ok.0)) e)
+    session_here x e = w.sessions_are.each (u.0 - 1) x
+        (item_read actors.sessions.items (u.0 - 1) x (let within = session_in in omega (arith, within, actors.sessions.ok.0)) e)
 
     pub session_state : (x : CountedSession) → x ≡ get_or actors.sessions.items (u.0 - 1) x → x.session.state ≡ session_of script u t
     session_state x e = (session_here x e).state ∙ ap (λ (v : SessionId). session_of script v t) session_is
 
     -- it can take the input
-    pub can_attend : (x : CountedSession) → x ≡ get_or actors.sessions.items (u.0 - 1) x → (input : Input) → MayTake t (Session u) input → session.CanTake x.session.space x.session.state input
+    pub can_attend : (x : CountedSession) → x ≡ get_or actors.sessions.items (u.0 - 1) x → (input : Input)
+        → MayTake t (Session u) input → session.CanTake x.session.space x.session.state input
     can_attend x e input may =
         let at = session_here x e in
         subst (λ (y : Space). session.CanTake y x.session.state input) (sym at.space)
@@ -312,19 +362,25 @@ module _ (script : Script) (actors : Actors) (log : Log) (w : IsWorldOn script a
     pub session_number : (x : CountedSession) → x ≡ get_or actors.sessions.items (u.0 - 1) x → x.session.state.id ≡ u
     session_number x e = ap (λ (y : SessionState). y.id) (session_here x e).state ∙ session_id script t w.past (session_at (u.0 - 1)) ∙ session_is
 
-    pub may_attend : (x : CountedSession) → x ≡ get_or actors.sessions.items (u.0 - 1) x → (input : Input) → MayTake t (Session u) input → MayTake t (Session x.session.state.id) input
+    pub may_attend : (x : CountedSession) → x ≡ get_or actors.sessions.items (u.0 - 1) x → (input : Input)
+        → MayTake t (Session u) input → MayTake t (Session x.session.state.id) input
     may_attend x e input may = subst (λ (v : SessionId). MayTake t (Session v) input) (sym (session_number x e)) may
 
     -- it is as before
-    pub unattended : (x : CountedSession) → x ≡ get_or actors.sessions.items (u.0 - 1) x → (after_session : CountedSession) (actors_after : Actors) (same : Log) → counted_session.IsSameSession x after_session → IsSameLog log same
-        → actors_after.coordinator ≡ actors.coordinator → actors_after.servers.items ≡ actors.servers.items → actors_after.sessions.items ≡ set actors.sessions.items (u.0 - 1) after_session
+    pub unattended : (x : CountedSession) → x ≡ get_or actors.sessions.items (u.0 - 1) x
+        → (after_session : CountedSession) (actors_after : Actors) (same : Log)
+        → counted_session.IsSameSession x after_session → IsSameLog log same
+        → actors_after.coordinator ≡ actors.coordinator → actors_after.servers.items ≡ actors.servers.items
+        → actors_after.sessions.items ≡ set actors.sessions.items (u.0 - 1) after_session
         → IsWorldOn script actors_after same
     unattended x read after_session actors_after same kept logs coordinator servers sessions =
         let at = session_here x read in
         world_with script actors actors_after log same w logs
         (subst (λ (l : List CountedServer). AreAt script.space.servers (IsServerAt script t) l) (sym servers) w.servers_are)
         (
-        at_set (length script.sessions) (IsSessionAt script t) (IsSessionAt script t) actors.sessions.items actors_after.sessions.items (u.0 - 1) after_session w.sessions_are sessions
+        at_set (length script.sessions) (IsSessionAt script t)
+        (IsSessionAt script t) actors.sessions.items actors_after.sessions.items
+        (u.0 - 1) after_session w.sessions_are sessions
         (record { space = kept.space ∙ at.space; state = kept.state ∙ at.state; entries = kept.entries ∙ at.entries })
         (λ j y differ k. k)
         )
@@ -335,9 +391,13 @@ module _ (script : Script) (actors : Actors) (log : Log) (w : IsWorldOn script a
       attended_is =
           attended_entry script t actors.servers.items actors.sessions.items actors.coordinator log.waiting.items w (u.0 - 1) x input (session_here x read)
 
-      attended_at : (after_session : CountedSession) (actors_after : Actors) (after : Log) → MayTake t (Session (session_at (u.0 - 1))) input → is_actor script (Session (session_at (u.0 - 1))) ≡ true
-          → Files log after (session.session_entry x.session.space x.session.state input) → counted_session.HasTaken x after_session input → IsAdmitted (session.session_entry x.session.space x.session.state input) x.entries
-          → actors_after.coordinator ≡ actors.coordinator → actors_after.servers.items ≡ actors.servers.items → actors_after.sessions.items ≡ set actors.sessions.items (u.0 - 1) after_session
+      attended_at : (after_session : CountedSession) (actors_after : Actors) (after : Log)
+          → MayTake t (Session (session_at (u.0 - 1))) input → is_actor script (Session (session_at (u.0 - 1))) ≡ true
+          → Files log after (session.session_entry x.session.space x.session.state input)
+          → counted_session.HasTaken x after_session input
+          → IsAdmitted (session.session_entry x.session.space x.session.state input) x.entries
+          → actors_after.coordinator ≡ actors.coordinator → actors_after.servers.items ≡ actors.servers.items
+          → actors_after.sessions.items ≡ set actors.sessions.items (u.0 - 1) after_session
           → Goes script log (Session (session_at (u.0 - 1))) input actors_after after
       attended_at after_session actors_after after may here files takes admitted coordinator servers sessions =
           let a : Actor = Session (session_at (u.0 - 1)) in
@@ -346,37 +406,53 @@ module _ (script : Script) (actors : Actors) (log : Log) (w : IsWorldOn script a
           let fresh : entries_of a t < 1048576 = subst (λ n. n < 1048576) at.entries admitted.fresh in
           let names = names_now log after (session.session_entry x.session.space x.session.state input) (entry_by script t (given a input)) files attended_is in
           let g : IsGiven script t a input = record { actor = here; running = refl; may = may; enough = enough; fresh = fresh } in
-          let at_end = attended_world script t actors.servers.items actors.sessions.items actors.coordinator log.waiting.items w (u.0 - 1) input x after_session actors_after.sessions.items after.waiting.items g at takes sessions names in
+          let at_end = attended_world script t actors.servers.items actors.sessions.items actors.coordinator
+          log.waiting.items w (u.0 - 1) input x after_session actors_after.sessions.items after.waiting.items g at
+          takes sessions names in
           goes script log after a input actors_after (session.session_entry x.session.space x.session.state input) attended_is files refl enough fresh
           (
-          subst (λ (l : List CountedServer). IsWorldOf script (entry_by script t (given a input) ∷ t) l actors_after.sessions.items actors_after.coordinator after.waiting.items) (sym servers)
-          (subst (λ (n : CountedCoordinator). IsWorldOf script (entry_by script t (given a input) ∷ t) actors.servers.items actors_after.sessions.items n after.waiting.items) (sym coordinator) at_end)
+          subst (λ (l : List CountedServer). IsWorldOf script
+          (entry_by script t (given a input) ∷ t) l actors_after.sessions.items actors_after.coordinator
+          after.waiting.items) (sym servers)
+          (subst (λ (n : CountedCoordinator). IsWorldOf script
+          (entry_by script t (given a input) ∷ t) actors.servers.items actors_after.sessions.items n
+          after.waiting.items) (sym coordinator) at_end)
           )
 
       -- it took the input
       pub attended : (after_session : CountedSession) (actors_after : Actors) (after : Log) → MayTake t (Session u) input
-          → Files log after (session.session_entry x.session.space x.session.state input) → counted_session.HasTaken x after_session input → IsAdmitted (session.session_entry x.session.space x.session.state input) x.entries
-          → actors_after.coordinator ≡ actors.coordinator → actors_after.servers.items ≡ actors.servers.items → actors_after.sessions.items ≡ set actors.sessions.items (u.0 - 1) after_session
+          → Files log after (session.session_entry x.session.space x.session.state input)
+          → counted_session.HasTaken x after_session input
+          → IsAdmitted (session.session_entry x.session.space x.session.state input) x.entries
+          → actors_after.coordinator ≡ actors.coordinator → actors_after.servers.items ≡ actors.servers.items
+          → actors_after.sessions.items ≡ set actors.sessions.items (u.0 - 1) after_session
           → Goes script log (Session u) input actors_after after
       attended after_session actors_after after may files takes admitted coordinator servers sessions =
           subst (λ (v : SessionId). Goes script log (Session v) input actors_after after) session_is
           (
-          attended_at after_session actors_after after (subst (λ (v : SessionId). MayTake t (Session v) input) (sym session_is) may) (subst (λ (v : SessionId). is_actor script (Session v) ≡ true) (sym session_is) actor)
+          attended_at after_session actors_after after
+          (subst (λ (v : SessionId). MayTake t (Session v) input) (sym session_is) may)
+          (subst (λ (v : SessionId). is_actor script (Session v) ≡ true) (sym session_is) actor)
           files takes admitted coordinator servers sessions
           )
 
       -- it may not make the entry
-      pub not_attended : (error : DrainError) → IsBarred (session.session_entry x.session.space x.session.state input) x.entries error → FailsTurn script t (Session u) input error
+      pub not_attended : (error : DrainError) → IsBarred
+          (session.session_entry x.session.space x.session.state input) x.entries error
+          → FailsTurn script t (Session u) input error
       not_attended error b =
           subst (λ (v : SessionId). FailsTurn script t (Session v) input error) session_is
-          (no_turn script t (Session (session_at (u.0 - 1))) input (session.session_entry x.session.space x.session.state input) x.entries error attended_is (session_here x read).entries refl b)
+          (no_turn script t (Session (session_at (u.0 - 1))) input
+          (session.session_entry x.session.space x.session.state input) x.entries error attended_is
+          (session_here x read).entries refl b)
 
       -- what became of the input
       pub came_to_session : (after_session : CountedSession) (after : Actors) (new : Log) (result : Result Bool DrainError) → MayTake t (Session u) input
           → IsDecided (session.session_entry x.session.space x.session.state input) x.entries result
           → IfMade result (Files log new (session.session_entry x.session.space x.session.state input)) (IsSameLog log new)
           → IfMade result (counted_session.HasTaken x after_session input) (counted_session.IsSameSession x after_session)
-          → after.coordinator ≡ actors.coordinator → after.servers.items ≡ actors.servers.items → after.sessions.items ≡ set actors.sessions.items (u.0 - 1) after_session
+          → after.coordinator ≡ actors.coordinator → after.servers.items ≡ actors.servers.items
+          → after.sessions.items ≡ set actors.sessions.items (u.0 - 1) after_session
           → Came script log (Session u) input after new result
       came_to_session after_session after new (Ok true) may d files takes coordinator servers sessions =
           let g = attended after_session after new may files takes d coordinator servers sessions in

@@ -67,7 +67,8 @@ pub record IsQueue (script : Script) (trace : List Entry) (waiting : List PostId
   pub same : filter (can_receive script trace) waiting ≡ filter (can_receive script trace) (undelivered trace)
 
 -- what a world keeps, with its trace newest first
-pub record IsWorldOf (script : Script) (trace : List Entry) (servers : List CountedServer) (sessions : List CountedSession) (coordinator : CountedCoordinator) (waiting : List PostId) : Type 0 where
+pub record IsWorldOf (script : Script) (trace : List Entry) (servers : List CountedServer)
+    (sessions : List CountedSession) (coordinator : CountedCoordinator) (waiting : List PostId) : Type 0 where
   pub past : IsFewRun script trace
   pub servers_are : AreAt script.space.servers (IsServerAt script trace) servers
   pub sessions_are : AreAt (length script.sessions) (IsSessionAt script trace) sessions

@@ -7,5 +7,6 @@ use Rattle.hx_law_drivers.proofs.puts_are_posts.Goals as goal
 pub returns : goal.returns
 returns c = record {
   posts = λ script clock boxes w start now run trace t crew i n.
-      subst (λ l. ArePostsBy crew l (outs_at n crew.out.ports.items)) (sym t.trace_is) (puts_posted script clock boxes w start now run t.merged t.whole t.is crew i n);
+      subst (λ l. ArePostsBy crew l (outs_at n crew.out.ports.items)) (sym t.trace_is)
+      (puts_posted script clock boxes w start now run t.merged t.whole t.is crew i n);
 }

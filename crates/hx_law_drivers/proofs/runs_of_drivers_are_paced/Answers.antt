@@ -13,7 +13,8 @@ returns c = record {
   paced = λ script clock boxes w start now run trace t.
       subst (λ l. IsPaced script l (lost_by now) (doubled_by now)) (sym t.trace_is) (paced script clock boxes w start now run t.merged t.whole t.is);
   rested = λ script clock boxes w start now run rest trace t.
-      subst (λ l. IsPacedToEnd script l (lost_by now) (doubled_by now)) (sym t.trace_is) (paced_to_end script clock boxes w start now run t.merged t.whole t.is rest);
+      subst (λ l. IsPacedToEnd script l (lost_by now) (doubled_by now)) (sym t.trace_is)
+      (paced_to_end script clock boxes w start now run t.merged t.whole t.is rest);
   ended = λ script clock boxes w start now run ended trace t k known.
       subst (λ l. IsSome (note_of_end k l)) (sym t.trace_is) (calls_end script clock boxes w start now run t.merged t.whole t.is ended k known);
 }

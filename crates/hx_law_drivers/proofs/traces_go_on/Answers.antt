@@ -10,7 +10,8 @@ use Rattle.hx_law_drivers.proofs.traces_go_on.Goals as goal
 pub returns : goal.returns
 returns c = record {
   more = λ script clock boxes w start now run d i retry more trace t.
-      subst (λ l. (x : Entry) × MayComeNext script l d x × ((retry ≡ true → IsDue run.cuts d) → IsPaced script (x ∷ l) (lost_by now) (doubled_by now))) (sym t.trace_is)
+      subst (λ l. (x : Entry) × MayComeNext script l d x
+      × ((retry ≡ true → IsDue run.cuts d) → IsPaced script (x ∷ l) (lost_by now) (doubled_by now))) (sym t.trace_is)
       (next_entry script clock boxes w start now run t.merged t.whole t.is d i retry more);
   worn = λ script clock boxes w start now run crew i a e. worn_due script clock boxes w start run.cuts now run.calm run.course crew i a e;
 }

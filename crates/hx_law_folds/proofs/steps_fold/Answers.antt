@@ -3,4 +3,9 @@ use Rattle.hx_law_folds.proofs.Steps.{ack-folds, adopted-folds, call-folds, resu
 use Rattle.hx_law_folds.proofs.steps_fold.Goals as goal
 
 pub returns : goal.returns
-returns c = record { updates = update-folds; acks = ack-folds; calls = call-folds; adopting = λ context s h. (resumed-posts-fold context s h, adopted-folds context s h) }
+returns c = record {
+  updates = update-folds;
+  acks = ack-folds;
+  calls = call-folds;
+  adopting = λ context s h. (resumed-posts-fold context s h, adopted-folds context s h);
+}

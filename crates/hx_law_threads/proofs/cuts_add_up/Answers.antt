@@ -5,4 +5,11 @@ use Rattle.hx_law_threads.proofs.Weights.{named_once, open_counted, posts_weigh}
 use Rattle.hx_law_threads.proofs.cuts_add_up.Goals as goal
 
 pub returns : goal.returns
-returns c = record { parts = read_in_parts; cuts = a_total.cuts_add_up; traces = whole_adds_up; posts = posts_weigh; few_open = open_counted; names = named_once }
+returns c = record {
+  parts = read_in_parts;
+  cuts = a_total.cuts_add_up;
+  traces = whole_adds_up;
+  posts = posts_weigh;
+  few_open = open_counted;
+  names = named_once;
+}

@@ -12,7 +12,9 @@ add-requires-clause-others g c =
 pub add-requires-2-clause-others : goal.add-requires-2-clause-others
 add-requires-2-clause-others g c =
     let same = c.copy.ensures ∙ sym c.copy-2.ensures in
-    subst (λ (rows : ℕ → Option Row). IsIndexOf rows c.add.new.self) (ap (λ (r : Row). rows_at (Some r ∷ None ∷ [])) same ∙ sym (second-comes (Some c.copy-2.result) (Some c.copy-3.result))) c.add.ensures.index
+    subst (λ (rows : ℕ → Option Row). IsIndexOf rows c.add.new.self)
+    (ap (λ (r : Row). rows_at (Some r ∷ None ∷ [])) same
+    ∙ sym (second-comes (Some c.copy-2.result) (Some c.copy-3.result))) c.add.ensures.index
 
 pub replace-requires-clause-index : goal.replace-requires-clause-index
 replace-requires-clause-index g c =
@@ -21,7 +23,9 @@ replace-requires-clause-index g c =
     let rows : ℕ → Option Row = rows_at (Some c.shared.result ∷ Some c.shared-other.result ∷ []) in
     let index : IsIndexOf (rows_with 0 (Some c.shared-old.result) rows) c.add-2.new.self =
     subst (λ (rows : ℕ → Option Row). IsIndexOf rows c.add-2.new.self)
-    ((λ k. rows_at (Some (first k) ∷ Some (second k) ∷ [])) ∙ sym (first-changes (Some c.shared-old.result) (Some c.shared-other.result) (Some c.shared.result))) c.add-2.ensures.index in
+    ((λ k. rows_at (Some (first k) ∷ Some (second k) ∷ []))
+    ∙ sym (first-changes (Some c.shared-old.result) (Some c.shared-other.result) (Some c.shared.result)))
+    c.add-2.ensures.index in
     subst (λ (old : Row). IsIndexOf (rows_with 0 (Some old) rows) c.add-2.new.self) (sym c.get.ensures) index
 
 pub run-run-requires-clause-attribute : goal.run-run-requires-clause-attribute
@@ -34,4 +38,5 @@ run-run-requires-clause-attribute g c =
 
 pub find-found-requires : goal.find-found-requires
 find-found-requires g c =
-    subst (λ (rows : ℕ → Option Row). IsIndexOf rows c.replace.new.self) (sym (c.run-run.ensures.rows ∙ ap (λ (v : ViewState). rows_at v.rows) c.new-view.ensures)) c.replace.ensures.index
+    subst (λ (rows : ℕ → Option Row). IsIndexOf rows c.replace.new.self)
+    (sym (c.run-run.ensures.rows ∙ ap (λ (v : ViewState). rows_at v.rows) c.new-view.ensures)) c.replace.ensures.index

@@ -17,4 +17,5 @@ pub returns-clause-space : goal.returns-clause-space
 returns-clause-space g c = IfOk-weaker c.start.result _ _ (λ server e. e ∙ c.by_key-space.ensures) c.start.ensures.space
 
 pub returns-clause-state : goal.returns-clause-state
-returns-clause-state g c = IfOk-weaker c.start.result _ _ (λ server e. e ∙ ap (λ (x : Space). server_at_start x first) c.by_key-space.ensures) c.start.ensures.state
+returns-clause-state g c = IfOk-weaker c.start.result _ _
+    (λ server e. e ∙ ap (λ (x : Space). server_at_start x first) c.by_key-space.ensures) c.start.ensures.state

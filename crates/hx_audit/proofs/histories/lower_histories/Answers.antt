@@ -9,12 +9,16 @@ use Rattle.hx_audit.proofs.histories.lower_histories.Goals as goal
 
 pub returns-clause-low : goal.returns-clause-low
 returns-clause-low c =
-    let up = parted (λ (h : HistoryLines). h.key) text_below same_text text_below-trans text_below-differs one_key None c.args.histories.now c.requires c.args.key.now in
-    let point = IsPartitionPoint-from_clause (λ (h : HistoryLines). text_below h.key c.args.key.now) _ _ c.partition_point.ensures.partitioned up (λ a r q k. search rules) in
+    let up = parted (λ (h : HistoryLines). h.key) text_below same_text text_below-trans text_below-differs one_key
+    None c.args.histories.now c.requires c.args.key.now in
+    let point = IsPartitionPoint-from_clause (λ (h : HistoryLines). text_below h.key c.args.key.now) _ _
+    c.partition_point.ensures.partitioned up (λ a r q k. search rules) in
     point.0
 
 pub returns-clause-high : goal.returns-clause-high
 returns-clause-high c =
-    let up = parted (λ (h : HistoryLines). h.key) text_below same_text text_below-trans text_below-differs one_key None c.args.histories.now c.requires c.args.key.now in
-    let point = IsPartitionPoint-from_clause (λ (h : HistoryLines). text_below h.key c.args.key.now) _ _ c.partition_point.ensures.partitioned up (λ a r q k. search rules) in
+    let up = parted (λ (h : HistoryLines). h.key) text_below same_text text_below-trans text_below-differs one_key
+    None c.args.histories.now c.requires c.args.key.now in
+    let point = IsPartitionPoint-from_clause (λ (h : HistoryLines). text_below h.key c.args.key.now) _ _
+    c.partition_point.ensures.partitioned up (λ a r q k. search rules) in
     point.1

@@ -8,11 +8,13 @@ first_in_call-requires-clause-stands c = c.loop-call.invariant.stand _ (in_here 
 
 pub returns-then-is_some : goal.returns-then-is_some
 returns-then-is_some c =
-    c.loop-call.invariant.walk _ (at_call c.args.clause c.args.block.now c.loop-call.line _ _ _ _ c.in-Some.ensures.cases.0 (sym c.is_some.ensures ∙ c.if-is_some.true) c.in_ok-broken.ensures)
+    c.loop-call.invariant.walk _ (at_call c.args.clause c.args.block.now c.loop-call.line _ _ _ _
+    c.in-Some.ensures.cases.0 (sym c.is_some.ensures ∙ c.if-is_some.true) c.in_ok-broken.ensures)
 
 pub loop-call-preserved : goal.loop-call-preserved
 loop-call-preserved c = record {
-  walk = λ r f. c.loop-call.invariant.walk r (past_call c.args.clause c.args.block.now c.loop-call.line _ _ _ _ _ r c.in-Some.ensures.cases.0 (sym c.is_some.ensures ∙ c.if-is_some.false) c.in_ok-broken.ensures c.in_ok-line.ensures f);
+  walk = λ r f. c.loop-call.invariant.walk r (past_call c.args.clause c.args.block.now c.loop-call.line _ _ _ _ _ r
+      c.in-Some.ensures.cases.0 (sym c.is_some.ensures ∙ c.if-is_some.false) c.in_ok-broken.ensures c.in_ok-line.ensures f);
   stand = λ call i. c.loop-call.invariant.stand call (in_later call _ _ _ c.in-Some.ensures.cases.0 i);
 }
 

@@ -8,8 +8,10 @@ use Rattle.hx_audit.proofs.lookups.call_of.Goals as goal
 
 pub returns-in-Some : goal.returns-in-Some
 returns-in-Some c =
-    c.line_at.ensures ∙ sym (found_at_place (λ (l : CallLine). same_caller l.caller c.args.caller) c.args.calls.now ∙ ap (λ o. when_some o None (slice_get c.args.calls.now)) (sym c.place_of.ensures ∙ c.in-Some.is))
+    c.line_at.ensures ∙ sym (found_at_place (λ (l : CallLine). same_caller l.caller c.args.caller) c.args.calls.now
+    ∙ ap (λ o. when_some o None (slice_get c.args.calls.now)) (sym c.place_of.ensures ∙ c.in-Some.is))
 
 pub returns-in-None : goal.returns-in-None
 returns-in-None c =
-    sym (found_at_place (λ (l : CallLine). same_caller l.caller c.args.caller) c.args.calls.now ∙ ap (λ o. when_some o None (slice_get c.args.calls.now)) (sym c.place_of.ensures ∙ c.in-None.is))
+    sym (found_at_place (λ (l : CallLine). same_caller l.caller c.args.caller) c.args.calls.now
+    ∙ ap (λ o. when_some o None (slice_get c.args.calls.now)) (sym c.place_of.ensures ∙ c.in-None.is))

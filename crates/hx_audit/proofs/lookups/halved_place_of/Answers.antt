@@ -8,8 +8,12 @@ use Rattle.hx_audit.proofs.lookups.halved_place_of.Goals as goal
 
 pub returns-then-is_call_of : goal.returns-then-is_call_of
 returns-then-is_call_of c =
-    sym (at_point (λ (l : CallLine). l.caller) caller_below same_caller caller_trans caller_differs one_caller None c.args.calls.now c.requires c.args.caller c.lower_calls-place.result c.lower_calls-place.ensures.low c.lower_calls-place.ensures.high true (sym c.is_call_of.ensures ∙ c.if-is_call_of.true))
+    sym (at_point (λ (l : CallLine). l.caller) caller_below same_caller caller_trans caller_differs one_caller None
+    c.args.calls.now c.requires c.args.caller c.lower_calls-place.result c.lower_calls-place.ensures.low
+    c.lower_calls-place.ensures.high true (sym c.is_call_of.ensures ∙ c.if-is_call_of.true))
 
 pub returns-else-is_call_of : goal.returns-else-is_call_of
 returns-else-is_call_of c =
-    sym (at_point (λ (l : CallLine). l.caller) caller_below same_caller caller_trans caller_differs one_caller None c.args.calls.now c.requires c.args.caller c.lower_calls-place.result c.lower_calls-place.ensures.low c.lower_calls-place.ensures.high false (sym c.is_call_of.ensures ∙ c.if-is_call_of.false))
+    sym (at_point (λ (l : CallLine). l.caller) caller_below same_caller caller_trans caller_differs one_caller None
+    c.args.calls.now c.requires c.args.caller c.lower_calls-place.result c.lower_calls-place.ensures.low
+    c.lower_calls-place.ensures.high false (sym c.is_call_of.ensures ∙ c.if-is_call_of.false))

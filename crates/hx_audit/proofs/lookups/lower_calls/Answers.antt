@@ -9,12 +9,16 @@ use Rattle.hx_audit.proofs.lookups.lower_calls.Goals as goal
 
 pub returns-clause-low : goal.returns-clause-low
 returns-clause-low c =
-    let up = parted (λ (l : CallLine). l.caller) caller_below same_caller caller_trans caller_differs one_caller None c.args.calls.now c.requires c.args.caller in
-    let point = IsPartitionPoint-from_clause (λ (l : CallLine). caller_below l.caller c.args.caller) _ _ c.partition_point.ensures.partitioned up (λ a r q k. search rules) in
+    let up = parted (λ (l : CallLine). l.caller) caller_below same_caller caller_trans caller_differs one_caller None
+    c.args.calls.now c.requires c.args.caller in
+    let point = IsPartitionPoint-from_clause (λ (l : CallLine). caller_below l.caller c.args.caller) _ _
+    c.partition_point.ensures.partitioned up (λ a r q k. search rules) in
     point.0
 
 pub returns-clause-high : goal.returns-clause-high
 returns-clause-high c =
-    let up = parted (λ (l : CallLine). l.caller) caller_below same_caller caller_trans caller_differs one_caller None c.args.calls.now c.requires c.args.caller in
-    let point = IsPartitionPoint-from_clause (λ (l : CallLine). caller_below l.caller c.args.caller) _ _ c.partition_point.ensures.partitioned up (λ a r q k. search rules) in
+    let up = parted (λ (l : CallLine). l.caller) caller_below same_caller caller_trans caller_differs one_caller None
+    c.args.calls.now c.requires c.args.caller in
+    let point = IsPartitionPoint-from_clause (λ (l : CallLine). caller_below l.caller c.args.caller) _ _
+    c.partition_point.ensures.partitioned up (λ a r q k. search rules) in
     point.1

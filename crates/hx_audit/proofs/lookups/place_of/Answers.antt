@@ -8,4 +8,5 @@ use Rattle.hx_audit.proofs.lookups.place_of.Goals as goal
 
 pub returns-then-is_call_of : goal.returns-then-is_call_of
 returns-then-is_call_of c =
-    sym (at_any (λ (l : CallLine). l.caller) caller_below same_caller caller_trans caller_differs one_caller None c.args.calls.now c.requires c.args.caller _ (sym c.is_call_of.ensures ∙ c.if-is_call_of.true))
+    sym (at_any (λ (l : CallLine). l.caller) caller_below same_caller caller_trans caller_differs one_caller None
+    c.args.calls.now c.requires c.args.caller _ (sym c.is_call_of.ensures ∙ c.if-is_call_of.true))

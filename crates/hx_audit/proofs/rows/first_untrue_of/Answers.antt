@@ -13,8 +13,10 @@ returns-then-not-is_row_of c =
     let at : slice_get c.args.rows.now c.loop-place.place ≡ Some c.get-row.result.now =
     item_at c.args.rows.now c.loop-place.place c.index-rows-place.result c.loop-place-test.true c.index-rows-place.is
     ∙ ap (λ (r : Row). Some r) (sym c.get-row.ensures) in (
-      λ h. (let t = c.is_row_of.ensures.1 (subst (λ (o : Option Row). IsRowOf (account_of c.args.block.now) (finished_view c.args.search.now) o c.get-row.result.now) (sym c.loop-place.invariant.above)
-          (holds_at c.args.rows.now (IsRowOf (account_of c.args.block.now) (finished_view c.args.search.now) (row_above c.args.rows.now c.loop-place.place)) c.loop-place.place c.get-row.result.now at h)) in
+      λ h. (let t = c.is_row_of.ensures.1 (subst (λ (o : Option Row). IsRowOf (account_of c.args.block.now)
+          (finished_view c.args.search.now) o c.get-row.result.now) (sym c.loop-place.invariant.above)
+          (holds_at c.args.rows.now (IsRowOf (account_of c.args.block.now) (finished_view c.args.search.now)
+          (row_above c.args.rows.now c.loop-place.place)) c.loop-place.place c.get-row.result.now at h)) in
           let f = c.if-not-is_row_of.true in absurd (cc)),
       c.loop-place.invariant.kept,
     )
@@ -26,8 +28,11 @@ loop-place-preserved c =
     ∙ ap (λ (r : Row). Some r) (sym c.get-row.ensures) in
     record {
       above = sym (row_after c.args.rows.now c.loop-place.place ∙ at);
-      kept = one_more c.args.rows.now (λ k. IsRowOf (account_of c.args.block.now) (finished_view c.args.search.now) (row_above c.args.rows.now k)) c.loop-place.place c.get-row.result.now at
-          (subst (λ (o : Option Row). IsRowOf (account_of c.args.block.now) (finished_view c.args.search.now) o c.get-row.result.now) c.loop-place.invariant.above (c.is_row_of.ensures.0 c.if-not-is_row_of.false))
+      kept = one_more c.args.rows.now (λ k. IsRowOf (account_of c.args.block.now) (finished_view c.args.search.now)
+          (row_above c.args.rows.now k)) c.loop-place.place c.get-row.result.now at
+          (subst (λ (o : Option Row). IsRowOf (account_of c.args.block.now)
+          (finished_view c.args.search.now) o c.get-row.result.now) c.loop-place.invariant.above
+          (c.is_row_of.ensures.0 c.if-not-is_row_of.false))
           c.loop-place.invariant.kept;
     }
 

@@ -10,7 +10,8 @@ loop-item-init c = cut_begun c.args.block.now (finished_view c.args.search.now) 
 pub returns-then-is_cut : goal.returns-then-is_cut
 returns-then-is_cut c =
     let yes = c.is_cut.ensures.0 c.if-is_cut.true in (
-      λ t. cut_here c.args.block.now (finished_view c.args.search.now) c.args.row.now c.args.items.now _ _ _ _ c.loop-item.invariant c.in-Some.ensures.cases.0 yes.0 yes.1,
+      λ t. cut_here c.args.block.now (finished_view c.args.search.now) c.args.row.now c.args.items.now _ _ _ _
+          c.loop-item.invariant c.in-Some.ensures.cases.0 yes.0 yes.1,
       λ h. refl,
     )
 
@@ -23,5 +24,6 @@ loop-item-preserved c =
 pub returns : goal.returns
 returns c = (
   λ t. absurd (false≢true t),
-  λ h. absurd (cut_end c.args.block.now (finished_view c.args.search.now) c.args.row.now c.args.items.now c.loop-item.rest.now c.loop-item.over c.loop-item.invariant (grind arith) h),
+  λ h. absurd (cut_end c.args.block.now (finished_view c.args.search.now) c.args.row.now c.args.items.now
+      c.loop-item.rest.now c.loop-item.over c.loop-item.invariant (grind arith) h),
 )

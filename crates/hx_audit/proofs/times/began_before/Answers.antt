@@ -4,4 +4,5 @@ use Rattle.hx_audit.proofs.Timing.{began_is}
 use Rattle.hx_audit.proofs.times.began_before.Goals as goal
 
 pub returns : goal.returns
-returns c = c.is_before.ensures ∙ ap (λ (o : Option ℕ). is_late o (Some c.args.time)) c.begin_of.ensures ∙ sym (began_is c.args.block.now c.args.caller c.args.time)
+returns c = c.is_before.ensures ∙ ap (λ (o : Option ℕ). is_late o (Some c.args.time)) c.begin_of.ensures
+    ∙ sym (began_is c.args.block.now c.args.caller c.args.time)

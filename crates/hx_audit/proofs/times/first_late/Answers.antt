@@ -14,7 +14,9 @@ returns-then-is_late c =
     let late : is_in_time (account_of c.args.block.now) (take c.loop-place.place c.args.items.now) c.index-items-place.result ≡ false =
     in_time_is c.args.block.now (take c.loop-place.place c.args.items.now) c.index-items-place.result c.loop-place.latest c.loop-place.invariant.latest
     ∙ ap not (ap (λ (o : Option ℕ). is_late o c.loop-place.latest) (sym c.end_of-end.ensures) ∙ sym c.is_late.ensures ∙ c.if-is_late.true) in (
-      λ h. false≢true (sym late ∙ holds_at c.args.items.now (λ (x : ItemLine). is_in_time (account_of c.args.block.now) (take c.loop-place.place c.args.items.now) x ≡ true) c.loop-place.place c.index-items-place.result at h),
+      λ h. false≢true (sym late ∙ holds_at c.args.items.now
+          (λ (x : ItemLine). is_in_time (account_of c.args.block.now) (take c.loop-place.place c.args.items.now) x
+          ≡ true) c.loop-place.place c.index-items-place.result at h),
       c.loop-place.invariant.in_time,
     )
 
@@ -25,8 +27,12 @@ loop-place-preserved c =
     in_time_is c.args.block.now (take c.loop-place.place c.args.items.now) c.index-items-place.result c.loop-place.latest c.loop-place.invariant.latest
     ∙ ap not (ap (λ (o : Option ℕ). is_late o c.loop-place.latest) (sym c.end_of-end.ensures) ∙ sym c.is_late.ensures ∙ c.if-is_late.false) in
     record {
-      in_time = one_more c.args.items.now (λ k (x : ItemLine). is_in_time (account_of c.args.block.now) (take k c.args.items.now) x ≡ true) c.loop-place.place c.index-items-place.result at timely c.loop-place.invariant.in_time;
-      latest = λ end. later_step c.args.block.now c.args.items.now c.loop-place.place c.index-items-place.result c.loop-place-test.true c.index-items-place.is c.loop-place.latest _ _ end c.begin_of.ensures c.later-latest.ensures (c.loop-place.invariant.latest end);
+      in_time = one_more c.args.items.now (λ k (x : ItemLine). is_in_time (account_of c.args.block.now)
+          (take k c.args.items.now) x ≡ true) c.loop-place.place c.index-items-place.result at timely
+          c.loop-place.invariant.in_time;
+      latest = λ end. later_step c.args.block.now c.args.items.now c.loop-place.place c.index-items-place.result
+          c.loop-place-test.true c.index-items-place.is c.loop-place.latest _ _ end c.begin_of.ensures
+          c.later-latest.ensures (c.loop-place.invariant.latest end);
     }
 
 pub returns : goal.returns

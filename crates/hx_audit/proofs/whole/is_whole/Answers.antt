@@ -9,8 +9,10 @@ pub returns-in-Some : goal.returns-in-Some
 returns-in-Some c =
     let e : search_told c.args.call.now ≡ Some (finished_view c.in-Some.search) = sym c.in-Some.ensures in
     λ block ordered latest. (
-      λ t. whole_told block c.args.call.now (finished_view c.in-Some.search) e (all_shown block (finished_view c.in-Some.search) c.args.histories.now latest (c.are_shown.ensures.0 t)),
-      λ h. c.are_shown.ensures.1 (shown_all block (finished_view c.in-Some.search) c.args.histories.now latest (told_whole block c.args.call.now (finished_view c.in-Some.search) ordered.histories e h)),
+      λ t. whole_told block c.args.call.now (finished_view c.in-Some.search) e
+          (all_shown block (finished_view c.in-Some.search) c.args.histories.now latest (c.are_shown.ensures.0 t)),
+      λ h. c.are_shown.ensures.1 (shown_all block (finished_view c.in-Some.search) c.args.histories.now latest
+          (told_whole block c.args.call.now (finished_view c.in-Some.search) ordered.histories e h)),
     )
 
 pub returns-in-None : goal.returns-in-None

@@ -17,7 +17,9 @@ loop-s-preserved c =
       exact =
           c.in_ok-add_between.ensures.exact
           ∙ ap (λ (others : List Place). others ++ map (place_for after.result touches) (crossed before.result after.result)) c.loop-s.invariant.exact
-          ∙ places_next a.map.now a.key.now (option_copied a.old) (option_copied a.new) touches a.places.now c.loop-s.s before.result after.result (omega arith) before.ensures after.ensures;
+          ∙ places_next a.map.now a.key.now (option_copied a.old)
+          (option_copied a.new) touches a.places.now c.loop-s.s before.result after.result
+          (omega arith) before.ensures after.ensures;
       after = c.in_ok-add_between.ensures.after;
       few = omega (arith, c.in_ok-add_between.ensures.few, c.loop-s.invariant.few);
     }

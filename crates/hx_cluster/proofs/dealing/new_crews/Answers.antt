@@ -14,12 +14,17 @@ loop-desks-preserved c =
       omega (arith, snoc-long _ _ _ c.in_ok-push.ensures.items, long, i.0),
       desks.1,
       outs.1,
-      crews-more c.args.setup.now.script.now c.args.setup.now.clock.now c.args.setup.now.boxes.now c.args.setup.now.workers c.args.setup.now.valid _ c.loop-desks.crews.items _ _ i.3 c.in_ok-push.ensures.items refl
-          (c.requires.outs.0 _ _ (second-place c.loop-desks.yielded c.in-Some.out _ _ _ i.0 outs.0)) (c.requires.desks.0 _ _ (first-place c.loop-desks.yielded c.in-Some.desks _ _ _ i.0 desks.0)) refl refl,
+      crews-more c.args.setup.now.script.now c.args.setup.now.clock.now c.args.setup.now.boxes.now
+          c.args.setup.now.workers c.args.setup.now.valid _ c.loop-desks.crews.items _ _ i.3 c.in_ok-push.ensures.items refl
+          (c.requires.outs.0 _ _ (second-place c.loop-desks.yielded c.in-Some.out _ _ _ i.0 outs.0))
+          (c.requires.desks.0 _ _ (first-place c.loop-desks.yielded c.in-Some.desks _ _ _ i.0 desks.0)) refl refl,
     )
 
 pub returns : goal.returns
 returns c =
     let i = c.loop-desks.invariant in
-    let done = both-ended c.loop-desks.yielded _ _ _ _ _ _ i.1 i.2 (sym c.loop-desks.desks-iterator.a.rest.ok.0) (sym c.loop-desks.desks-iterator.b.rest.ok.0) (c.requires.desks.1 ∙ sym c.requires.outs.1) (ended_of c.in-None.ensures.steps) in
-    crews-all c.args.setup.now.script.now c.args.setup.now.clock.now c.args.setup.now.boxes.now c.args.setup.now.workers c.loop-desks.crews.items i.3 (i.0 ∙ sym done ∙ c.requires.desks.1) c.args.setup.now.some
+    let done = both-ended c.loop-desks.yielded _ _ _ _ _ _ i.1 i.2 (sym c.loop-desks.desks-iterator.a.rest.ok.0)
+    (sym c.loop-desks.desks-iterator.b.rest.ok.0) (c.requires.desks.1 ∙ sym c.requires.outs.1)
+    (ended_of c.in-None.ensures.steps) in
+    crews-all c.args.setup.now.script.now c.args.setup.now.clock.now c.args.setup.now.boxes.now
+    c.args.setup.now.workers c.loop-desks.crews.items i.3 (i.0 ∙ sym done ∙ c.requires.desks.1) c.args.setup.now.some

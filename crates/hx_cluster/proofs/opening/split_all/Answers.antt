@@ -14,6 +14,8 @@ loop-driver-preserved g c =
     let n : c.loop-driver._driver ≡ 0 + length c.loop-driver.others.items = omega (arith, i.3) in (
       c.split.ensures.port,
       s.2 ∙ ap splitting i.1,
-      subst (AreOutPortsFrom 0 box) (sym c.in_ok-push.ensures.items) (out-snoc 0 box c.loop-driver.others.items c.in_ok-port.port i.2 (subst (λ k. IsOutPort k box c.in_ok-port.port) n o.0) o.1),
+      subst (AreOutPortsFrom 0 box) (sym c.in_ok-push.ensures.items)
+          (out-snoc 0 box c.loop-driver.others.items c.in_ok-port.port i.2
+          (subst (λ k. IsOutPort k box c.in_ok-port.port) n o.0) o.1),
       omega (arith, ap length c.in_ok-push.ensures.items, length-append c.loop-driver.others.items (c.in_ok-port.port ∷ []), i.3),
     )

@@ -28,7 +28,8 @@ loop-port-preserved c =
       append_assoc c.loop-port.yielded (c.in-Some.port ∷ []) _ ∙ all,
       λ boxes box h p.
           let o = out-at 0 box c.loop-port.yielded c.in-Some.port _ _ all p in
-          partly-more boxes box n outs c.index_mut.result.now c.add_port.new.out c.in-Some.port (i.3 boxes box h p) lt c.index_mut.ensures.value (subst (λ k. IsOutPort k box c.in-Some.port) z o.0) o.1
+          partly-more boxes box n outs c.index_mut.result.now c.add_port.new.out c.in-Some.port
+          (i.3 boxes box h p) lt c.index_mut.ensures.value (subst (λ k. IsOutPort k box c.in-Some.port) z o.0) o.1
           c.in_ok-add_port.ensures.index c.in_ok-add_port.ensures.ports.0 c.in_ok-add_port.ensures.ports.1,
     )
 
@@ -36,5 +37,7 @@ pub returns-clause-added : goal.returns-clause-added
 returns-clause-added c boxes box h p =
     let i = c.loop-port.invariant in
     let outs = c.loop-port.outs.items in
-    let done = none-left c.loop-port.yielded c.loop-port.port-iterator.rest.items c.args.others.items _ i.2 (sym c.loop-port.port-iterator.rest.ok.0) c.in-None.ensures.steps.0 in
-    at_each_map (IsPartly c.loop-port.driver boxes box) (IsNewOutbox (boxes ++ box ∷ [])) outs (i.3 boxes box h p) (λ j x lt q. q.more (omega (arith, lt, i.0, i.1, c.requires, done)))
+    let done = none-left c.loop-port.yielded c.loop-port.port-iterator.rest.items c.args.others.items _ i.2
+    (sym c.loop-port.port-iterator.rest.ok.0) c.in-None.ensures.steps.0 in
+    at_each_map (IsPartly c.loop-port.driver boxes box) (IsNewOutbox (boxes ++ box ∷ [])) outs (i.3 boxes box h p)
+    (λ j x lt q. q.more (omega (arith, lt, i.0, i.1, c.requires, done)))

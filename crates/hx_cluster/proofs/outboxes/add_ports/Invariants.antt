@@ -10,4 +10,5 @@ invariant-loop-port l =
     (length l.outs.items ≡ length l.initial.outs.items)
     × (l.driver ≡ length l.yielded)
     × (l.yielded ++ l.port-iterator.rest.items ≡ l.fn.others.items)
-    × ((boxes : List Boxed) (box : Boxed) → AtEach (IsNewOutbox boxes) l.initial.outs.items → AreOutPortsFrom 0 box l.fn.others.items → AtEach (IsPartly l.driver boxes box) l.outs.items)
+    × ((boxes : List Boxed) (box : Boxed) → AtEach (IsNewOutbox boxes) l.initial.outs.items
+    → AreOutPortsFrom 0 box l.fn.others.items → AtEach (IsPartly l.driver boxes box) l.outs.items)

@@ -7,6 +7,8 @@ use Rattle.hx_cluster.proofs.outboxes.new_outboxes.Goals as goal
 pub loop-index-preserved : goal.loop-index-preserved
 loop-index-preserved c =
     let i = c.loop-index.invariant in (
-      subst (AtEach (IsNewOutbox [])) (sym c.in_ok-push.ensures.items) (at_each_snoc (IsNewOutbox []) c.loop-index.outs.items _ i.0 (no-outbox _ _ (sym i.1) c.new.ensures.items c.new-in-loop-index.ensures.items)),
+      subst (AtEach (IsNewOutbox [])) (sym c.in_ok-push.ensures.items)
+          (at_each_snoc (IsNewOutbox []) c.loop-index.outs.items _ i.0
+          (no-outbox _ _ (sym i.1) c.new.ensures.items c.new-in-loop-index.ensures.items)),
       omega (arith, snoc-long _ _ _ c.in_ok-push.ensures.items, i.1),
     )

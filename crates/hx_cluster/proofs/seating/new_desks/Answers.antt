@@ -12,6 +12,7 @@ loop-driver-preserved c =
     let boxes = c.args.setup.now.boxes.now in
     let w = c.args.setup.now.workers in (
       subst (AtEach (λ i d. AreNewDesks script clock boxes w 0 i d.items)) (sym c.in_ok-push.ensures.items)
-          (at_each_snoc (λ i d. AreNewDesks script clock boxes w 0 i d.items) c.loop-driver.desks.items c.new.result i.0 (no-desks script clock boxes w _ c.new.result.items c.new.ensures.items)),
+          (at_each_snoc (λ i d. AreNewDesks script clock boxes w 0 i d.items) c.loop-driver.desks.items c.new.result
+          i.0 (no-desks script clock boxes w _ c.new.result.items c.new.ensures.items)),
       omega (arith, snoc-long _ _ _ c.in_ok-push.ensures.items, i.1),
     )

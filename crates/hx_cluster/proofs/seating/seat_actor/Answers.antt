@@ -24,5 +24,8 @@ returns-clause-dealt c h =
     let desks = c.args.desks.now.items in
     let lt : k % w < length desks = let a = mod-lt k {m = w} c.args.setup.now.some in omega (arith, a, c.requires.desks) in
     at_each_set (λ i d. AreNewDesks script clock boxes w k i d.items) (λ i d. AreNewDesks script clock boxes w (k + 1) i d.items) desks (k % w) _ h
-    (desks-more script clock boxes w k _ _ c.in_ok-desk.desk (at_each_read (λ i d. AreNewDesks script clock boxes w k i d.items) desks (k % w) c.index_mut.result.now h lt c.index_mut.ensures.value) c.in_ok-desk.ensures.desk (c.in_ok-desk.ensures.actor ∙ c.actor_at-actor.ensures) c.in_ok-push.ensures.items)
+    (desks-more script clock boxes w k _ _ c.in_ok-desk.desk
+    (at_each_read (λ i d. AreNewDesks script clock boxes w k i d.items) desks
+    (k % w) c.index_mut.result.now h lt c.index_mut.ensures.value) c.in_ok-desk.ensures.desk
+    (c.in_ok-desk.ensures.actor ∙ c.actor_at-actor.ensures) c.in_ok-push.ensures.items)
     (λ j x n q. desks-same script clock boxes w k j x.items n q)

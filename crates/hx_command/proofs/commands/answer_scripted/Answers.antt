@@ -16,9 +16,17 @@ returns-in-Several-clause-ends g c =
 
 pub returns-in-One-clause-risen : goal.returns-in-One-clause-risen
 returns-in-One-clause-risen g c =
-    subst (AreRisen (λ n s trace j t f b. HasRisen s n trace j t (tuned (tuning_of c.args.command) ((goal.Fate-dyn g (f.vtable, f.value)).state f.value)) ((goal.Fate-dyn g (b.vtable, b.value)).state b.value)) c.args.command.workers c.args.fates.items _ _ _) (sym c.in-One.is)
-    (one_risen (λ n s trace j t f b. HasRisen s n trace j t (tuned (tuning_of c.args.command) ((goal.Fate-dyn g (f.vtable, f.value)).state f.value)) ((goal.Fate-dyn g (b.vtable, b.value)).state b.value)) c.args.command.workers c.args.fates.items _ _ _ _ c.answer_run.ensures.risen)
+    subst (AreRisen (λ n s trace j t f b. HasRisen s n trace j t
+    (tuned (tuning_of c.args.command) ((goal.Fate-dyn g (f.vtable, f.value)).state f.value))
+    ((goal.Fate-dyn g (b.vtable, b.value)).state b.value)) c.args.command.workers c.args.fates.items _ _ _) (sym c.in-One.is)
+    (one_risen (λ n s trace j t f b. HasRisen s n trace j t
+    (tuned (tuning_of c.args.command) ((goal.Fate-dyn g (f.vtable, f.value)).state f.value))
+    ((goal.Fate-dyn g (b.vtable, b.value)).state b.value)) c.args.command.workers c.args.fates.items _ _ _ _
+    c.answer_run.ensures.risen)
 
 pub returns-in-Several-clause-risen : goal.returns-in-Several-clause-risen
 returns-in-Several-clause-risen g c =
-    subst (AreRisen (λ n s trace j t f b. HasRisen s n trace j t (tuned (tuning_of c.args.command) ((goal.Fate-dyn g (f.vtable, f.value)).state f.value)) ((goal.Fate-dyn g (b.vtable, b.value)).state b.value)) c.args.command.workers c.args.fates.items _ _ _) (sym c.in-Several.is) c.answer_spaces.ensures.risen
+    subst (AreRisen (λ n s trace j t f b. HasRisen s n trace j t
+    (tuned (tuning_of c.args.command) ((goal.Fate-dyn g (f.vtable, f.value)).state f.value))
+    ((goal.Fate-dyn g (b.vtable, b.value)).state b.value)) c.args.command.workers c.args.fates.items _ _ _)
+    (sym c.in-Several.is) c.answer_spaces.ensures.risen

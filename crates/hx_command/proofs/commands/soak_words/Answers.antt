@@ -10,4 +10,5 @@ returns-in-Ok-clause-risen g c trace first i f h t p q r =
 
 pub returns-in-Ok-clause-soaked : goal.returns-in-Ok-clause-soaked
 returns-in-Ok-clause-soaked g c still =
-    ended_well (IsSummed c.args.command) (IsWornOnThreads c.in-Ok.script c.args.command.workers) _ _ c.answer_soak.result.done.outcome c.answer_soak.ensures.ends still
+    ended_well (IsSummed c.args.command) (IsWornOnThreads c.in-Ok.script c.args.command.workers) _ _
+    c.answer_soak.result.done.outcome c.answer_soak.ensures.ends still

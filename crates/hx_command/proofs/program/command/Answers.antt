@@ -7,7 +7,9 @@ use Rattle.hx_command.proofs.program.command.Goals as goal
 
 pub returns-in-Some-Question-clause-shown : goal.returns-in-Some-Question-clause-shown
 returns-in-Some-Question-clause-shown g c question asks =
-    rw (same_question _ c.in-Some-Question.question question (says_request c.request_of.ensures.said c.in-Some-Question.is c.in-Some-Question.field-0-is) asks) (rw c.shown_text.ensures at c.show.ensures)
+    rw (same_question _ c.in-Some-Question.question question
+    (says_request c.request_of.ensures.said c.in-Some-Question.is c.in-Some-Question.field-0-is) asks)
+    (rw c.shown_text.ensures at c.show.ensures)
 
 pub returns-in-Some-Question-clause-told : goal.returns-in-Some-Question-clause-told
 returns-in-Some-Question-clause-told g c none =

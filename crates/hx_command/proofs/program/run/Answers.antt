@@ -52,7 +52,14 @@ returns-clause-told g c =
       c.match-words_of.outcome,
       c.status.ensures,
       elim c.match-words_of.branch [
-        | in-Ok w ↦ rw (w.source-is, w.sink-is, w.outcome-is) (inl (w.as_slice.result.now, record { asked = w.command-outcome.ensures.shown; called = w.command-outcome.ensures.told }))
+        | in-Ok w ↦ rw (w.source-is, w.sink-is, w.outcome-is)
+            (inl (
+              w.as_slice.result.now,
+              record {
+                asked = w.command-outcome.ensures.shown;
+                called = w.command-outcome.ensures.told;
+              },
+            ))
         | in-Err w ↦ rw (w.source-is, w.sink-is, w.outcome-is) (inr (w.in-Err.ensures, refl, refl))
       ],
       printed_by c.print_outcome-printed.result _ _ e.printed e.fault (λ no_room. ap g.E.Sink.held (e.memory no_room)),

@@ -12,4 +12,5 @@ returns-in-Some-clause-ends g c =
     let s = c.args.script.now in
     let w = c.args.command.workers in
     worn_handed (IsReported c.args.command s) (IsWornOnThreads s w) _ (handed_by r) _ c.in-Some.actor c.hand_worn.result.done.outcome
-    (of_one_run (λ (x : SpaceRun). IsThreaded s w x (Some c.in-Some.actor)) r (subst (λ o. IsThreaded s w r o) c.in-Some.is c.requires.threaded)) c.hand_worn.ensures.handed
+    (of_one_run (λ (x : SpaceRun). IsThreaded s w x (Some c.in-Some.actor)) r
+    (subst (λ o. IsThreaded s w r o) c.in-Some.is c.requires.threaded)) c.hand_worn.ensures.handed

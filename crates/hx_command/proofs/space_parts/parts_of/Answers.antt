@@ -20,24 +20,29 @@ loop-ran-preserved g c =
 pub returns-clause-traces : goal.returns-clause-traces
 returns-clause-traces g c =
     let i = c.loop-ran.invariant in
-    i.traces ∙ ap (map (λ r. r.trace)) (all_yielded c.loop-ran.yielded c.loop-ran.ran-iterator.rest.items c.args.runs.items _ i.all (sym c.loop-ran.ran-iterator.rest.ok.0) c.in-None.ensures.steps.0)
+    i.traces ∙ ap (map (λ r. r.trace)) (all_yielded c.loop-ran.yielded c.loop-ran.ran-iterator.rest.items
+    c.args.runs.items _ i.all (sym c.loop-ran.ran-iterator.rest.ok.0) c.in-None.ensures.steps.0)
 
 pub returns-clause-seats : goal.returns-clause-seats
 returns-clause-seats g c =
     let i = c.loop-ran.invariant in
-    i.seats ∙ ap (map (λ r. r.seat)) (all_yielded c.loop-ran.yielded c.loop-ran.ran-iterator.rest.items c.args.runs.items _ i.all (sym c.loop-ran.ran-iterator.rest.ok.0) c.in-None.ensures.steps.0)
+    i.seats ∙ ap (map (λ r. r.seat)) (all_yielded c.loop-ran.yielded c.loop-ran.ran-iterator.rest.items
+    c.args.runs.items _ i.all (sym c.loop-ran.ran-iterator.rest.ok.0) c.in-None.ensures.steps.0)
 
 pub returns-clause-totals : goal.returns-clause-totals
 returns-clause-totals g c =
     let i = c.loop-ran.invariant in
-    i.totals ∙ ap (map (λ r. r.totals.items)) (all_yielded c.loop-ran.yielded c.loop-ran.ran-iterator.rest.items c.args.runs.items _ i.all (sym c.loop-ran.ran-iterator.rest.ok.0) c.in-None.ensures.steps.0)
+    i.totals ∙ ap (map (λ r. r.totals.items)) (all_yielded c.loop-ran.yielded c.loop-ran.ran-iterator.rest.items
+    c.args.runs.items _ i.all (sym c.loop-ran.ran-iterator.rest.ok.0) c.in-None.ensures.steps.0)
 
 pub returns-clause-fates : goal.returns-clause-fates
 returns-clause-fates g c =
     let i = c.loop-ran.invariant in
-    i.fates ∙ ap (flat_map (λ r. r.fates.items)) (all_yielded c.loop-ran.yielded c.loop-ran.ran-iterator.rest.items c.args.runs.items _ i.all (sym c.loop-ran.ran-iterator.rest.ok.0) c.in-None.ensures.steps.0)
+    i.fates ∙ ap (flat_map (λ r. r.fates.items)) (all_yielded c.loop-ran.yielded c.loop-ran.ran-iterator.rest.items
+    c.args.runs.items _ i.all (sym c.loop-ran.ran-iterator.rest.ok.0) c.in-None.ensures.steps.0)
 
 pub returns-clause-ports : goal.returns-clause-ports
 returns-clause-ports g c =
     let i = c.loop-ran.invariant in
-    i.ports ∙ ap (flat_map (λ r. r.ports.items)) (all_yielded c.loop-ran.yielded c.loop-ran.ran-iterator.rest.items c.args.runs.items _ i.all (sym c.loop-ran.ran-iterator.rest.ok.0) c.in-None.ensures.steps.0)
+    i.ports ∙ ap (flat_map (λ r. r.ports.items)) (all_yielded c.loop-ran.yielded c.loop-ran.ran-iterator.rest.items
+    c.args.runs.items _ i.all (sym c.loop-ran.ran-iterator.rest.ok.0) c.in-None.ensures.steps.0)

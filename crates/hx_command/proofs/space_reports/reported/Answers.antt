@@ -14,10 +14,12 @@ use Rattle.hx_command.proofs.Spaced.{handed_back}
 use Rattle.hx_command.proofs.space_reports.reported.Goals as goal
 
 pub report_bundle-requires-clause-traced : goal.report_bundle-requires-clause-traced
-report_bundle-requires-clause-traced g c = ap length (c.as_slice.ensures ∙ c.in_ok-parts.ensures.traces) ∙ length-map c.args.runs.items (λ r. r.trace) ∙ c.requires.all
+report_bundle-requires-clause-traced g c = ap length (c.as_slice.ensures ∙ c.in_ok-parts.ensures.traces)
+    ∙ length-map c.args.runs.items (λ r. r.trace) ∙ c.requires.all
 
 pub report_bundle-requires-clause-driven : goal.report_bundle-requires-clause-driven
-report_bundle-requires-clause-driven g c = ap length (c.as_slice-2.ensures ∙ c.in_ok-parts.ensures.totals) ∙ length-map c.args.runs.items (λ r. r.totals.items) ∙ c.requires.all
+report_bundle-requires-clause-driven g c = ap length (c.as_slice-2.ensures ∙ c.in_ok-parts.ensures.totals)
+    ∙ length-map c.args.runs.items (λ r. r.totals.items) ∙ c.requires.all
 
 pub returns-clause-handed : goal.returns-clause-handed
 returns-clause-handed g c =
@@ -37,6 +39,8 @@ returns-clause-fates g c = ap (λ v. v.items) c.in_ok-threaded.ensures.fates ∙
 pub returns-clause-report : goal.returns-clause-report
 returns-clause-report g c =
     let p = c.in_ok-parts.ensures in
-    let traces = ap (map (λ (l : List Entry). reverse l)) (c.as_slice.ensures ∙ p.traces) ∙ map-map (λ (l : List Entry). reverse l) (λ r. r.trace) c.args.runs.items in
+    let traces = ap (map (λ (l : List Entry). reverse l)) (c.as_slice.ensures ∙ p.traces)
+    ∙ map-map (λ (l : List Entry). reverse l) (λ r. r.trace) c.args.runs.items in
     let totals = c.as_slice-2.ensures ∙ p.totals in
-    of_both (λ (a : List (List Entry)) (d : List (List Totals)). IsBundleReport c.args.bundle.now a d c.in_ok-bytes.bytes.items c.args.with_trace) _ _ _ _ traces totals c.in_ok-bytes.ensures
+    of_both (λ (a : List (List Entry)) (d : List (List Totals)). IsBundleReport c.args.bundle.now a d
+    c.in_ok-bytes.bytes.items c.args.with_trace) _ _ _ _ traces totals c.in_ok-bytes.ensures

@@ -12,7 +12,9 @@ returns-clause-handed g c =
     let p = c.in_ok-parts.ensures in
     let t = c.in_ok-threaded.ensures in
     handed_back space_run (λ r. r.fates.items) (λ r. refl {a = length r.fates.items}) c.args.bundle.now.spaces c.args.runs.items _ _ _ _ _ (record {
-      traces = t.traces ∙ empty_behind c.args.bundle.now.spaces _ (length c.args.runs.items) (map (λ r. r.trace) c.args.runs.items) _ _ p.traces (from_place _ _ _ _ c.as_slice.ensures (c.len-run.ensures ∙ c.args.runs.ok.0)) c.in_ok-add_empty.ensures;
+      traces = t.traces ∙ empty_behind c.args.bundle.now.spaces _ (length c.args.runs.items)
+          (map (λ r. r.trace) c.args.runs.items) _ _ p.traces
+          (from_place _ _ _ _ c.as_slice.ensures (c.len-run.ensures ∙ c.args.runs.ok.0)) c.in_ok-add_empty.ensures;
       seats = ap (λ v. v.items) t.seats ∙ p.seats;
       totals = t.totals ∙ ap (flat_map (λ l. l)) p.totals ∙ flat_map-map (λ l. l) (λ r. r.totals.items) c.args.runs.items;
       ports = ap (λ v. v.items) t.ports ∙ p.ports;

@@ -21,5 +21,6 @@ loop-taken-preserved g c =
     let left : c.remove.new.self.items ≡ remove fates 0 = c.remove.ensures.items in
     record {
       count = omega (arith, i.count, long, length-append first (x ∷ []));
-      split = ap (λ l. l ++ c.remove.new.self.items) pushed ∙ ap (λ l. (first ++ x ∷ []) ++ l) left ∙ first_taken first fates x c.args.fates.now.items some c.remove.ensures.value i.split;
+      split = ap (λ l. l ++ c.remove.new.self.items) pushed ∙ ap (λ l. (first ++ x ∷ []) ++ l) left
+          ∙ first_taken first fates x c.args.fates.now.items some c.remove.ensures.value i.split;
     }

@@ -33,7 +33,8 @@ returns-in-Some-Run-clause-empty g c unthreaded =
 
 pub returns-in-Some-Run-clause-run : goal.returns-in-Some-Run-clause-run
 returns-in-Some-Run-clause-run g c command says =
-    rw (same_run _ c.in-Some-Run.command command (says_request c.request_of.ensures.said c.in-Some-Run.is c.in-Some-Run.field-0-is) says) c.run_words.ensures.run
+    rw (same_run _ c.in-Some-Run.command command (says_request c.request_of.ensures.said c.in-Some-Run.is
+    c.in-Some-Run.field-0-is) says) c.run_words.ensures.run
 
 pub returns-in-Some-Run-clause-soak : goal.returns-in-Some-Run-clause-soak
 returns-in-Some-Run-clause-soak g c command says =
@@ -89,7 +90,9 @@ returns-in-Some-Soak-clause-decided g c command says =
 
 pub returns-in-Some-Soak-clause-soak : goal.returns-in-Some-Soak-clause-soak
 returns-in-Some-Soak-clause-soak g c command says =
-    rw (same_soak _ c.in-Some-Soak.command command (says_request c.request_of.ensures.said c.in-Some-Soak.is c.in-Some-Soak.field-0-is) says) (c.soak_words.ensures.soak, c.soak_words.ensures.risen)
+    rw (same_soak _ c.in-Some-Soak.command command
+    (says_request c.request_of.ensures.said c.in-Some-Soak.is c.in-Some-Soak.field-0-is) says)
+    (c.soak_words.ensures.soak, c.soak_words.ensures.risen)
 
 pub returns-in-Some-Soak-clause-share : goal.returns-in-Some-Soak-clause-share
 returns-in-Some-Soak-clause-share g c command says =

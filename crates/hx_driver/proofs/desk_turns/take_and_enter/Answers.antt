@@ -21,40 +21,61 @@ pub make_unless_worn-requires-clause-desk : goal.make_unless_worn-requires-claus
 make_unless_worn-requires-clause-desk g c =
     let w = c.requires.desk.0 in (
       w,
-      subst (λ (a : Actor). IsDeskOn c.args.floor.now w (told_by a c.in-Some.input) c.receive.new.desk) (sym c.receive.ensures.taken.actor) (c.in-Some.ensures.desk w [] c.requires.desk.1),
+      subst (λ (a : Actor). IsDeskOn c.args.floor.now w (told_by a c.in-Some.input) c.receive.new.desk)
+          (sym c.receive.ensures.taken.actor) (c.in-Some.ensures.desk w [] c.requires.desk.1),
     )
 
 pub make_unless_worn-requires-clause-running : goal.make_unless_worn-requires-clause-running
 make_unless_worn-requires-clause-running g c =
     let t = c.receive.ensures.taken in
-    at-same (λ (a : Actor) xs. has_halted c.args.floor.now.script.now (entries_before xs) a ≡ false) c.args.desk.now.actor c.receive.new.desk.actor c.args.desk.now.part.items c.receive.new.desk.part.items t.actor t.part c.requires.running
+    at-same (λ (a : Actor) xs. has_halted c.args.floor.now.script.now (entries_before xs) a ≡ false)
+    c.args.desk.now.actor c.receive.new.desk.actor c.args.desk.now.part.items c.receive.new.desk.part.items
+    t.actor t.part c.requires.running
 
 pub make_unless_worn-requires-clause-enough : goal.make_unless_worn-requires-clause-enough
 make_unless_worn-requires-clause-enough g c = taken-enough c.in-Some.input _ c.in-Some.ensures.given.1
 
 pub make_unless_worn-requires-clause-turns : goal.make_unless_worn-requires-clause-turns
 make_unless_worn-requires-clause-turns g c =
-    no-tick c.receive.new.desk.actor c.in-Some.input (made_of c.args.floor.now.script.now (entries_before c.receive.new.desk.part.items) c.receive.new.desk.actor c.in-Some.input) c.in-Some.ensures.given.1
+    no-tick c.receive.new.desk.actor c.in-Some.input
+    (made_of c.args.floor.now.script.now (entries_before c.receive.new.desk.part.items) c.receive.new.desk.actor
+    c.in-Some.input) c.in-Some.ensures.given.1
 
 pub make_unless_worn-requires-clause-room : goal.make_unless_worn-requires-clause-room
-make_unless_worn-requires-clause-room g c = room-same c.args.out.now c.args.desk.now c.receive.new.desk c.args.totals.now c.receive.ensures.taken.kept c.requires.room
+make_unless_worn-requires-clause-room g c = room-same c.args.out.now c.args.desk.now c.receive.new.desk
+    c.args.totals.now c.receive.ensures.taken.kept c.requires.room
 
 pub returns-in-Some-clause-desk : goal.returns-in-Some-clause-desk
 returns-in-Some-clause-desk g c =
     match-map _ _ _ _ c.make_unless_worn.result
-    (λ _ k w h. k w (subst (λ (a : Actor). IsDeskOn c.args.floor.now w (told_by a c.in-Some.input) c.receive.new.desk) (sym c.receive.ensures.taken.actor) (c.in-Some.ensures.desk w [] h)))
-    (λ _ k w h. broken-of _ _ _ w (told_by c.args.desk.now.actor c.in-Some.input) c.make_unless_worn.new.desk (k w (told_by c.args.desk.now.actor c.in-Some.input) (c.in-Some.ensures.desk w [] h))) c.make_unless_worn.ensures.desk
+    (λ _ k w h. k w (subst (λ (a : Actor). IsDeskOn c.args.floor.now w (told_by a c.in-Some.input) c.receive.new.desk)
+    (sym c.receive.ensures.taken.actor) (c.in-Some.ensures.desk w [] h)))
+    (λ _ k w h. broken-of _ _ _ w (told_by c.args.desk.now.actor c.in-Some.input) c.make_unless_worn.new.desk
+    (k w (told_by c.args.desk.now.actor c.in-Some.input) (c.in-Some.ensures.desk w [] h))) c.make_unless_worn.ensures.desk
 
 pub returns-in-Some-clause-turn : goal.returns-in-Some-clause-turn
 returns-in-Some-clause-turn g c =
     match-elim _ _ _ c.make_unless_worn.result
-    (λ _ k. (k.0 ∷ [], turn-taken c.args.floor.now.boxes.now c.args.desk.now c.receive.new.desk c.make_unless_worn.new.desk c.args.out.now c.make_unless_worn.new.out c.args.totals.now c.make_unless_worn.new.totals _ _ _ c.receive.ensures.taken c.requires.out c.requires.room.total k.2))
-    (λ _ k. ([], turn-taken c.args.floor.now.boxes.now c.args.desk.now c.receive.new.desk c.make_unless_worn.new.desk c.args.out.now c.make_unless_worn.new.out c.args.totals.now c.make_unless_worn.new.totals _ _ _ c.receive.ensures.taken c.requires.out c.requires.room.total k)) c.make_unless_worn.ensures.turn
+    (λ _ k. (
+      k.0 ∷ [],
+      turn-taken c.args.floor.now.boxes.now c.args.desk.now c.receive.new.desk
+          c.make_unless_worn.new.desk c.args.out.now c.make_unless_worn.new.out c.args.totals.now
+          c.make_unless_worn.new.totals _ _ _ c.receive.ensures.taken c.requires.out c.requires.room.total k.2,
+    ))
+    (λ _ k. (
+      [],
+      turn-taken c.args.floor.now.boxes.now c.args.desk.now c.receive.new.desk c.make_unless_worn.new.desk
+          c.args.out.now c.make_unless_worn.new.out c.args.totals.now c.make_unless_worn.new.totals _ _ _
+          c.receive.ensures.taken c.requires.out c.requires.room.total k,
+    )) c.make_unless_worn.ensures.turn
 
 pub returns-in-Some-clause-retries : goal.returns-in-Some-clause-retries
 returns-in-Some-clause-retries g c =
     no-retry-both c.args.desk.now c.receive.new.desk c.make_unless_worn.new.desk c.receive.ensures.taken.part
-    (match-elim _ _ _ c.make_unless_worn.result (λ _ k. no-retry-one c.receive.new.desk c.make_unless_worn.new.desk k.0 k.2.part (ap is_retry k.1 ∙ no-tick c.receive.new.desk.actor c.in-Some.input (made_of c.args.floor.now.script.now (entries_before c.receive.new.desk.part.items) c.receive.new.desk.actor c.in-Some.input) c.in-Some.ensures.given.1))
+    (match-elim _ _ _ c.make_unless_worn.result (λ _ k. no-retry-one c.receive.new.desk c.make_unless_worn.new.desk
+    k.0 k.2.part (ap is_retry k.1 ∙ no-tick c.receive.new.desk.actor c.in-Some.input
+    (made_of c.args.floor.now.script.now (entries_before c.receive.new.desk.part.items) c.receive.new.desk.actor
+    c.in-Some.input) c.in-Some.ensures.given.1))
     (λ _ k. no-retry-none c.receive.new.desk c.make_unless_worn.new.desk (k.part ∙ append-nil _)) c.make_unless_worn.ensures.turn)
 
 pub begin-requires-clause-desk : goal.begin-requires-clause-desk
@@ -63,18 +84,25 @@ begin-requires-clause-desk g c = (c.requires.desk.0, c.in-None.ensures.desk c.re
 pub begin-requires-clause-running : goal.begin-requires-clause-running
 begin-requires-clause-running g c =
     let t = c.receive.ensures.taken in
-    at-same (λ (a : Actor) xs. has_halted c.args.floor.now.script.now (entries_before xs) a ≡ false) c.args.desk.now.actor c.receive.new.desk.actor c.args.desk.now.part.items c.receive.new.desk.part.items t.actor t.part c.requires.running
+    at-same (λ (a : Actor) xs. has_halted c.args.floor.now.script.now (entries_before xs) a ≡ false)
+    c.args.desk.now.actor c.receive.new.desk.actor c.args.desk.now.part.items c.receive.new.desk.part.items
+    t.actor t.part c.requires.running
 
 pub begin-requires-clause-room : goal.begin-requires-clause-room
 begin-requires-clause-room g c = room-same c.args.out.now c.args.desk.now c.receive.new.desk c.args.totals.now c.receive.ensures.taken.kept c.requires.room
 
 pub returns-in-None-clause-desk : goal.returns-in-None-clause-desk
-returns-in-None-clause-desk g c = match-map _ _ _ _ c.begin.result (λ _ k w h. k w (c.in-None.ensures.desk w [] h)) (λ _ k w h. k w (c.in-None.ensures.desk w [] h)) c.begin.ensures.desk
+returns-in-None-clause-desk g c = match-map _ _ _ _ c.begin.result (λ _ k w h. k w (c.in-None.ensures.desk w [] h))
+    (λ _ k w h. k w (c.in-None.ensures.desk w [] h)) c.begin.ensures.desk
 
 pub returns-in-None-clause-turn : goal.returns-in-None-clause-turn
 returns-in-None-clause-turn g c =
-    let k = c.begin.ensures.turn in
-    (k.0, turn-taken c.args.floor.now.boxes.now c.args.desk.now c.receive.new.desk c.begin.new.desk c.args.out.now c.begin.new.out c.args.totals.now c.begin.new.totals _ _ _ c.receive.ensures.taken c.requires.out c.requires.room.total k.1)
+    let k = c.begin.ensures.turn in (
+      k.0,
+      turn-taken c.args.floor.now.boxes.now c.args.desk.now c.receive.new.desk c.begin.new.desk c.args.out.now
+          c.begin.new.out c.args.totals.now c.begin.new.totals _ _ _ c.receive.ensures.taken c.requires.out
+          c.requires.room.total k.1,
+    )
 
 pub returns-in-None-clause-retries : goal.returns-in-None-clause-retries
 returns-in-None-clause-retries g c = no-retry-both c.args.desk.now c.receive.new.desk c.begin.new.desk c.receive.ensures.taken.part c.begin.ensures.retries

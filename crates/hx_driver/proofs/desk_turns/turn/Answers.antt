@@ -16,11 +16,13 @@ returns-then-finds_nothing-clause-desk g c w h = subst (IsWholeDeskOn c.args.flo
 pub returns-then-finds_nothing-clause-turn : goal.returns-then-finds_nothing-clause-turn
 returns-then-finds_nothing-clause-turn g c = (
   [],
-  turn-still c.args.floor.now.boxes.now c.args.desk.now c.finds_nothing.new.desk c.args.out.now c.args.totals.now _ c.finds_nothing.ensures.same c.requires.out c.requires.room.total,
+  turn-still c.args.floor.now.boxes.now c.args.desk.now c.finds_nothing.new.desk c.args.out.now c.args.totals.now _
+      c.finds_nothing.ensures.same c.requires.out c.requires.room.total,
 )
 
 pub returns-then-finds_nothing-clause-retries : goal.returns-then-finds_nothing-clause-retries
-returns-then-finds_nothing-clause-retries g c = subst (HasNoRetry c.args.desk.now) (sym c.finds_nothing.ensures.same) (no-retry-none c.args.desk.now c.args.desk.now refl)
+returns-then-finds_nothing-clause-retries g c = subst (HasNoRetry c.args.desk.now) (sym c.finds_nothing.ensures.same)
+    (no-retry-none c.args.desk.now c.args.desk.now refl)
 
 pub busy_turn-requires-clause-desk : goal.busy_turn-requires-clause-desk
 busy_turn-requires-clause-desk g c =
@@ -40,7 +42,8 @@ pub returns-else-finds_nothing-clause-turn : goal.returns-else-finds_nothing-cla
 returns-else-finds_nothing-clause-turn g c =
     let k = c.busy_turn.ensures.turn in (
       k.0,
-      turn-from c.args.floor.now.boxes.now c.args.desk.now c.finds_nothing.new.desk c.busy_turn.new.desk c.args.out.now c.busy_turn.new.out c.args.totals.now c.busy_turn.new.totals _ _ k.0 c.finds_nothing.ensures.same k.1,
+      turn-from c.args.floor.now.boxes.now c.args.desk.now c.finds_nothing.new.desk c.busy_turn.new.desk
+          c.args.out.now c.busy_turn.new.out c.args.totals.now c.busy_turn.new.totals _ _ k.0 c.finds_nothing.ensures.same k.1,
     )
 
 pub returns-else-finds_nothing-clause-retries : goal.returns-else-finds_nothing-clause-retries

@@ -27,7 +27,12 @@ act_on-stamp-requires-clause-cause g c =
     next-meets c.args.floor.now.script.now d (entry_on d c.args.input) n
 
 pub act_on-stamp-requires-clause-own : goal.act_on-stamp-requires-clause-own
-act_on-stamp-requires-clause-own g c = (place_of c.args.floor.now.script.now.space c.args.desk.now.actor, c.args.desk.now.part.items, c.requires.desk.1.seat.1, c.requires.places.1)
+act_on-stamp-requires-clause-own g c = (
+  place_of c.args.floor.now.script.now.space c.args.desk.now.actor,
+  c.args.desk.now.part.items,
+  c.requires.desk.1.seat.1,
+  c.requires.places.1,
+)
 
 pub offer_all-requires-clause-made : goal.offer_all-requires-clause-made
 offer_all-requires-clause-made g c =
@@ -74,10 +79,13 @@ returns-clause-desk g c w h =
       exists = h.exists;
       seat = (
         ap (λ (s : Seated). s.clock) c.offer_all.ensures.seat ∙ c.act_on-stamp.ensures.clock,
-        subst (Owns c.offer_all.new.seat.view k) (sym is) (subst (λ (s : Seated). Owns s.view k (part ++ x ∷ [])) (sym c.offer_all.ensures.seat) (c.act_on-stamp.ensures.own k part h.seat.1)),
+        subst (Owns c.offer_all.new.seat.view k) (sym is)
+            (subst (λ (s : Seated). Owns s.view k (part ++ x ∷ [])) (sym c.offer_all.ensures.seat)
+            (c.act_on-stamp.ensures.own k part h.seat.1)),
       );
       machine = subst (λ xs. IsMachine script a (entries_in xs) c.make.new.self) past
-          (subst (λ y. IsMachine script a (y ∷ entries_before part) c.make.new.self) (sym n.step) (c.make.ensures script a (past_of part) c.args.input h.machine ready.takes ready.change));
+          (subst (λ y. IsMachine script a (y ∷ entries_before part) c.make.new.self) (sym n.step)
+          (c.make.ensures script a (past_of part) c.args.input h.machine ready.takes ready.change));
       own = subst (λ xs. IsOwn script a (entries_in xs)) past (next-own script d r h.own n);
       fed = subst (IsFed script) past (next-fed script d k c.act_on-stamp.result.0 r h.seat.1 c.act_on-stamp.ensures.later h.fed n);
       inbox = h.inbox;

@@ -23,10 +23,14 @@ make_entry-requires-clause-step g c =
     )
 
 pub make_entry-requires-clause-places : goal.make_entry-requires-clause-places
-make_entry-requires-clause-places g c = (c.in-Ok.ensures.places, subst (λ (xs : List Stamped). length xs < MOST_ENTRIES) (sym c.make_room.ensures.same.0.part) c.requires.fresh)
+make_entry-requires-clause-places g c = (
+  c.in-Ok.ensures.places,
+  subst (λ (xs : List Stamped). length xs < MOST_ENTRIES) (sym c.make_room.ensures.same.0.part) c.requires.fresh,
+)
 
 pub make_entry-requires-clause-room : goal.make_entry-requires-clause-room
-make_entry-requires-clause-room g c = room-same c.args.out.now c.args.desk.now c.make_room.new.desk c.args.totals.now c.make_room.ensures.same.0.kept c.requires.room
+make_entry-requires-clause-room g c = room-same c.args.out.now c.args.desk.now c.make_room.new.desk c.args.totals.now
+    c.make_room.ensures.same.0.kept c.requires.room
 
 pub returns-in-Ok-clause-desk : goal.returns-in-Ok-clause-desk
 returns-in-Ok-clause-desk g c w h =
@@ -38,8 +42,14 @@ returns-in-Ok-clause-desk g c w h =
 
 pub returns-in-Ok-clause-turn : goal.returns-in-Ok-clause-turn
 returns-in-Ok-clause-turn g c =
-    let t = c.make_entry.ensures.turn in
-    (t.0, made-same c.args.floor.now.script.now c.args.desk.now c.make_room.new.desk c.args.input t.0 c.make_room.ensures.same.0 t.1, turn-after c.args.floor.now.boxes.now c.args.desk.now c.make_room.new.desk c.make_entry.new.desk c.args.out.now c.make_entry.new.out c.args.totals.now c.make_entry.new.totals _ _ _ c.make_room.ensures.same.0 c.requires.out c.requires.room.total t.2)
+    let t = c.make_entry.ensures.turn in (
+      t.0,
+      made-same c.args.floor.now.script.now c.args.desk.now c.make_room.new.desk c.args.input t.0
+          c.make_room.ensures.same.0 t.1,
+      turn-after c.args.floor.now.boxes.now c.args.desk.now c.make_room.new.desk
+          c.make_entry.new.desk c.args.out.now c.make_entry.new.out c.args.totals.now c.make_entry.new.totals _ _ _
+          c.make_room.ensures.same.0 c.requires.out c.requires.room.total t.2,
+    )
 
 pub returns-in-Err-clause-desk : goal.returns-in-Err-clause-desk
 returns-in-Err-clause-desk g c w rest h =
@@ -47,4 +57,5 @@ returns-in-Err-clause-desk g c w rest h =
     desk-kept _ _ _ w rest c.args.desk.now c.make_room.new.desk s.0 s.1.machine h
 
 pub returns-in-Err-clause-turn : goal.returns-in-Err-clause-turn
-returns-in-Err-clause-turn g c = turn-same c.args.floor.now.boxes.now c.args.desk.now c.make_room.new.desk c.args.out.now c.args.totals.now _ c.make_room.ensures.same.0 c.requires.out c.requires.room.total
+returns-in-Err-clause-turn g c = turn-same c.args.floor.now.boxes.now c.args.desk.now c.make_room.new.desk
+    c.args.out.now c.args.totals.now _ c.make_room.ensures.same.0 c.requires.out c.requires.room.total

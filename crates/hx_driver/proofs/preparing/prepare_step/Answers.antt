@@ -11,8 +11,15 @@ use Rattle.hx_driver.proofs.preparing.prepare_step.Goals as goal
 pub step-requires : goal.step-requires
 step-requires g c =
     let h = c.requires.desk.2 in
-    let bound = c.now-drawn.ensures.bound in
-    (c.args.floor.now.script.now, c.args.desk.now.actor, past_of c.args.desk.now.part.items, h.machine, can-take c.args.floor.now.script.now c.args.floor.now.clock.now _ _ _ c.args.desk.now c.now-drawn.result c.args.input.now c.args.floor.now.valid h c.requires.running c.now-drawn.ensures.later (omega (arith, bound)) c.requires.given)
+    let bound = c.now-drawn.ensures.bound in (
+      c.args.floor.now.script.now,
+      c.args.desk.now.actor,
+      past_of c.args.desk.now.part.items,
+      h.machine,
+      can-take c.args.floor.now.script.now c.args.floor.now.clock.now _ _ _ c.args.desk.now c.now-drawn.result
+          c.args.input.now c.args.floor.now.valid h c.requires.running c.now-drawn.ensures.later
+          (omega (arith, bound)) c.requires.given,
+    )
 
 pub returns-clause-ready : goal.returns-clause-ready
 returns-clause-ready g c =
@@ -20,7 +27,8 @@ returns-clause-ready g c =
     let script = c.args.floor.now.script.now in
     let d = c.args.desk.now in
     let bound = c.now-drawn.ensures.bound in
-    let takes = can-take script c.args.floor.now.clock.now _ _ _ d c.now-drawn.result c.args.input.now c.args.floor.now.valid h c.requires.running c.now-drawn.ensures.later (omega (arith, bound)) c.requires.given in
+    let takes = can-take script c.args.floor.now.clock.now _ _ _ d c.now-drawn.result c.args.input.now
+    c.args.floor.now.valid h c.requires.running c.now-drawn.ensures.later (omega (arith, bound)) c.requires.given in
     let past = past_of d.part.items in
     let after : Desk = record {
       actor = d.actor;

@@ -29,7 +29,13 @@ loop-at-preserved g c =
 
 pub move_at-requires-clause-at : goal.move_at-requires-clause-at
 move_at-requires-clause-at g c =
-    grind (arith, both-length IsLater c.args.crew.now.desks.items c.loop-at.crew.desks.items c.loop-at.invariant.0.later.desks, c.loop-at-test.true, c.len-at-end.ensures)
+    grind (
+      arith,
+      both-length IsLater c.args.crew.now.desks.items c.loop-at.crew.desks.items
+          c.loop-at.invariant.0.later.desks,
+      c.loop-at-test.true,
+      c.len-at-end.ensures,
+    )
 
 pub returns-clause-retried : goal.returns-clause-retried
 returns-clause-retried g c =

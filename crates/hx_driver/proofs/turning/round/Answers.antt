@@ -21,4 +21,10 @@ loop-at-preserved g c =
 
 pub few_turns-worked-requires-clause-at : goal.few_turns-worked-requires-clause-at
 few_turns-worked-requires-clause-at g c =
-    grind (arith, both-length IsLater c.args.crew.now.desks.items c.loop-at.crew.desks.items c.loop-at.invariant.0.later.desks, c.loop-at-test.true, c.len-at-end.ensures)
+    grind (
+      arith,
+      both-length IsLater c.args.crew.now.desks.items c.loop-at.crew.desks.items
+          c.loop-at.invariant.0.later.desks,
+      c.loop-at-test.true,
+      c.len-at-end.ensures,
+    )

@@ -17,7 +17,8 @@ loop-round-preserved g c =
     )
 
 pub returns-then-is_over-clause-on : goal.returns-then-is_over-clause-on
-returns-then-is_over-clause-on g c = goes-trans _ _ _ c.args.crew.now c.loop-round.crew c.round-worked.new.crew _ _ _ c.loop-round.invariant.0 c.round-worked.ensures.on
+returns-then-is_over-clause-on g c = goes-trans _ _ _ c.args.crew.now c.loop-round.crew c.round-worked.new.crew _ _ _
+    c.loop-round.invariant.0 c.round-worked.ensures.on
 
 pub returns-then-is_over-clause-retries : goal.returns-then-is_over-clause-retries
 returns-then-is_over-clause-retries g c =

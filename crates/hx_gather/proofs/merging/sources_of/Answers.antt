@@ -9,5 +9,6 @@ new-requires c =
 
 pub loop-place-preserved : goal.loop-place-preserved
 loop-place-preserved c =
-    sources_more c.args.parts.now c.loop-place.place c.index-parts-place.result c.loop-place.sources.items c.push.new.self.items c.new.result c.in_ok-push.ensures.items c.loop-place.invariant
+    sources_more c.args.parts.now c.loop-place.place c.index-parts-place.result c.loop-place.sources.items
+    c.push.new.self.items c.new.result c.in_ok-push.ensures.items c.loop-place.invariant
     c.loop-place-test.true c.index-parts-place.is c.new.ensures

@@ -12,6 +12,7 @@ returns c =
     c.loop-key.invariant
     (
     are_histories c.args.script.now (λ g. g.items) trace c.args.events.now c.sort_keys.new.self.entries view
-    (λ (q : List ℕ). ap (λ found. option_map_or (λ g. g.items) found []) (c.in_ok-sort_keys.ensures.reordered.2 (record { ref_ptr = (0, 0); now = q })) ∙ c.in_ok-groups.ensures q)
+    (λ (q : List ℕ). ap (λ found. option_map_or (λ g. g.items) found [])
+    (c.in_ok-sort_keys.ensures.reordered.2 (record { ref_ptr = (0, 0); now = q })) ∙ c.in_ok-groups.ensures q)
     c.in_ok-sort_keys.ensures.sorted c.in_ok-sort_keys.ensures.unique
     )

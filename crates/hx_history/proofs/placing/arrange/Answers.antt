@@ -23,7 +23,9 @@ loop-place-preserved c =
     ∙ ap (λ object. map item_view c.push_write.new.items.items ++ map (item_on object) (map read_view c.deref-in-loop-place.result.now)) c.as_ref.ensures.value
     ∙ ap (λ (xs : List Item). xs ++ map (item_on u.now.object) (map read_view c.deref-in-loop-place.result.now))
     (c.in_ok-push_write.ensures ∙ ap (λ (xs : List Item). xs ++ write_item c.args.script.now u.now) c.loop-place.invariant)
-    ∙ ap (λ (ys : List Item). told c.args.script.now (map read_view c.args.reads.now) (version_in c.args.writes.now c.loop-place.place) (reverse (updates_at (take c.loop-place.place c.args.writes.now))) ++ write_item c.args.script.now u.now ++ ys)
+    ∙ ap (λ (ys : List Item). told c.args.script.now (map read_view c.args.reads.now)
+    (version_in c.args.writes.now c.loop-place.place)
+    (reverse (updates_at (take c.loop-place.place c.args.writes.now))) ++ write_item c.args.script.now u.now ++ ys)
     (
     ap (λ rs. map (item_on u.now.object) (map read_view rs)) c.deref-in-loop-place.ensures.value
     ∙ placed_after (λ reads. reads.items) c.in_ok-places.places.items c.args.writes.now c.args.reads.now c.loop-place.place c.index-in-loop-place.result.now u

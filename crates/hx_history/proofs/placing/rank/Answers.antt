@@ -9,11 +9,13 @@ use Rattle.hx_history.proofs.placing.rank.Goals as goal
 pub returns-clause-below : goal.returns-clause-below
 returns-clause-below c =
     let parted = IsPartitionedBy-leb version_at _ c.args.version c.requires in
-    let point = IsPartitionPoint-from_clause (λ (u : Bor Update). leb (version_at u) c.args.version) _ _ c.partition_point.ensures.partitioned parted (λ a r q k. search rules) in
+    let point = IsPartitionPoint-from_clause (λ (u : Bor Update). leb (version_at u) c.args.version) _ _
+    c.partition_point.ensures.partitioned parted (λ a r q k. search rules) in
     λ k d low high. leb-true _ _ (point.0 k d low high)
 
 pub returns-clause-above : goal.returns-clause-above
 returns-clause-above c =
     let parted = IsPartitionedBy-leb version_at _ c.args.version c.requires in
-    let point = IsPartitionPoint-from_clause (λ (u : Bor Update). leb (version_at u) c.args.version) _ _ c.partition_point.ensures.partitioned parted (λ a r q k. search rules) in
+    let point = IsPartitionPoint-from_clause (λ (u : Bor Update). leb (version_at u) c.args.version) _ _
+    c.partition_point.ensures.partitioned parted (λ a r q k. search rules) in
     λ k d low high. leb-false _ _ (point.1 k d low high)

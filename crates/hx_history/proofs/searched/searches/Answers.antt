@@ -9,7 +9,8 @@ use Rattle.hx_history.proofs.searched.searches.Goals as goal
 pub returns : goal.returns
 returns c =
     sym (append-nil c.loop-row.searches)
-    ∙ ap (λ rows. c.loop-row.searches ++ flat_map (λ row. flat_map (searches_in c.args.script.now) row.items) rows) (sym (drop_all c.loop-row.row-index c.deref-row-items.result.now c.loop-row-test.false))
+    ∙ ap (λ rows. c.loop-row.searches ++ flat_map (λ row. flat_map (searches_in c.args.script.now) row.items) rows)
+    (sym (drop_all c.loop-row.row-index c.deref-row-items.result.now c.loop-row-test.false))
     ∙ c.loop-row.invariant
     ∙ ap (flat_map (λ row. flat_map (searches_in c.args.script.now) row.items)) c.deref-row-items.ensures.value
     ∙ sym (flat_map-map (flat_map (searches_in c.args.script.now)) (λ row. row.items) c.in_ok-table.table.items)

@@ -31,7 +31,8 @@ loop-place-preserved c =
     elim c.match-noted.branch [
       | in-Some+in_ok-push_events w ↦
           let x : Entry = entry_seen w.in-Some.entry in
-          let read : x ≡ get_or c.args.trace.now c.loop-place.place x = noted_at c.args.trace.now c.loop-place.place x (ap (option_map entry_seen) (sym w.in-Some.is) ∙ c.noted.ensures) in
+          let read : x ≡ get_or c.args.trace.now c.loop-place.place x =
+          noted_at c.args.trace.now c.loop-place.place x (ap (option_map entry_seen) (sym w.in-Some.is) ∙ c.noted.ensures) in
           record {
             spans = λ caller. ap (λ (t : Vec (Vec CallNotes Global) Global). span_in (map (λ row. row.items) t.items) caller) w.table-is
                 ∙ w.take_entry.ensures.spans caller
@@ -59,7 +60,8 @@ loop-place-preserved c =
             events = ap (λ (es : Vec Event Global). map event_view es.items) w.events-is
                 ∙ c.loop-place.invariant.events
                 ∙ sym (append-nil (events_of c.args.script.now (take c.loop-place.place c.args.trace.now)))
-                ∙ ap (λ (ns : List Note). events_of c.args.script.now (take c.loop-place.place c.args.trace.now) ++ events_in c.args.script.now x.actor ns) (sym here.2)
+                ∙ ap (λ (ns : List Note). events_of c.args.script.now (take c.loop-place.place c.args.trace.now)
+                ++ events_in c.args.script.now x.actor ns) (sym here.2)
                 ∙ events_more c.args.script.now c.args.trace.now c.loop-place.place x within read;
             issued = subst (λ b. (b ≡ false) ↔ (issued_in (take (c.loop-place.place + 1) c.args.trace.now) ≡ [])) (sym w.issued-is)
                 (issued_as_before c.args.trace.now c.loop-place.place x within read here.2 _ c.loop-place.invariant.issued);

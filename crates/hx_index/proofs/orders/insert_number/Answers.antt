@@ -11,8 +11,10 @@ use Rattle.hx_index.proofs.orders.insert_number.Goals as goal
 pub place_of-place-requires : goal.place_of-place-requires
 place_of-place-requires c =
     let rows = rows_at c.args.rows.now in
-    subst (λ (r : ℕ → Option Row). IsStrictlySortedBy (compare_at r c.args.attribute) c.as_slice.result.now) (sym (with-own (rows_at c.args.rows.now) c.args.id (Some c.in-Some.row.now) (sym (c.in-Some.ensures {u = tt}))))
-    (subst (IsStrictlySortedBy (compare_at rows c.args.attribute)) (sym c.as_slice.ensures.value) (as-sorted rows c.args.attribute c.args.id c.args.order.now.items c.requires.others))
+    subst (λ (r : ℕ → Option Row). IsStrictlySortedBy (compare_at r c.args.attribute) c.as_slice.result.now)
+    (sym (with-own (rows_at c.args.rows.now) c.args.id (Some c.in-Some.row.now) (sym (c.in-Some.ensures {u = tt}))))
+    (subst (IsStrictlySortedBy (compare_at rows c.args.attribute)) (sym c.as_slice.ensures.value)
+    (as-sorted rows c.args.attribute c.args.id c.args.order.now.items c.requires.others))
 
 pub insert_within-requires-clause-place : goal.insert_within-requires-clause-place
 insert_within-requires-clause-place c =
@@ -25,12 +27,19 @@ pub returns-clause-order : goal.returns-clause-order
 returns-clause-order c =
     let rows = rows_at c.args.rows.now in
     let split = subst (IsSplit (stands_before rows c.args.attribute c.args.id) c.place_of-place.result) c.as_slice.ensures.value
-    (subst (λ (r : ℕ → Option Row). IsSplit (stands_before r c.args.attribute c.args.id) c.place_of-place.result c.as_slice.result.now) (with-own (rows_at c.args.rows.now) c.args.id (Some c.in-Some.row.now) (sym (c.in-Some.ensures {u = tt}))) c.place_of-place.ensures) in
-    subst (IsOrder rows c.args.attribute) (sym c.insert_within.ensures.items) (inserted rows c.args.attribute c.args.id c.args.order.now.items c.requires.others c.place_of-place.result c.requires.kept split)
+    (subst (λ (r : ℕ → Option Row). IsSplit (stands_before r c.args.attribute c.args.id) c.place_of-place.result
+    c.as_slice.result.now) (with-own (rows_at c.args.rows.now) c.args.id (Some c.in-Some.row.now)
+    (sym (c.in-Some.ensures {u = tt}))) c.place_of-place.ensures) in
+    subst (IsOrder rows c.args.attribute) (sym c.insert_within.ensures.items)
+    (inserted rows c.args.attribute c.args.id c.args.order.now.items c.requires.others c.place_of-place.result
+    c.requires.kept split)
 
 pub returns-clause-others : goal.returns-clause-others
 returns-clause-others c =
     let rows = rows_at c.args.rows.now in
     let split = subst (IsSplit (stands_before rows c.args.attribute c.args.id) c.place_of-place.result) c.as_slice.ensures.value
-    (subst (λ (r : ℕ → Option Row). IsSplit (stands_before r c.args.attribute c.args.id) c.place_of-place.result c.as_slice.result.now) (with-own (rows_at c.args.rows.now) c.args.id (Some c.in-Some.row.now) (sym (c.in-Some.ensures {u = tt}))) c.place_of-place.ensures) in
-    back-again rows c.args.attribute c.args.id c.args.order.now.items c.requires.others c.place_of-place.result split ∙ ap (without c.args.id) (sym c.insert_within.ensures.items)
+    (subst (λ (r : ℕ → Option Row). IsSplit (stands_before r c.args.attribute c.args.id) c.place_of-place.result
+    c.as_slice.result.now) (with-own (rows_at c.args.rows.now) c.args.id (Some c.in-Some.row.now)
+    (sym (c.in-Some.ensures {u = tt}))) c.place_of-place.ensures) in
+    back-again rows c.args.attribute c.args.id c.args.order.now.items c.requires.others c.place_of-place.result split
+    ∙ ap (without c.args.id) (sym c.insert_within.ensures.items)

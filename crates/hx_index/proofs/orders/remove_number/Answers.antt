@@ -19,7 +19,9 @@ remove-requires c =
     let rows = rows_with c.args.id own (rows_at c.args.rows.now) in
     let kept = ap is_some (with-here (rows_at c.args.rows.now) c.args.id own) in
     let split = subst (IsSplit (stands_before rows c.args.attribute c.args.id) c.place_of-place.result) c.as_slice.ensures.value c.place_of-place.ensures in
-    let l : c.place_of-place.result < length c.args.order.now.items = within-at c.args.order.now.items c.place_of-place.result c.args.id (found rows c.args.attribute c.args.id c.args.order.now.items c.requires.order kept c.place_of-place.result split) in
+    let l : c.place_of-place.result < length c.args.order.now.items =
+    within-at c.args.order.now.items c.place_of-place.result c.args.id
+    (found rows c.args.attribute c.args.id c.args.order.now.items c.requires.order kept c.place_of-place.result split) in
     let s = c.as_slice.ensures.len in
     let v = ap length c.as_slice.ensures.value in
     omega (arith, l, s, v)
@@ -32,7 +34,8 @@ returns-clause-order c =
     let split = subst (IsSplit (stands_before rows c.args.attribute c.args.id) c.place_of-place.result) c.as_slice.ensures.value c.place_of-place.ensures in
     let is = c.remove.ensures.items ∙ removed-is rows c.args.attribute c.args.id c.args.order.now.items c.requires.order kept c.place_of-place.result split in
     subst (λ (r : ℕ → Option Row). IsOrder r c.args.attribute c.remove.new.self.items) (without-with (rows_at c.args.rows.now) c.args.id own)
-    (subst (IsOrder (rows_without c.args.id rows) c.args.attribute) (sym is) (removed rows c.args.attribute c.args.id c.args.order.now.items c.requires.order kept c.place_of-place.result split))
+    (subst (IsOrder (rows_without c.args.id rows) c.args.attribute) (sym is)
+    (removed rows c.args.attribute c.args.id c.args.order.now.items c.requires.order kept c.place_of-place.result split))
 
 pub returns-clause-others : goal.returns-clause-others
 returns-clause-others c =

@@ -5,4 +5,5 @@ use Rattle.hx_index.proofs.orders.replace_number.Goals as goal
 
 pub returns-then-stays-clause-order : goal.returns-then-stays-clause-order
 returns-then-stays-clause-order c =
-    stays-order (rows_at c.args.rows.now) c.args.id c.args.attribute (Some c.args.old.now) (c.stays.ensures c.if-stays.true) c.args.order.now.items c.requires.order
+    stays-order (rows_at c.args.rows.now) c.args.id c.args.attribute (Some c.args.old.now)
+    (c.stays.ensures c.if-stays.true) c.args.order.now.items c.requires.order

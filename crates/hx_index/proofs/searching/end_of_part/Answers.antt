@@ -14,7 +14,9 @@ loop-low-preserved-then-is_part g c =
     let middle = low + (high - low) / 2 in
     let less = c.loop-low-test.true in
     let id = slice_index_or c.args.order.now middle 0 in
-    let passes : test id ≡ true = ap (λ (r : ℕ → Option Row). is_part c.args.past (side_at r c.args.term.now id)) (sym c.loop-low.invariant.rows) ∙ ap (is_part c.args.past) (sym c.side-side.ensures.side) ∙ sym c.is_part.ensures ∙ c.if-is_part.true in
+    let passes : test id ≡ true = ap (λ (r : ℕ → Option Row). is_part c.args.past (side_at r c.args.term.now id))
+    (sym c.loop-low.invariant.rows) ∙ ap (is_part c.args.past) (sym c.side-side.ensures.side)
+    ∙ sym c.is_part.ensures ∙ c.if-is_part.true in
     let up = raised-least (g.L.Look.looks c.loop-low.look) in
     let most = raised-most (g.L.Look.looks c.loop-low.look) in
     let counts = c.side-side.ensures.looks in
@@ -23,7 +25,8 @@ loop-low-preserved-then-is_part g c =
     let half = half-digits (high - (middle + 1)) (high - low) (omega (arith, less)) (omega (arith, less)) in
     record {
       rows = c.side-side.ensures.rows ∙ c.loop-low.invariant.rows;
-      part = between-above test c.args.order.now (parted c.args.past c.args.term.now rows c.args.order.now c.requires.order.ascend) low high middle c.loop-low.invariant.part (omega arith) (omega (arith, less)) passes;
+      part = between-above test c.args.order.now (parted c.args.past c.args.term.now rows c.args.order.now
+          c.requires.order.ascend) low high middle c.loop-low.invariant.part (omega arith) (omega (arith, less)) passes;
       counted = omega (arith, up, counts, was);
       looks = omega (arith, most, counts, few, half);
     }
@@ -36,7 +39,9 @@ loop-low-preserved g c =
     let middle = low + (high - low) / 2 in
     let less = c.loop-low-test.true in
     let id = slice_index_or c.args.order.now middle 0 in
-    let fails : test id ≡ false = ap (λ (r : ℕ → Option Row). is_part c.args.past (side_at r c.args.term.now id)) (sym c.loop-low.invariant.rows) ∙ ap (is_part c.args.past) (sym c.side-side.ensures.side) ∙ sym c.is_part.ensures ∙ c.if-is_part.false in
+    let fails : test id ≡ false = ap (λ (r : ℕ → Option Row). is_part c.args.past (side_at r c.args.term.now id))
+    (sym c.loop-low.invariant.rows) ∙ ap (is_part c.args.past) (sym c.side-side.ensures.side)
+    ∙ sym c.is_part.ensures ∙ c.if-is_part.false in
     let up = raised-least (g.L.Look.looks c.loop-low.look) in
     let most = raised-most (g.L.Look.looks c.loop-low.look) in
     let counts = c.side-side.ensures.looks in
@@ -45,7 +50,8 @@ loop-low-preserved g c =
     let half = half-digits (middle - low) (high - low) (omega (arith, less)) (omega (arith, less)) in
     record {
       rows = c.side-side.ensures.rows ∙ c.loop-low.invariant.rows;
-      part = between-below test c.args.order.now (parted c.args.past c.args.term.now rows c.args.order.now c.requires.order.ascend) low high middle c.loop-low.invariant.part (omega arith) (omega (arith, less)) fails;
+      part = between-below test c.args.order.now (parted c.args.past c.args.term.now rows c.args.order.now
+          c.requires.order.ascend) low high middle c.loop-low.invariant.part (omega arith) (omega (arith, less)) fails;
       counted = omega (arith, up, counts, was);
       looks = omega (arith, most, counts, few, half);
     }

@@ -17,4 +17,6 @@ pub returns-in-Equal : goal.returns-in-Equal
 returns-in-Equal c t =
     let one = c.args.one.now in let other = c.args.other.now in
     rows-equal c.args.attribute one other c.requires
-    ((λ k. option_cmp compare_values ((value-above c.args.attribute one c.if-attribute-eq0.false ∙ sym c.get.ensures) k) ((value-above c.args.attribute other c.if-attribute-eq0.false ∙ sym c.get-2.ensures) k)) ∙ sym c.compare_found.ensures ∙ c.in-Equal.is)
+    ((λ k. option_cmp compare_values ((value-above c.args.attribute one c.if-attribute-eq0.false ∙ sym c.get.ensures)
+    k) ((value-above c.args.attribute other c.if-attribute-eq0.false ∙ sym c.get-2.ensures) k))
+    ∙ sym c.compare_found.ensures ∙ c.in-Equal.is)

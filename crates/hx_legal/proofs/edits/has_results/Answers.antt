@@ -13,7 +13,8 @@ pub returns-then-not-has_result : goal.returns-then-not-has_result
 returns-then-not-has_result c =
     let sets = results_of c.args.before.now c.args.edits.now in (
       λ h. cc,
-      λ e. absurd (not_written c.args.values.now c.args.before.now sets c.loop-place.place c.index-values-place.result c.loop-place-test.true c.index-values-place.is
+      λ e. absurd (not_written c.args.values.now c.args.before.now sets c.loop-place.place c.index-values-place.result
+          c.loop-place-test.true c.index-values-place.is
           (λ has. let no = c.if-not-has_result.ensures.1 has in cc) e),
     )
 

@@ -14,13 +14,15 @@ pub returns-then-not-has_value : goal.returns-then-not-has_value
 returns-then-not-has_value c =
     let object = unwrap_or (option_copied c.args.before) (defaults c.args.space.now) in (
       λ h. cc,
-      λ e. absurd (not_written c.args.values.now object c.args.sets.now c.loop-place.place c.index-values-place.result c.loop-place-test.true c.index-values-place.is
+      λ e. absurd (not_written c.args.values.now object c.args.sets.now c.loop-place.place c.index-values-place.result
+          c.loop-place-test.true c.index-values-place.is
           (λ has. let no = c.if-not-has_value.ensures.1 has in cc) e),
     )
 
 pub loop-place-preserved : goal.loop-place-preserved
 loop-place-preserved c =
-    places_more c.args.values.now (unwrap_or (option_copied c.args.before) (defaults c.args.space.now)) c.args.sets.now c.loop-place.place c.index-values-place.result
+    places_more c.args.values.now (unwrap_or (option_copied c.args.before) (defaults c.args.space.now))
+    c.args.sets.now c.loop-place.place c.index-values-place.result
     c.loop-place-test.true c.index-values-place.is (c.if-not-has_value.ensures.0 refl) c.loop-place.invariant
 
 pub returns : goal.returns

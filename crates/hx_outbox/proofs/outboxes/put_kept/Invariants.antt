@@ -9,5 +9,6 @@ invariant-loop-round g l =
     IsOutbox l.floor.boxes.now l.out
     × (l.out.index ≡ l.initial.out.index)
     × MorePut l.initial.out.ports.items l.out.ports.items
-    × ((h : Mailed → ℕ) → out_weight h l.out.ports.items + kept_weight h l.kept.items ≡ out_weight h l.initial.out.ports.items + kept_weight h l.initial.kept.items)
+    × ((h : Mailed → ℕ) → out_weight h l.out.ports.items + kept_weight h l.kept.items
+    ≡ out_weight h l.initial.out.ports.items + kept_weight h l.initial.kept.items)
     × AreGoodOn l.floor l.kept.items

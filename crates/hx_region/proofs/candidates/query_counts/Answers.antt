@@ -17,6 +17,11 @@ loop-s-preserved c =
 
 pub returns : goal.returns
 returns c =
-    let end : c.loop-s.s ≡ subspace_count c.args.map.now = (let e = c.subspaces-s-end.ensures in let l = c.loop-s.auto.s-end in omega (arith, e, l, c.loop-s-test.false)) in
+    let end : c.loop-s.s ≡ subspace_count c.args.map.now =
+    (let e = c.subspaces-s-end.ensures in let l = c.loop-s.auto.s-end in omega (arith, e, l, c.loop-s-test.false)) in
     let exact = c.loop-s.invariant ∙ ap (λ n. map (λ s. Some (query_size c.args.map.now c.args.terms.now s)) (below n)) end in
-    record { exact = exact; few = few_counts c.args.map.now c.args.terms.now c.loop-s.counts.items exact (let e = c.subspaces-s-end.ensures in let f = c.subspaces-s-end.type_inv in omega (arith, e, f)) }
+    record {
+      exact = exact;
+      few = few_counts c.args.map.now c.args.terms.now c.loop-s.counts.items exact
+          (let e = c.subspaces-s-end.ensures in let f = c.subspaces-s-end.type_inv in omega (arith, e, f));
+    }

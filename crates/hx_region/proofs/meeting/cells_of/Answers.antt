@@ -12,5 +12,6 @@ returns-in-Range c =
     let kind = kind_at c.args.space.now c.in-Range.attribute in
     let first : c.number_cell-first.result ≡ cell_of kind (a_value.Int c.in-Range.lo) axis.parts = search rules in
     let last : c.number_cell-last.result ≡ cell_of kind (a_value.Int c.in-Range.hi) axis.parts = search rules in
-    range_allows c.args.space.now axis c.in-Range.attribute c.in-Range.lo c.in-Range.hi c.args.term.now c.number_cell-first.result c.number_cell-last.result c.between.result
+    range_allows c.args.space.now axis c.in-Range.attribute c.in-Range.lo c.in-Range.hi c.args.term.now
+    c.number_cell-first.result c.number_cell-last.result c.between.result
     c.if-attribute-axis-2.true c.in-Range.is first last c.between.ensures

@@ -7,28 +7,41 @@ use Rattle.hx_replay.proofs.alone.hyperstore_alone.Goals as goal
 
 -- ---- a command
 pub returns-in-Some-Command-clause-fine : goal.returns-in-Some-Command-clause-fine
-returns-in-Some-Command-clause-fine g c is = inr (c.answer_command.ensures.fine _ (says_request c.request_of.ensures.said c.in-Some-Command.is c.in-Some-Command.field-0-is) is)
+returns-in-Some-Command-clause-fine g c is = inr
+    (c.answer_command.ensures.fine _ (says_request c.request_of.ensures.said c.in-Some-Command.is
+    c.in-Some-Command.field-0-is) is)
 
 pub returns-in-Some-Command-clause-audited : goal.returns-in-Some-Command-clause-audited
-returns-in-Some-Command-clause-audited g c audit = absurd (not_both _ _ (says_request c.request_of.ensures.said c.in-Some-Command.is c.in-Some-Command.field-0-is) audit)
+returns-in-Some-Command-clause-audited g c audit =
+    absurd (not_both _ _ (says_request c.request_of.ensures.said c.in-Some-Command.is c.in-Some-Command.field-0-is) audit)
 
 pub returns-in-Some-Command-clause-audit_decided : goal.returns-in-Some-Command-clause-audit_decided
-returns-in-Some-Command-clause-audit_decided g c audit = absurd (not_both _ _ (says_request c.request_of.ensures.said c.in-Some-Command.is c.in-Some-Command.field-0-is) audit)
+returns-in-Some-Command-clause-audit_decided g c audit =
+    absurd (not_both _ _ (says_request c.request_of.ensures.said c.in-Some-Command.is c.in-Some-Command.field-0-is) audit)
 
 pub returns-in-Some-Command-clause-audit_traces : goal.returns-in-Some-Command-clause-audit_traces
-returns-in-Some-Command-clause-audit_traces g c audit = absurd (not_both _ _ (says_request c.request_of.ensures.said c.in-Some-Command.is c.in-Some-Command.field-0-is) audit)
+returns-in-Some-Command-clause-audit_traces g c audit =
+    absurd (not_both _ _ (says_request c.request_of.ensures.said c.in-Some-Command.is c.in-Some-Command.field-0-is) audit)
 
 pub returns-in-Some-Command-clause-usage : goal.returns-in-Some-Command-clause-usage
-returns-in-Some-Command-clause-usage g c = (λ usage. absurd (c.answer_command.ensures.usage usage), λ none. absurd (none.0 _ (says_request c.request_of.ensures.said c.in-Some-Command.is c.in-Some-Command.field-0-is)))
+returns-in-Some-Command-clause-usage g c = (
+  λ usage. absurd (c.answer_command.ensures.usage usage),
+  λ none. absurd (none.0 _ (says_request c.request_of.ensures.said c.in-Some-Command.is c.in-Some-Command.field-0-is)),
+)
 
 pub returns-in-Some-Command-clause-refused : goal.returns-in-Some-Command-clause-refused
-returns-in-Some-Command-clause-refused g c line reason is = inr (c.answer_command.ensures.refused _ (says_request c.request_of.ensures.said c.in-Some-Command.is c.in-Some-Command.field-0-is) line reason is)
+returns-in-Some-Command-clause-refused g c line reason is =
+    inr (c.answer_command.ensures.refused _ (says_request c.request_of.ensures.said c.in-Some-Command.is
+    c.in-Some-Command.field-0-is) line reason is)
 
 pub returns-in-Some-Command-clause-prefix : goal.returns-in-Some-Command-clause-prefix
-returns-in-Some-Command-clause-prefix g c is = inr (c.answer_command.ensures.prefix _ (says_request c.request_of.ensures.said c.in-Some-Command.is c.in-Some-Command.field-0-is) is)
+returns-in-Some-Command-clause-prefix g c is = inr
+    (c.answer_command.ensures.prefix _ (says_request c.request_of.ensures.said c.in-Some-Command.is
+    c.in-Some-Command.field-0-is) is)
 
 pub returns-in-Some-Command-clause-worn : goal.returns-in-Some-Command-clause-worn
-returns-in-Some-Command-clause-worn g c a is = c.answer_command.ensures.worn _ (says_request c.request_of.ensures.said c.in-Some-Command.is c.in-Some-Command.field-0-is) a is
+returns-in-Some-Command-clause-worn g c a is = c.answer_command.ensures.worn _
+    (says_request c.request_of.ensures.said c.in-Some-Command.is c.in-Some-Command.field-0-is) a is
 
 pub returns-in-Some-Command-clause-decided : goal.returns-in-Some-Command-clause-decided
 returns-in-Some-Command-clause-decided g c =
@@ -73,7 +86,9 @@ pub returns-in-Some-Audit-clause-worn : goal.returns-in-Some-Audit-clause-worn
 returns-in-Some-Audit-clause-worn g c a is = absurd (ends_at _ _ _ _ _ c.silent.ensures.outcome is c.audit_source.ensures.ends)
 
 pub returns-in-Some-Audit-clause-decided : goal.returns-in-Some-Audit-clause-decided
-returns-in-Some-Audit-clause-decided g c = none_decided _ _ _ _ (λ command says. not_both _ command says (says_request c.request_of.ensures.said c.in-Some-Audit.is c.in-Some-Audit.field-0-is))
+returns-in-Some-Audit-clause-decided g c = none_decided _ _ _ _
+    (λ command says. not_both _ command says (says_request c.request_of.ensures.said c.in-Some-Audit.is
+    c.in-Some-Audit.field-0-is))
 
 pub returns-in-Some-Audit-clause-untouched : goal.returns-in-Some-Audit-clause-untouched
 returns-in-Some-Audit-clause-untouched g c usage = absurd (ends_at _ _ _ _ _ c.silent.ensures.outcome usage c.audit_source.ensures.ends)

@@ -23,8 +23,10 @@ returns c =
     record {
       course = whole.0;
       is_whole = whole.1;
-      lawful = are_lawful laws c.args.bundle.now.spaces c.args.traces (recursion_from_All IsScript c.args.bundle.now.spaces c.requires.valid.scripts) whole.1.of_bundle.runs;
-      report_is = reported c.args.with_trace c.args.bundle.now c.as_slice-2.result.now c.args.traces c.as_slice-3.result.now c.in_ok-bytes.bytes.items c.as_slice-2.ensures
+      lawful = are_lawful laws c.args.bundle.now.spaces c.args.traces
+          (recursion_from_All IsScript c.args.bundle.now.spaces c.requires.valid.scripts) whole.1.of_bundle.runs;
+      report_is = reported c.args.with_trace c.args.bundle.now c.as_slice-2.result.now c.args.traces
+          c.as_slice-3.result.now c.in_ok-bytes.bytes.items c.as_slice-2.ensures
           (c.as_slice-3.ensures ∙ c.in_ok-totals.ensures ∙ ap (λ (s : List Script). no_totals_of s) c.as_slice.ensures) c.in_ok-bytes.ensures;
     }
 

@@ -37,7 +37,9 @@ returns-in-Ok-Refused-clause-usage g c usage = refused_is_not_usage c.refused.re
 pub returns-in-Ok-Refused-clause-refused : goal.returns-in-Ok-Refused-clause-refused
 returns-in-Ok-Refused-clause-refused g c words says line reason told =
     told_refused _ _ _ c.args.command c.in-Ok-Refused.field-0 _ _ c.refused.result.outcome _ line reason
-    says c.in-Ok-Refused.ensures.answer c.in-Ok-Refused.field-0-is (rw c.in-Ok-Refused.field-0-is at c.refused.ensures.traces) (rw c.in-Ok-Refused.field-0-is at c.refused.ensures.outcome) told
+    says c.in-Ok-Refused.ensures.answer c.in-Ok-Refused.field-0-is
+    (rw c.in-Ok-Refused.field-0-is at c.refused.ensures.traces)
+    (rw c.in-Ok-Refused.field-0-is at c.refused.ensures.outcome) told
 
 pub returns-in-Ok-Refused-clause-complete : goal.returns-in-Ok-Refused-clause-complete
 returns-in-Ok-Refused-clause-complete g c text left short taken source sink =
@@ -49,18 +51,21 @@ returns-in-Ok-Worn-clause-usage g c usage = worn_is_not_usage c.worn.result.outc
 pub returns-in-Ok-Worn-clause-worn : goal.returns-in-Ok-Worn-clause-worn
 returns-in-Ok-Worn-clause-worn g c words says a told =
     told_worn _ _ _ c.args.command c.in-Ok-Worn.field-0 _ _ c.worn.result.outcome _ a
-    says c.in-Ok-Worn.ensures.answer c.in-Ok-Worn.field-0-is (rw c.in-Ok-Worn.field-0-is at c.worn.ensures.traces) (rw c.in-Ok-Worn.field-0-is at c.worn.ensures.outcome) told
+    says c.in-Ok-Worn.ensures.answer c.in-Ok-Worn.field-0-is (rw c.in-Ok-Worn.field-0-is at c.worn.ensures.traces)
+    (rw c.in-Ok-Worn.field-0-is at c.worn.ensures.outcome) told
 
 pub returns-in-Err-clause-usage : goal.returns-in-Err-clause-usage
 returns-in-Err-clause-usage g c usage = cause_is_not_usage c.args.command _ _ _ _ c.in-Err.outcome c.in-Err.ensures.cause (sym c.silent.ensures.outcome ∙ usage)
 
 pub returns-in-Ok-Whole-clause-wears : goal.returns-in-Ok-Whole-clause-wears
 returns-in-Ok-Whole-clause-wears g c text traces a replays left short worn still =
-    let never : Fine ≡ Worn a = made_wears c.args.command text _ c.in-Ok-Whole.field-0 _ traces a left c.in-Ok-Whole.ensures.made c.in-Ok-Whole.field-0-is replays worn in absurd (cc)
+    let never : Fine ≡ Worn a = made_wears c.args.command text _ c.in-Ok-Whole.field-0 _ traces a left
+    c.in-Ok-Whole.ensures.made c.in-Ok-Whole.field-0-is replays worn in absurd (cc)
 
 pub returns-in-Ok-Refused-clause-wears : goal.returns-in-Ok-Refused-clause-wears
 returns-in-Ok-Refused-clause-wears g c text traces a replays left short worn still =
-    let never : Refused _ _ ≡ Worn a = made_wears c.args.command text _ c.in-Ok-Refused.field-0 _ traces a left c.in-Ok-Refused.ensures.made c.in-Ok-Refused.field-0-is replays worn in absurd (cc)
+    let never : Refused _ _ ≡ Worn a = made_wears c.args.command text _ c.in-Ok-Refused.field-0 _ traces a left
+    c.in-Ok-Refused.ensures.made c.in-Ok-Refused.field-0-is replays worn in absurd (cc)
 
 pub returns-in-Ok-Worn-clause-wears : goal.returns-in-Ok-Worn-clause-wears
 returns-in-Ok-Worn-clause-wears g c text traces a replays left short worn still =

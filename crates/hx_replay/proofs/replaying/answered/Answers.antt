@@ -16,7 +16,8 @@ returns c =
             linear = c.histories_are_linear.ensures c.args.script.now c.requires.valid (reverse c.args.trace) c.requires.whole.run;
             one_order = c.runs_have_one_order.ensures c.args.script.now c.requires.valid (reverse c.args.trace) c.requires.whole.run;
             searches = λ caller s found.
-                let well = c.searches_are_true_and_whole.ensures c.args.script.now c.requires.valid (reverse c.args.trace) c.requires.whole.run caller s found in
+                let well = c.searches_are_true_and_whole.ensures c.args.script.now c.requires.valid
+                (reverse c.args.trace) c.requires.whole.run caller s found in
                 record { true_rows = well.0; whole = well.1 };
             causes = c.answers_have_causes.ensures c.args.script.now c.requires.valid (reverse c.args.trace) c.requires.whole.run;
             lost = c.lost_regions_have_lost_their_replicas.ensures c.args.script.now c.requires.valid (reverse c.args.trace) c.requires.whole.run;

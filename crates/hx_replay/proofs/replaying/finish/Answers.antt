@@ -8,7 +8,8 @@ pub answered-requires-clause-whole : goal.answered-requires-clause-whole
 answered-requires-clause-whole c =
     whole_run c.args.script.now c.args.world c.drain.new.self c.leave.result 18446744073709551615
     c.requires.taken c.requires.script c.requires.stepped
-    (quietly c.args.world.script 18446744073709551615 (reverse c.args.world.trace) (reverse c.drain.new.self.trace) c.in-Ok-Quiet.field-0 c.in-Ok-Quiet.ensures.drained c.in-Ok-Quiet.field-0-is)
+    (quietly c.args.world.script 18446744073709551615 (reverse c.args.world.trace)
+    (reverse c.drain.new.self.trace) c.in-Ok-Quiet.field-0 c.in-Ok-Quiet.ensures.drained c.in-Ok-Quiet.field-0-is)
     c.leave.ensures.trace c.in-Ok-Quiet.ensures.script c.leave.ensures.run c.leave.ensures.few
 
 pub unreachable-requires : goal.unreachable-requires

@@ -11,7 +11,8 @@ invariant-steps l = record {
   script : l.world.script ≡ l.script;
   steps : AllByRecursion (λ (s : ℕ × Step). IsStepOf l.script s.1) l.rest;
   stop : stop_of l.script [] l.script.steps ≡ stop_of l.script (reverse l.world.trace) l.rest;
-  stepped_so_far : stepped l.script [] (map (λ (s : ℕ × Step). s.1) l.script.steps) ≡ stepped l.script (reverse l.world.trace) (map (λ (s : ℕ × Step). s.1) l.rest);
+  stepped_so_far : stepped l.script [] (map (λ (s : ℕ × Step). s.1) l.script.steps)
+      ≡ stepped l.script (reverse l.world.trace) (map (λ (s : ℕ × Step). s.1) l.rest);
 }
 
 abbrev pub decreases-steps : goal.decreases-steps

@@ -52,4 +52,5 @@ returns-else-is_settled-clause-posts c =
     let is = taken_alone context s c.args.update vs c.requires.coming.above c.requires.pending c.requires.early
     (record { placed = c.requires.coming.placed; few = c.requires.coming.few; above = omega (arith, low, high) }) in_turn ends in
     c.in_ok-post_update_at.ensures.posts
-    ∙ ap (λ (ps : List Post). old ++ ps) (sym (append-nil passed) ∙ sym (ap (λ t. passed ++ provided t (told_of context u)) (sym settled ∙ c.if-is_settled.false)) ∙ is.posts_are)
+    ∙ ap (λ (ps : List Post). old ++ ps) (sym (append-nil passed)
+    ∙ sym (ap (λ t. passed ++ provided t (told_of context u)) (sym settled ∙ c.if-is_settled.false)) ∙ is.posts_are)

@@ -10,6 +10,10 @@ pub loop-update-preserved : goal.loop-update-preserved
 loop-update-preserved c =
     let context = context_seen c.args.context.now in
     let at = at_item c.args.updates.now c.loop-update.update-index c.update-item.result c.loop-update-test.true c.update-item.is in (
-      flat_more (λ (b : Bor Update). passed_on context b.now) c.args.updates.now c.loop-update.update-index c.update-item.result c.loop-update.posts c.post_update.new.posts c.args.posts.now at c.loop-update.invariant.0 c.in_ok-post_update.ensures.posts,
-      flat_more (λ (b : Bor Update). tail_version context b.now) c.args.updates.now c.loop-update.update-index c.update-item.result c.loop-update.tail_versions.items c.post_update.new.tail_versions.items c.args.tail_versions.now.items at c.loop-update.invariant.1 c.in_ok-post_update.ensures.tail_versions,
+      flat_more (λ (b : Bor Update). passed_on context b.now) c.args.updates.now c.loop-update.update-index
+          c.update-item.result c.loop-update.posts c.post_update.new.posts c.args.posts.now at
+          c.loop-update.invariant.0 c.in_ok-post_update.ensures.posts,
+      flat_more (λ (b : Bor Update). tail_version context b.now) c.args.updates.now c.loop-update.update-index
+          c.update-item.result c.loop-update.tail_versions.items c.post_update.new.tail_versions.items
+          c.args.tail_versions.now.items at c.loop-update.invariant.1 c.in_ok-post_update.ensures.tail_versions,
     )

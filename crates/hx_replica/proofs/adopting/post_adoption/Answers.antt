@@ -17,9 +17,11 @@ loop-number-preserved c =
     let n = c.loop-number.number in
     elim c.if-lists.branch [
       | then-lists+in_ok-post_region w ↦
-          w.posts-is ∙ one_more space config c.args.server old c.args.posts.now n c.loop-number.posts w.post_region.new.posts c.loop-number.invariant (sym c.lists.ensures ∙ w.if-lists.true) w.in_ok-post_region.ensures
+          w.posts-is ∙ one_more space config c.args.server old c.args.posts.now n c.loop-number.posts
+          w.post_region.new.posts c.loop-number.invariant (sym c.lists.ensures ∙ w.if-lists.true) w.in_ok-post_region.ensures
       | else-lists w ↦
-          w.posts-is ∙ no_more space config c.args.server old c.args.posts.now n c.loop-number.posts c.loop-number.invariant (sym c.lists.ensures ∙ w.if-lists.false)
+          w.posts-is ∙ no_more space config c.args.server old c.args.posts.now n c.loop-number.posts
+          c.loop-number.invariant (sym c.lists.ensures ∙ w.if-lists.false)
     ]
 
 pub returns : goal.returns
@@ -28,4 +30,5 @@ returns c =
     let count = c.regions-number-end.ensures ∙ ap region_count c.requires.regions ∙ sym c.requires.count in
     let all : c.loop-number.number ≡ length config.regions = omega (arith, count, c.loop-number-test.false, c.loop-number.auto.number-end) in
     c.loop-number.invariant
-    ∙ ap (λ n. c.args.posts.now ++ flat_map (posts_at c.args.space.now config c.args.server (views_of c.args.replicas.now)) (passing (λ (g : RegionId). lists config g c.args.server) n)) all
+    ∙ ap (λ n. c.args.posts.now ++ flat_map (posts_at c.args.space.now config c.args.server
+    (views_of c.args.replicas.now)) (passing (λ (g : RegionId). lists config g c.args.server) n)) all

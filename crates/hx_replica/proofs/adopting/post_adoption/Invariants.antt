@@ -8,4 +8,5 @@ use Rattle.hx_replica.proofs.Starting.{passing}
 use Rattle.hx_replica.proofs.adopting.post_adoption.Given as goal
 
 abbrev pub invariant-loop-number : goal.invariant-loop-number
-invariant-loop-number l = l.posts ≡ l.fn.posts ++ flat_map (posts_at l.space l.config l.server (views_of l.replicas)) (passing (λ (g : RegionId). lists l.config g l.server) l.number)
+invariant-loop-number l = l.posts ≡ l.fn.posts ++ flat_map (posts_at l.space l.config l.server (views_of l.replicas))
+    (passing (λ (g : RegionId). lists l.config g l.server) l.number)

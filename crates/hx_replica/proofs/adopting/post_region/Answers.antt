@@ -8,16 +8,19 @@ use Rattle.hx_replica.proofs.adopting.post_region.Goals as goal
 
 pub post_replica-requires-clause-region : goal.post_replica-requires-clause-region
 post_replica-requires-clause-region c =
-    (there c.args.context.now.space.now c.args.replicas.now c.args.context.now.region c.in-Some.place c.index-replicas-place.result c.requires.replicas c.index-replicas-place.is c.in-Some.ensures).region
+    (there c.args.context.now.space.now c.args.replicas.now c.args.context.now.region c.in-Some.place
+    c.index-replicas-place.result c.requires.replicas c.index-replicas-place.is c.in-Some.ensures).region
 
 pub post_replica-requires-clause-is : goal.post_replica-requires-clause-is
 post_replica-requires-clause-is c =
-    (there c.args.context.now.space.now c.args.replicas.now c.args.context.now.region c.in-Some.place c.index-replicas-place.result c.requires.replicas c.index-replicas-place.is c.in-Some.ensures).is
+    (there c.args.context.now.space.now c.args.replicas.now c.args.context.now.region c.in-Some.place
+    c.index-replicas-place.result c.requires.replicas c.index-replicas-place.is c.in-Some.ensures).is
 
 pub returns-in-Some : goal.returns-in-Some
 returns-in-Some c =
     let context = c.args.context.now in
-    let t = there context.space.now c.args.replicas.now context.region c.in-Some.place c.index-replicas-place.result c.requires.replicas c.index-replicas-place.is c.in-Some.ensures in
+    let t = there context.space.now c.args.replicas.now context.region c.in-Some.place c.index-replicas-place.result
+    c.requires.replicas c.index-replicas-place.is c.in-Some.ensures in
     on_ok_weaker c.post_replica.result
     (λ e. e ∙ ap (λ (r : ReplicaState). c.args.posts.now ++ adopted_posts context.space.now (standing context.config.now context.server) r) (sym t.found))
     c.post_replica.ensures
@@ -29,4 +32,5 @@ returns-in-None c =
 
 pub post_replica-requires-clause-ordered : goal.post_replica-requires-clause-ordered
 post_replica-requires-clause-ordered c =
-    ordered_there c.args.replicas.now c.args.context.now.region c.in-Some.place c.index-replicas-place.result c.requires.ordered c.index-replicas-place.is c.in-Some.ensures
+    ordered_there c.args.replicas.now c.args.context.now.region c.in-Some.place c.index-replicas-place.result
+    c.requires.ordered c.index-replicas-place.is c.in-Some.ensures

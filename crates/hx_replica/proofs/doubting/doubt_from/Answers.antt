@@ -9,7 +9,8 @@ use Rattle.hx_replica.proofs.Walking.{drop_at, none_within}
 use Rattle.hx_replica.proofs.doubting.doubt_from.Goals as goal
 
 pub unreachable-requires : goal.unreachable-requires
-unreachable-requires c = none_within (pending_of c.args.slot.now.state) c.loop-i.i c.in-None.ensures.pending (omega (arith, c.loop-i-test.true, c.pending_count-i-end.ensures))
+unreachable-requires c = none_within (pending_of c.args.slot.now.state) c.loop-i.i c.in-None.ensures.pending
+    (omega (arith, c.loop-i-test.true, c.pending_count-i-end.ensures))
 
 pub loop-i-preserved : goal.loop-i-preserved
 loop-i-preserved c =

@@ -15,7 +15,9 @@ loop-update-preserved c =
     let i = c.loop-update.update-index in
     let us = c.args.updates.now in
     let before = c.loop-update.slot.state in
-    let at : slice_get us i ≡ Some u = subst (λ (l : List Update). slice_get l i ≡ Some u) c.as_slice-update-items.ensures (at_item c.as_slice-update-items.result.now i u c.loop-update-test.true c.update-item.is) in
+    let at : slice_get us i ≡ Some u = subst (λ (l : List Update). slice_get l i ≡ Some u)
+    c.as_slice-update-items.ensures (at_item c.as_slice-update-items.result.now i u c.loop-update-test.true
+    c.update-item.is) in
     record {
       region = c.in_ok-offer.ensures.region ∙ c.loop-update.invariant.region;
       state = one_offer g before c.offer.new.slot.state u (drop (i + 1) us) c.in_ok-offer.ensures.state

@@ -9,5 +9,7 @@ pub returns-in_ok-copy-in-None-clause-state : goal.returns-in_ok-copy-in-None-cl
 returns-in_ok-copy-in-None-clause-state c =
     let key = c.args.key.now in
     let b = is_key_region c.args.context.now.space.now c.args.context.now.region in
-    let empty : state_at c.args.store.now key ≡ new_state b key = no_slot c.args.store.now.keeps_marks key c.args.store.now.states (sym c.in-None.ensures.found) ∙ ap (λ (k : Bool). new_state k key) c.requires.marks in
+    let empty : state_at c.args.store.now key ≡ new_state b key =
+    no_slot c.args.store.now.keeps_marks key c.args.store.now.states (sym c.in-None.ensures.found)
+    ∙ ap (λ (k : Bool). new_state k key) c.requires.marks in
     c.new.ensures.state ∙ ap (new_state b) c.in_ok-copy-in-None.ensures ∙ sym (ap (moved Forget) empty)

@@ -13,12 +13,16 @@ mark_ends-requires-clause-number c =
 
 pub settle-requires-clause-number : goal.settle-requires-clause-number
 settle-requires-clause-number c =
-    let n = ap length c.mark_ends.ensures.states ∙ changed_length (λ (s : KeyState). moved_all (tail_acks (context_seen c.args.context.now) (pending_of s)) s) c.args.i c.reset_acks.new.store.states
+    let n = ap length c.mark_ends.ensures.states ∙ changed_length
+    (λ (s : KeyState). moved_all (tail_acks (context_seen c.args.context.now) (pending_of s)) s) c.args.i
+    c.reset_acks.new.store.states
     ∙ ap length c.reset_acks.ensures.states ∙ changed_length (moved Forget) c.args.i c.args.store.now.states in
     subst (λ m. c.args.i < m) (sym n) c.requires.number
 
 pub returns-then-active-clause-states : goal.returns-then-active-clause-states
 returns-then-active-clause-states c =
-    gone_on (context_seen c.args.context.now) c.mark_ends.new.store.region c.args.i c.args.store.now.states c.reset_acks.new.store.states c.mark_ends.new.store.states c.settle.new.store.states
-    (c.mark_ends.ensures.region ∙ c.reset_acks.ensures.region ∙ c.requires.region) c.reset_acks.ensures.states c.mark_ends.ensures.states c.settle.ensures.states
+    gone_on (context_seen c.args.context.now) c.mark_ends.new.store.region c.args.i c.args.store.now.states
+    c.reset_acks.new.store.states c.mark_ends.new.store.states c.settle.new.store.states
+    (c.mark_ends.ensures.region ∙ c.reset_acks.ensures.region ∙ c.requires.region) c.reset_acks.ensures.states
+    c.mark_ends.ensures.states c.settle.ensures.states
     ∙ ap (λ b. changed_at (lean_adopted (context_seen c.args.context.now) b) c.args.i c.args.store.now.states) (sym c.if-active.true)

@@ -8,7 +8,8 @@ use Rattle.hx_replica.proofs.keeping.adopt_slots.Goals as goal
 
 pub adopt_slot-requires-clause-number : goal.adopt_slot-requires-clause-number
 adopt_slot-requires-clause-number c =
-    let n = ap length c.loop-i.invariant.states ∙ upto_length (lean_adopted (context_seen c.args.context.now) c.args.active) c.loop-i.i c.args.store.now.states in
+    let n = ap length c.loop-i.invariant.states ∙ upto_length
+    (lean_adopted (context_seen c.args.context.now) c.args.active) c.loop-i.i c.args.store.now.states in
     let count = c.len-i-end.ensures.count ∙ ap length c.sort_order.ensures.states in
     omega (arith, n, c.loop-i-test.true, count)
 
@@ -34,4 +35,5 @@ loop-i-preserved c = record {
 pub returns-clause-states : goal.returns-clause-states
 returns-clause-states c =
     c.loop-i.invariant.states
-    ∙ all_changed (lean_adopted (context_seen c.args.context.now) c.args.active) c.loop-i.i c.args.store.now.states (let e = c.len-i-end.ensures.count ∙ ap length c.sort_order.ensures.states in omega (arith, e, c.loop-i-test.false))
+    ∙ all_changed (lean_adopted (context_seen c.args.context.now) c.args.active) c.loop-i.i c.args.store.now.states
+    (let e = c.len-i-end.ensures.count ∙ ap length c.sort_order.ensures.states in omega (arith, e, c.loop-i-test.false))

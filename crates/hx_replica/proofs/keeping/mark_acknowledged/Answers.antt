@@ -9,7 +9,9 @@ mark_acknowledged-requires-clause-pending c = pending_there c.args.store.now.sta
 pub returns-clause-states : goal.returns-clause-states
 returns-clause-states c =
     c.mark_acknowledged.ensures.states
-    ∙ step_at c.args.store.now c.place_at-place.result c.args.i (marked_at c.args.version.0) (λ t. refl) c.place_at-place.ensures.ascend c.place_at-place.ensures.slot
+    ∙ step_at c.args.store.now c.place_at-place.result c.args.i (marked_at c.args.version.0)
+    (λ t. refl) c.place_at-place.ensures.ascend c.place_at-place.ensures.slot
 
 pub returns-clause-ordered : goal.returns-clause-ordered
-returns-clause-ordered c = c.mark_acknowledged.ensures.ordered (slot_there c.args.store.now c.place_at-place.result c.args.i c.place_at-place.ensures.slot) ∙ c.requires.ordered
+returns-clause-ordered c = c.mark_acknowledged.ensures.ordered
+    (slot_there c.args.store.now c.place_at-place.result c.args.i c.place_at-place.ensures.slot) ∙ c.requires.ordered

@@ -6,7 +6,13 @@ use Rattle.hx_replica.proofs.Roomy.{kept_self, kept_twice}
 use Rattle.hx_replica.proofs.keeping.mark_ends.Goals as goal
 
 pub loop-k-init : goal.loop-k-init
-loop-k-init c = record { region = refl; marks = refl; states = sym (changed_not c.args.i c.args.store.now.states); rooms = kept_self c.args.store.now.rooms; ordered = c.requires.ordered }
+loop-k-init c = record {
+  region = refl;
+  marks = refl;
+  states = sym (changed_not c.args.i c.args.store.now.states);
+  rooms = kept_self c.args.store.now.rooms;
+  ordered = c.requires.ordered;
+}
 
 pub mark_end-requires-clause-number : goal.mark_end-requires-clause-number
 mark_end-requires-clause-number c =
@@ -18,7 +24,8 @@ loop-k-preserved c = record {
   region = c.mark_end.ensures.region ∙ c.loop-k.invariant.region;
   marks = c.mark_end.ensures.marks ∙ c.loop-k.invariant.marks;
   states = c.mark_end.ensures.states ∙ ap (changed_at (marked_end (context_seen c.args.context.now) c.loop-k.k) c.args.i) c.loop-k.invariant.states
-      ∙ one_marked (context_seen c.args.context.now) c.loop-k.k c.args.i c.args.store.now.states (subst (λ m. c.loop-k.k < m) c.pending_count-k-end.ensures c.loop-k-test.true);
+      ∙ one_marked (context_seen c.args.context.now) c.loop-k.k c.args.i c.args.store.now.states
+      (subst (λ m. c.loop-k.k < m) c.pending_count-k-end.ensures c.loop-k-test.true);
   rooms = kept_twice c.args.store.now.rooms c.loop-k.store.rooms c.mark_end.new.store.rooms c.loop-k.invariant.rooms c.mark_end.ensures.rooms;
   ordered = c.mark_end.ensures.ordered;
 }
@@ -26,4 +33,5 @@ loop-k-preserved c = record {
 pub returns-clause-states : goal.returns-clause-states
 returns-clause-states c =
     c.loop-k.invariant.states
-    ∙ all_marked_ends (context_seen c.args.context.now) c.loop-k.k c.args.i c.args.store.now.states (let e = c.pending_count-k-end.ensures in omega (arith, e, c.loop-k-test.false))
+    ∙ all_marked_ends (context_seen c.args.context.now) c.loop-k.k c.args.i c.args.store.now.states
+    (let e = c.pending_count-k-end.ensures in omega (arith, e, c.loop-k-test.false))

@@ -9,4 +9,5 @@ returns-clause-states c =
     ∙ step_at c.args.store.now c.place_at-place.result c.args.i forgotten_at (λ t. refl) c.place_at-place.ensures.ascend c.place_at-place.ensures.slot
 
 pub returns-clause-ordered : goal.returns-clause-ordered
-returns-clause-ordered c = c.reset_acks.ensures.ordered (slot_there c.args.store.now c.place_at-place.result c.args.i c.place_at-place.ensures.slot) ∙ c.requires.ordered
+returns-clause-ordered c = c.reset_acks.ensures.ordered
+    (slot_there c.args.store.now c.place_at-place.result c.args.i c.place_at-place.ensures.slot) ∙ c.requires.ordered

@@ -11,7 +11,9 @@ returns-then-same c =
     let x = c.index-other.result.now in
     let old = c.args.keys.now.items in
     let l : i < length old = omega (arith, c.loop-number-test.true, c.len-number-end.ensures, c.args.keys.now.ok) in
-    let at : slice_get (texts old) i ≡ Some x.now = texts_at old i x l (c.index-other.ensures ∙ ap (λ (bs : List (Bor (List ℕ))). get_or bs i x) c.loop-number.invariant.same) in
+    let at : slice_get (texts old) i ≡ Some x.now =
+    texts_at old i x l (c.index-other.ensures ∙ ap
+    (λ (bs : List (Bor (List ℕ))). get_or bs i x) c.loop-number.invariant.same) in
     ap texts c.loop-number.invariant.same ∙ is_there c.args.key.now (texts old) i x.now c.loop-number.invariant.gone at (c.same.ensures.same.0 c.if-same.true)
 
 pub returns-then-is_below : goal.returns-then-is_below
@@ -20,10 +22,14 @@ returns-then-is_below c =
     let x = c.index-other.result.now in
     let old = c.args.keys.now.items in
     let l : i < length old = omega (arith, c.loop-number-test.true, c.len-number-end.ensures, c.args.keys.now.ok) in
-    let at : slice_get (texts old) i ≡ Some x.now = texts_at old i x l (c.index-other.ensures ∙ ap (λ (bs : List (Bor (List ℕ))). get_or bs i x) c.loop-number.invariant.same) in
+    let at : slice_get (texts old) i ≡ Some x.now =
+    texts_at old i x l (c.index-other.ensures ∙ ap
+    (λ (bs : List (Bor (List ℕ))). get_or bs i x) c.loop-number.invariant.same) in
     ap texts (c.in_ok-insert.ensures.items ∙ ap (λ (bs : List (Bor (List ℕ))). insert bs i c.args.key) c.loop-number.invariant.same)
     ∙ texts_insert old i c.args.key
-    ∙ goes_here c.args.key.now (texts old) i x.now c.loop-number.invariant.gone at (differs c.args.key.now x.now (λ e. clash (sym (c.same.ensures.same.1 e) ∙ c.if-same.false))) (sym c.is_below.ensures ∙ c.if-is_below.true)
+    ∙ goes_here c.args.key.now (texts old) i x.now c.loop-number.invariant.gone at
+    (differs c.args.key.now x.now (λ e. clash (sym (c.same.ensures.same.1 e) ∙ c.if-same.false)))
+    (sym c.is_below.ensures ∙ c.if-is_below.true)
 
 pub loop-number-preserved : goal.loop-number-preserved
 loop-number-preserved c =
@@ -31,8 +37,12 @@ loop-number-preserved c =
     let x = c.index-other.result.now in
     let old = c.args.keys.now.items in
     let l : i < length old = omega (arith, c.loop-number-test.true, c.len-number-end.ensures, c.args.keys.now.ok) in
-    let at : slice_get (texts old) i ≡ Some x.now = texts_at old i x l (c.index-other.ensures ∙ ap (λ (bs : List (Bor (List ℕ))). get_or bs i x) c.loop-number.invariant.same) in
+    let at : slice_get (texts old) i ≡ Some x.now =
+    texts_at old i x l (c.index-other.ensures ∙ ap
+    (λ (bs : List (Bor (List ℕ))). get_or bs i x) c.loop-number.invariant.same) in
     record {
-      gone = goes_on c.args.key.now (texts old) i x.now c.loop-number.invariant.gone at (differs c.args.key.now x.now (λ e. clash (sym (c.same.ensures.same.1 e) ∙ c.if-same.false))) (sym c.is_below.ensures ∙ c.if-is_below.false);
+      gone = goes_on c.args.key.now (texts old) i x.now c.loop-number.invariant.gone at
+          (differs c.args.key.now x.now (λ e. clash (sym (c.same.ensures.same.1 e) ∙ c.if-same.false)))
+          (sym c.is_below.ensures ∙ c.if-is_below.false);
       same = c.loop-number.invariant.same;
     }

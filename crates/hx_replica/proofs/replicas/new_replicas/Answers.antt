@@ -12,8 +12,12 @@ pub loop-number-preserved : goal.loop-number-preserved
 loop-number-preserved c = elim c.if-lists.branch [
   | then-lists+in_ok-store+in_ok-push w ↦ ap (λ (v : Vec Replica Global). v.items) w.replicas-is
       ∙ w.in_ok-push.ensures.items
-      ∙ ap (λ (s : StoreState). c.loop-number.replicas.items ++ (record { region = record { 0 = c.loop-number.number }; installed = false; store = s }) ∷ []) w.in_ok-store.ensures
-      ∙ with_more (new_replica c.args.space.now) (λ (g : RegionId). lists c.args.config.now g c.args.server) c.loop-number.number c.loop-number.replicas.items c.loop-number.invariant (sym c.lists.ensures ∙ w.if-lists.true)
+      ∙ ap (λ (s : StoreState). c.loop-number.replicas.items
+      ++ (record { region = record { 0 = c.loop-number.number }; installed = false; store = s }) ∷ []) w.in_ok-store.ensures
+      ∙ with_more (new_replica c.args.space.now) (λ (g : RegionId). lists c.args.config.now g c.args.server)
+      c.loop-number.number c.loop-number.replicas.items c.loop-number.invariant (sym c.lists.ensures ∙ w.if-lists.true)
   | else-lists w ↦ ap (λ (v : Vec Replica Global). v.items) w.replicas-is
-      ∙ without_more (new_replica c.args.space.now) (λ (g : RegionId). lists c.args.config.now g c.args.server) c.loop-number.number c.loop-number.replicas.items c.loop-number.invariant (sym c.lists.ensures ∙ w.if-lists.false)
+      ∙ without_more (new_replica c.args.space.now)
+      (λ (g : RegionId). lists c.args.config.now g c.args.server) c.loop-number.number
+      c.loop-number.replicas.items c.loop-number.invariant (sym c.lists.ensures ∙ w.if-lists.false)
 ]

@@ -19,4 +19,6 @@ returns c =
     carried_on context c.args.slot.now.state c.post_pending.new.tail_versions.items c.args.posts.now c.post_pending.new.posts c.post_lowest_commits.new.posts
     (c.in_ok-post_pending.ensures.tail_versions ∙ ap (λ (vs : List Version). vs ++ flat_map (tail_version context) us) c.new-tail_versions.ensures.items)
     c.in_ok-post_pending.ensures.posts
-    (c.in_ok-post_lowest_commits.ensures ∙ ap (λ n. c.post_pending.new.posts ++ flat_map (told_of context) (take n us)) (c.ended_count-committed.ensures ∙ ap (λ (vs : List Version). ended_count vs us) c.as_slice.ensures.value))
+    (c.in_ok-post_lowest_commits.ensures ∙ ap (λ n. c.post_pending.new.posts
+    ++ flat_map (told_of context) (take n us)) (c.ended_count-committed.ensures
+    ∙ ap (λ (vs : List Version). ended_count vs us) c.as_slice.ensures.value))

@@ -10,7 +10,9 @@ use Rattle.hx_replica.proofs.settling.pending_line.Goals as goal
 
 pub loop-i-preserved : goal.loop-i-preserved
 loop-i-preserved c =
-    subst (λ (line : List (Bor Update)). (seen line ≡ take (c.loop-i.i + 1) (pending_of c.args.slot.now.state)) × All (IsHere c.args.slot.now.region) line) (sym c.in_ok-push-in-Some.ensures.items) (
+    subst (λ (line : List (Bor Update)). (seen line ≡ take (c.loop-i.i + 1) (pending_of c.args.slot.now.state))
+    × All (IsHere c.args.slot.now.region) line) (sym c.in_ok-push-in-Some.ensures.items) (
       seen_next c.loop-i.line.items c.in-Some.update (pending_of c.args.slot.now.state) c.loop-i.i c.loop-i.invariant.0 (sym c.in-Some.ensures.pending),
-      All-push (IsHere c.args.slot.now.region) c.loop-i.line.items c.in-Some.update c.loop-i.invariant.1 (record { placed = c.in-Some.ensures.place; few = c.in-Some.ensures.few }),
+      All-push (IsHere c.args.slot.now.region) c.loop-i.line.items c.in-Some.update c.loop-i.invariant.1
+          (record { placed = c.in-Some.ensures.place; few = c.in-Some.ensures.few }),
     )

@@ -8,11 +8,14 @@ use Rattle.hx_replica.proofs.settling.post_lowest_commits.Goals as goal
 
 pub loop-i-preserved : goal.loop-i-preserved
 loop-i-preserved c =
-    flat_more (told_of (context_seen c.args.context.now)) (pending_of c.args.slot.now.state) c.loop-i.i c.in-Some.update.now c.loop-i.posts c.post_commit.new.posts c.args.posts.now (sym c.in-Some.ensures.pending) c.loop-i.invariant
+    flat_more (told_of (context_seen c.args.context.now))
+    (pending_of c.args.slot.now.state) c.loop-i.i c.in-Some.update.now c.loop-i.posts c.post_commit.new.posts
+    c.args.posts.now (sym c.in-Some.ensures.pending) c.loop-i.invariant
     (c.in_ok-post_commit-in-Some.ensures ∙ ap (λ (u : Update). c.loop-i.posts ++ told_of (context_seen c.args.context.now) u) c.deref.ensures)
 
 pub unreachable-requires : goal.unreachable-requires
-unreachable-requires c = none_within (pending_of c.args.slot.now.state) c.loop-i.i c.in-None.ensures.pending (let l = c.requires.count in omega (arith, c.loop-i-test.true, l))
+unreachable-requires c = none_within (pending_of c.args.slot.now.state) c.loop-i.i c.in-None.ensures.pending
+    (let l = c.requires.count in omega (arith, c.loop-i-test.true, l))
 
 pub returns : goal.returns
 returns c =

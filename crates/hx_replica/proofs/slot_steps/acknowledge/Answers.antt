@@ -13,7 +13,8 @@ returns-then-pending_count-eq1 c =
     (
     λ e. e ∙ ap (λ (ps : List Post). c.args.posts.now ++ ps)
     (
-    ack_alone (context_seen c.args.context.now) c.args.slot.now.state c.args.version.0 c.args.update.now (sym c.pending_count.ensures ∙ c.if-pending_count-eq1.true)
+    ack_alone (context_seen c.args.context.now) c.args.slot.now.state c.args.version.0 c.args.update.now
+    (sym c.pending_count.ensures ∙ c.if-pending_count-eq1.true)
     c.requires.pending
     )
     )

@@ -11,7 +11,8 @@ returns-then-deref-version-clause-pending c =
     (ap (has_number c.args.version.0) (sym c.deref.ensures) ∙ eq-eqb c.deref.result.now.version.0 c.args.version.0 c.if-deref-version.true) c.loop-i.invariant
 
 pub unreachable-requires : goal.unreachable-requires
-unreachable-requires c = none_within (pending_of c.args.slot.now.state) c.loop-i.i c.in-None.ensures.pending (omega (arith, c.loop-i-test.true, c.pending_count-i-end.ensures))
+unreachable-requires c = none_within (pending_of c.args.slot.now.state) c.loop-i.i c.in-None.ensures.pending
+    (omega (arith, c.loop-i-test.true, c.pending_count-i-end.ensures))
 
 pub loop-i-preserved : goal.loop-i-preserved
 loop-i-preserved c =

@@ -11,9 +11,13 @@ use Rattle.hx_replica.proofs.slot_steps.write.Goals as goal
 pub assign-requires-clause-coming : goal.assign-requires-clause-coming
 assign-requires-clause-coming c =
     (
-    assigned_is c.args.context.now.space.now c.requires.space c.args.context.now.config.now c.args.context.now.region c.args.slot.now.state c.args.caller c.args.op.now c.requires.leading.region
-    (up_to c.args.slot.now.state c.top-top.result.0 c.top-top.ensures.top c.top-top.ensures.touches) (subst (λ (n : ℕ). c.args.slot.now.state.floor ≤ n) c.top-top.ensures.top c.top-top.ensures.above) c.in-Assign.update
-    (at_region c.args.context.now.space.now c.args.context.now.config.now c.args.slot.now.region c.args.context.now.region c.args.slot.now.state c.args.caller c.args.op.now c.in-Assign.update c.requires.region (sym c.in_ok-decide.ensures ∙ c.in-Assign.is))
+    assigned_is c.args.context.now.space.now c.requires.space c.args.context.now.config.now c.args.context.now.region
+    c.args.slot.now.state c.args.caller c.args.op.now c.requires.leading.region
+    (up_to c.args.slot.now.state c.top-top.result.0 c.top-top.ensures.top c.top-top.ensures.touches)
+    (subst (λ (n : ℕ). c.args.slot.now.state.floor ≤ n) c.top-top.ensures.top c.top-top.ensures.above) c.in-Assign.update
+    (at_region c.args.context.now.space.now c.args.context.now.config.now c.args.slot.now.region
+    c.args.context.now.region c.args.slot.now.state c.args.caller c.args.op.now c.in-Assign.update
+    c.requires.region (sym c.in_ok-decide.ensures ∙ c.in-Assign.is))
     ).coming
 
 pub returns-in-Assign-clause-posts : goal.returns-in-Assign-clause-posts
@@ -43,8 +47,11 @@ returns-in-Assign-clause-change c =
     c.args.op.now ≡ a_decision.Assign c.in-Assign.update =
     at_region c.args.context.now.space.now c.args.context.now.config.now c.args.slot.now.region c.args.context.now.region c.args.slot.now.state c.args.caller
     c.args.op.now c.in-Assign.update c.requires.region (sym c.in_ok-decide.ensures ∙ c.in-Assign.is) in
-    let granted = assigned_is c.args.context.now.space.now c.requires.space c.args.context.now.config.now c.args.context.now.region c.args.slot.now.state c.args.caller c.args.op.now c.requires.leading.region
-    (up_to c.args.slot.now.state c.top-top.result.0 c.top-top.ensures.top c.top-top.ensures.touches) (subst (λ (n : ℕ). c.args.slot.now.state.floor ≤ n) c.top-top.ensures.top c.top-top.ensures.above) c.in-Assign.update decision in
+    let granted = assigned_is c.args.context.now.space.now c.requires.space c.args.context.now.config.now
+    c.args.context.now.region c.args.slot.now.state c.args.caller c.args.op.now c.requires.leading.region
+    (up_to c.args.slot.now.state c.top-top.result.0 c.top-top.ensures.top c.top-top.ensures.touches)
+    (subst (λ (n : ℕ). c.args.slot.now.state.floor ≤ n) c.top-top.ensures.top c.top-top.ensures.above)
+    c.in-Assign.update decision in
     IfOk-weaker c.assign.result _ _
     (λ change h. subst (λ (d : Decision). IsChangeOf c.args.context.now.region c.args.slot.now.state c.args.slot.now.state.base.key
     (decided context c.args.slot.now.state c.args.caller d) change) (sym decision)

@@ -19,6 +19,7 @@ loop-place-preserved c =
           let found : Some x ≡ slice_get c.args.trace.now c.loop-place.place = ap (option_map entry_seen) (sym w.in-Some.is) ∙ c.get.ensures in
           ap (λ (o : Vec ℕ Global). o.items ++ more) w.out-is
           ∙ ap (λ ys. ys ++ more) (w.in_ok-put_posts.ensures ∙ ap (λ ys. ys ++ posts_text number 0 x.outputs) w.in_ok-put_entry.ensures)
-          ∙ entry_more c.loop-place.out.items (c.args.out.now.items ++ entries_text 1 c.args.trace.now) c.args.trace.now c.loop-place.place x found c.loop-place.invariant
+          ∙ entry_more c.loop-place.out.items (c.args.out.now.items ++ entries_text 1 c.args.trace.now)
+          c.args.trace.now c.loop-place.place x found c.loop-place.invariant
       | in_default w ↦ absurd (not_past c.args.trace.now c.loop-place.place within (ap (option_map entry_seen) (sym w.in_default.is) ∙ c.get.ensures))
     ]

@@ -11,8 +11,12 @@ loop-round-init g c = (c.requires.outs.0, omega arith, both-refl IsKeptPort kept
 
 pub join_next-requires-clause-owned_ports : goal.join_next-requires-clause-owned_ports
 join_next-requires-clause-owned_ports g c =
-    let i = c.loop-round.invariant in
-    (places-kept c.args.script.now 0 c.args.owned_ports.now.items c.loop-round.owned_ports.items i.2 c.requires.owned_ports.0, both-long IsKeptPort c.args.owned_ports.now.items c.loop-round.owned_ports.items i.2 ∙ c.requires.owned_ports.1)
+    let i = c.loop-round.invariant in (
+      places-kept c.args.script.now 0 c.args.owned_ports.now.items c.loop-round.owned_ports.items i.2
+          c.requires.owned_ports.0,
+      both-long IsKeptPort c.args.owned_ports.now.items c.loop-round.owned_ports.items i.2
+          ∙ c.requires.owned_ports.1,
+    )
 
 pub loop-round-preserved : goal.loop-round-preserved
 loop-round-preserved g c =
@@ -21,20 +25,33 @@ loop-round-preserved g c =
       n.outs.0,
       omega (arith, n.outs.1, i.1),
       both-trans IsKeptPort kept-trans c.args.owned_ports.now.items c.loop-round.owned_ports.items c.join_next.new.owned_ports.items i.2 n.kept,
-      (n.joined.0 ∷ i.3.0, seam c.loop-round.outs.items c.join_next.new.outs.items i.3.0 c.args.outs.items n.joined.0 n.joined.1 i.3.1, n.joined.2 (length c.args.outs.items) i.3.0 i.3.2),
+      (
+        n.joined.0 ∷ i.3.0,
+        seam c.loop-round.outs.items c.join_next.new.outs.items i.3.0 c.args.outs.items n.joined.0
+            n.joined.1 i.3.1,
+        n.joined.2 (length c.args.outs.items) i.3.0 i.3.2,
+      ),
     )
 
 pub returns-clause-joined : goal.returns-clause-joined
 returns-clause-joined g c =
     let none : length c.loop-round.outs.items ≡ 0 = grind (arith, c.loop-round.invariant.1, c.loop-round-test.false, c.len-round-end.ensures) in
-    joined-all c.args.script.now (length c.args.outs.items) c.args.boxes.now c.args.outs.items c.loop-round.outs.items c.loop-round.owned_ports.items none c.loop-round.invariant.3
+    joined-all c.args.script.now (length c.args.outs.items) c.args.boxes.now c.args.outs.items c.loop-round.outs.items
+    c.loop-round.owned_ports.items none c.loop-round.invariant.3
 
 pub returns-clause-order : goal.returns-clause-order
 returns-clause-order g c =
     let none : length c.loop-round.outs.items ≡ 0 = grind (arith, c.loop-round.invariant.1, c.loop-round-test.false, c.len-round-end.ensures) in
-    order-each c.args.script.now (length c.args.outs.items) c.args.boxes.now c.args.outs.items c.requires.outs.2 c.requires.outs.1 c.args.owned_ports.now.items c.loop-round.owned_ports.items c.loop-round.invariant.2 (joined-all c.args.script.now (length c.args.outs.items) c.args.boxes.now c.args.outs.items c.loop-round.outs.items c.loop-round.owned_ports.items none c.loop-round.invariant.3)
+    order-each c.args.script.now (length c.args.outs.items) c.args.boxes.now c.args.outs.items c.requires.outs.2
+    c.requires.outs.1 c.args.owned_ports.now.items c.loop-round.owned_ports.items c.loop-round.invariant.2
+    (joined-all c.args.script.now (length c.args.outs.items) c.args.boxes.now c.args.outs.items
+    c.loop-round.outs.items c.loop-round.owned_ports.items none c.loop-round.invariant.3)
 
 pub returns-clause-once : goal.returns-clause-once
 returns-clause-once g c =
     let none : length c.loop-round.outs.items ≡ 0 = grind (arith, c.loop-round.invariant.1, c.loop-round-test.false, c.len-round-end.ensures) in
-    took-once c.args.script.now (length c.args.outs.items) c.args.boxes.now c.args.outs.items c.requires.outs.2 c.requires.outs.1 c.args.owned_ports.now.items c.loop-round.owned_ports.items c.requires.owned_ports.0 c.loop-round.invariant.2 (joined-all c.args.script.now (length c.args.outs.items) c.args.boxes.now c.args.outs.items c.loop-round.outs.items c.loop-round.owned_ports.items none c.loop-round.invariant.3)
+    took-once c.args.script.now (length c.args.outs.items) c.args.boxes.now c.args.outs.items c.requires.outs.2
+    c.requires.outs.1 c.args.owned_ports.now.items c.loop-round.owned_ports.items c.requires.owned_ports.0
+    c.loop-round.invariant.2 (joined-all c.args.script.now
+    (length c.args.outs.items) c.args.boxes.now c.args.outs.items c.loop-round.outs.items
+    c.loop-round.owned_ports.items none c.loop-round.invariant.3)

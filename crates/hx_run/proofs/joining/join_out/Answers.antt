@@ -8,7 +8,12 @@ use Rattle.hx_run.proofs.joining.join_out.Goals as goal
 
 pub loop-round-init : goal.loop-round-init
 loop-round-init g c =
-    let le : length c.args.owned_ports.now.items ≤ length c.args.out.ports.items = omega (arith, both-long (IsOutPort c.args.out.index) _ c.args.out.ports.items c.requires.out.ports, c.requires.owned_ports.1) in (
+    let le : length c.args.owned_ports.now.items ≤ length c.args.out.ports.items =
+    omega (
+      arith,
+      both-long (IsOutPort c.args.out.index) _ c.args.out.ports.items c.requires.out.ports,
+      c.requires.owned_ports.1,
+    ) in (
       record { rest = []; all = append-nil _; whole = c.requires.out; index = refl },
       omega arith,
       both-refl IsKeptPort kept-refl c.args.owned_ports.now.items,
@@ -17,8 +22,12 @@ loop-round-init g c =
 
 pub join_last-requires-clause-owned_ports : goal.join_last-requires-clause-owned_ports
 join_last-requires-clause-owned_ports g c =
-    let i = c.loop-round.invariant in
-    (places-kept c.args.script.now 0 c.args.owned_ports.now.items c.loop-round.owned_ports.items i.2 c.requires.owned_ports.0, both-long IsKeptPort c.args.owned_ports.now.items c.loop-round.owned_ports.items i.2 ∙ c.requires.owned_ports.1)
+    let i = c.loop-round.invariant in (
+      places-kept c.args.script.now 0 c.args.owned_ports.now.items c.loop-round.owned_ports.items i.2
+          c.requires.owned_ports.0,
+      both-long IsKeptPort c.args.owned_ports.now.items c.loop-round.owned_ports.items i.2
+          ∙ c.requires.owned_ports.1,
+    )
 
 pub join_last-requires-clause-joined : goal.join_last-requires-clause-joined
 join_last-requires-clause-joined g c =

@@ -11,7 +11,8 @@ use Rattle.hx_run.proofs.resting.at_rest.Goals as goal
 
 pub is_crew_rested-requires : goal.is_crew_rested-requires
 is_crew_rested-requires g c = record {
-  machines = each-index (λ d. d.crew) (HaveMachines c.args.script.now) c.args.drivers.now c.loop-at.at c.index-drivers-at.result c.requires.machines c.loop-at-test.true;
+  machines = each-index (λ d. d.crew) (HaveMachines c.args.script.now) c.args.drivers.now c.loop-at.at
+      c.index-drivers-at.result c.requires.machines c.loop-at-test.true;
 }
 
 pub returns-clause-yes : goal.returns-clause-yes
@@ -21,7 +22,9 @@ returns-clause-yes g c e =
       calm = each-all-map (λ d. d.crew) (λ k. k.fault ≡ None) c.args.drivers.now c.loop-at.at le c.loop-at.invariant.0;
       rested =
           each-flat (λ (k : Crew). k.desks.items) (IsRested c.args.script.now (map (λ d. d.crew) c.args.drivers.now)) (map (λ d. d.crew) c.args.drivers.now)
-          (each-all-map (λ d. d.crew) (λ k. AllByRecursion (IsRested c.args.script.now (map (λ d. d.crew) c.args.drivers.now)) k.desks.items) c.args.drivers.now c.loop-at.at le c.loop-at.invariant.1);
+          (each-all-map (λ d. d.crew) (λ k. AllByRecursion
+          (IsRested c.args.script.now (map (λ d. d.crew) c.args.drivers.now)) k.desks.items) c.args.drivers.now
+          c.loop-at.at le c.loop-at.invariant.1);
     }
 
 pub returns-then-not-is_crew_rested-clause-no : goal.returns-then-not-is_crew_rested-clause-no
@@ -36,4 +39,6 @@ returns-then-not-is_crew_rested-clause-no g c rest =
     sym c.if-not-is_crew_rested.true
     ∙ c.is_crew_rested.ensures.no (each-index (λ d. d.crew) (λ k. k.fault ≡ None) drivers at d rest.calm lt)
     (each_all P (slice_index_or drivers at d).crew.desks.items
-    (λ y i. each_in P (desks_of crews) y rest.rested (in-flat (λ (k : Crew). k.desks.items) crews d.crew y here (subst (λ r. IsIn y r.crew.desks.items) (sym c.index-drivers-at.is) i))))
+    (λ y i. each_in P (desks_of crews) y rest.rested
+    (in-flat (λ (k : Crew). k.desks.items) crews d.crew y here
+    (subst (λ r. IsIn y r.crew.desks.items) (sym c.index-drivers-at.is) i))))

@@ -15,7 +15,9 @@ returns-clause-crews g c =
 pub returns-clause-sliced : goal.returns-clause-sliced
 returns-clause-sliced g c =
     both-by (λ d. d.crew) (IsSliced c.args.floor.now.script.now) c.args.drivers.now c.for_each_mut.new.s c.for_each_mut.auto.s
-    (λ i d lt. let k = (c.for_each_mut.ensures i d lt).1 in moved-at (λ d. d.crew) (IsSliced c.args.floor.now.script.now) k.argument.now k.after_call.now _ _ k.argument_is k.left k.call.1.0)
+    (λ i d lt. let k = (c.for_each_mut.ensures i d lt).1 in
+    moved-at (λ d. d.crew) (IsSliced c.args.floor.now.script.now) k.argument.now k.after_call.now _ _
+    k.argument_is k.left k.call.1.0)
 
 pub returns-clause-posted : goal.returns-clause-posted
 returns-clause-posted g c =

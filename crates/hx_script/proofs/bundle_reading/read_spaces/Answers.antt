@@ -10,5 +10,6 @@ lines-preserved c =
     record {
       room = omega (arith, c.lines.invariant.room, c.first_line.ensures.shorter);
       sound = bundle_line_kept (c.lines.number + 1) c.lines.draft c.first_line.result.0.now c.read_line.new.self c.lines.invariant.sound ok;
-      so_far = sym (bundle_reads_on c.lines.number c.lines.draft c.lines.rest.now c.first_line.result.0.now c.first_line.result.1.now c.read_line.new.self c.first_line.ensures.lines ok) ∙ c.lines.invariant.so_far;
+      so_far = sym (bundle_reads_on c.lines.number c.lines.draft c.lines.rest.now c.first_line.result.0.now
+          c.first_line.result.1.now c.read_line.new.self c.first_line.ensures.lines ok) ∙ c.lines.invariant.so_far;
     }

@@ -7,7 +7,8 @@ use Rattle.hx_service.proofs.booking.book_notes.Given as goal
 abbrev pub invariant-notes : goal.invariant-notes
 invariant-notes l = record {
   progress : after_notes l.entry l.notes l.initial.progress ≡ after_notes l.entry l.rest l.progress;
-  booked : l.initial.booked.items ++ booked_among l.session l.entry l.notes l.initial.progress ≡ l.booked.items ++ booked_among l.session l.entry l.rest l.progress;
+  booked : l.initial.booked.items ++ booked_among l.session l.entry l.notes l.initial.progress ≡ l.booked.items
+      ++ booked_among l.session l.entry l.rest l.progress;
   room : length l.booked.items + length l.rest ≤ vec_capacity l.booked;
 }
 

@@ -8,7 +8,8 @@ pub put_of-requires : goal.put_of-requires
 put_of-requires c = let few = few-values c.args.service.now.script.space c.args.row.now c.requires.row c.trace.ensures.valid.space in omega (arith, few)
 
 pub call-called-requires-clause-fits : goal.call-called-requires-clause-fits
-call-called-requires-clause-fits c = fits-here c.args.service.now c.args.session c.args.sets.now c.requires.may c.args.row.now c.requires.row c.in-Ok.op c.in-Ok.ensures
+call-called-requires-clause-fits c = fits-here c.args.service.now c.args.session c.args.sets.now c.requires.may
+    c.args.row.now c.requires.row c.in-Ok.op c.in-Ok.ensures
 
 pub returns-clause-made : goal.returns-clause-made
 returns-clause-made c =

@@ -10,7 +10,8 @@ rows-init c = at-first c.args.service.now c.args.session c.args.sets.now c.args.
 
 pub put_row-requires-clause-row : goal.put_row-requires-clause-row
 put_row-requires-clause-row c =
-    row-here c.args.service.now c.args.session c.args.sets.now c.args.rows.now c.rows.rest.now c.in-Some.after.now c.get.result.now c.rows.service c.rows.grouped
+    row-here c.args.service.now c.args.session c.args.sets.now c.args.rows.now c.rows.rest.now c.in-Some.after.now
+    c.get.result.now c.rows.service c.rows.grouped
     c.rows.invariant
     (c.in-Some.ensures.cases.0 ∙ ap (λ (r : Row). r ∷ c.in-Some.after.now) (sym c.get.ensures)) c.requires.rows
 
@@ -19,13 +20,16 @@ returns-in_err-receipt-clause-grows c = on c.args.service.now c.rows.service c.p
 
 pub with_put-grouped-requires : goal.with_put-grouped-requires
 with_put-grouped-requires c =
-    room c.args.service.now c.args.session c.args.sets.now c.args.rows.now c.rows.rest.now c.in-Some.after.now c.get.result.now c.rows.service c.put_row.new.service
+    room c.args.service.now c.args.session c.args.sets.now c.args.rows.now c.rows.rest.now c.in-Some.after.now
+    c.get.result.now c.rows.service c.put_row.new.service
     c.rows.grouped c.in_ok-receipt.receipt c.rows.invariant
-    (c.in-Some.ensures.cases.0 ∙ ap (λ (r : Row). r ∷ c.in-Some.after.now) (sym c.get.ensures)) c.in_ok-receipt.ensures.made c.in_ok-receipt.ensures.may c.put_row.ensures.valid
+    (c.in-Some.ensures.cases.0 ∙ ap (λ (r : Row). r ∷ c.in-Some.after.now) (sym c.get.ensures))
+    c.in_ok-receipt.ensures.made c.in_ok-receipt.ensures.may c.put_row.ensures.valid
 
 pub rows-preserved : goal.rows-preserved
 rows-preserved c =
-    further c.args.service.now c.args.session c.args.sets.now c.args.rows.now c.rows.rest.now c.in-Some.after.now c.get.result.now c.rows.service c.put_row.new.service
+    further c.args.service.now c.args.session c.args.sets.now c.args.rows.now c.rows.rest.now c.in-Some.after.now
+    c.get.result.now c.rows.service c.put_row.new.service
     c.rows.grouped c.with_put-grouped.result c.in_ok-receipt.receipt c.rows.invariant
     (c.in-Some.ensures.cases.0 ∙ ap (λ (r : Row). r ∷ c.in-Some.after.now) (sym c.get.ensures)) c.in_ok-receipt.ensures.made c.in_ok-receipt.ensures.may
     c.with_put-grouped.ensures.done c.with_put-grouped.ensures.left

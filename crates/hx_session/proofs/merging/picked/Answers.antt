@@ -3,7 +3,9 @@ use Rattle.std.specs.Borrow.{Bor}
 use Rattle.std.proofs.lemmas.List.{drop_more}
 use Rattle.hx_model.specs.Types.{Row}
 use Rattle.hx_session.proofs.Joining.{IsPassed, passed-earlier, passed-later, passed-next, passed-none}
-use Rattle.hx_session.proofs.merging.picked.Goals.{then-not-have_same_key+in_ok-copy+in_ok-push, else-not-have_same_key+then-is_as_new, else-not-have_same_key+else-is_as_new}
+use Rattle.hx_session.proofs.merging.picked.Goals.{then-not-have_same_key+in_ok-copy+in_ok-push}
+use Rattle.hx_session.proofs.merging.picked.Goals.{else-not-have_same_key+then-is_as_new}
+use Rattle.hx_session.proofs.merging.picked.Goals.{else-not-have_same_key+else-is_as_new}
 use Rattle.hx_session.proofs.merging.picked.Goals as goal
 
 pub loop-next-init : goal.loop-next-init

@@ -14,5 +14,6 @@ calls-smaller g c =
 pub returns-clause-quiet : goal.returns-clause-quiet
 returns-clause-quiet g c =
     let none = c.in_ok-make_one.ensures.none (ap Ok c.if-branch.false) in
-    settled g.C.Charter.script c.calls.roster c.make_one.new.roster c.service-2.result.now none.0 c.service-2.ensures.same c.service-2.ensures.grows c.trace.ensures.run
+    settled g.C.Charter.script c.calls.roster c.make_one.new.roster c.service-2.result.now none.0
+    c.service-2.ensures.same c.service-2.ensures.grows c.trace.ensures.run
     c.calls.invariant c.service-2.ensures.rest c.quiet_stays.ensures none.1

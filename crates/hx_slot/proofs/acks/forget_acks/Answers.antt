@@ -18,7 +18,8 @@ loop-place-preserved c =
     let test = c.loop-place-test.true in
     let within : i < length xs = omega (arith, ok, len, end, test) in
     record {
-      same = same-trans c.args.accepted.now.items xs _ c.loop-place.invariant.same (same-set xs i c.index_mut.result.now false within c.index_mut.ensures.value);
+      same = same-trans c.args.accepted.now.items xs _ c.loop-place.invariant.same
+          (same-set xs i c.index_mut.result.now false within c.index_mut.ensures.value);
       forgotten = AllWithin-more (λ (t : AcceptedUpdate). t.acknowledged ≡ false) _ c.args.from i
           (AllWithin-set (λ (t : AcceptedUpdate). t.acknowledged ≡ false) xs c.args.from i i t within refl c.loop-place.invariant.forgotten)
           (λ d. subst (λ (x : AcceptedUpdate). x.acknowledged ≡ false) (sym (get_or-set_same xs i t d within)) refl);

@@ -8,7 +8,9 @@ pub returns-then-not-taken : goal.returns-then-not-taken
 returns-then-not-taken c = removed _ _ _ _ c.in-Some.ensures.cases.0 c.if-not-taken.true ∙ c.loop-taken.invariant
 
 pub returns-then-deref : goal.returns-then-deref
-returns-then-deref c = c.row_of.ensures ∙ is_set _ _ _ _ c.in-Some.ensures.cases.0 c.if-not-taken.false (sym (ap (λ (u : Update). u.changes) c.deref.ensures) ∙ c.if-deref.true) ∙ c.loop-taken.invariant
+returns-then-deref c = c.row_of.ensures ∙ is_set _ _ _ _ c.in-Some.ensures.cases.0 c.if-not-taken.false
+    (sym (ap (λ (u : Update). u.changes) c.deref.ensures) ∙ c.if-deref.true) ∙ c.loop-taken.invariant
 
 pub loop-taken-preserved : goal.loop-taken-preserved
-loop-taken-preserved c = is_left _ _ _ _ c.in-Some.ensures.cases.0 c.if-not-taken.false (sym (ap (λ (u : Update). u.changes) c.deref.ensures) ∙ c.if-deref.false) ∙ c.loop-taken.invariant
+loop-taken-preserved c = is_left _ _ _ _ c.in-Some.ensures.cases.0 c.if-not-taken.false
+    (sym (ap (λ (u : Update). u.changes) c.deref.ensures) ∙ c.if-deref.false) ∙ c.loop-taken.invariant

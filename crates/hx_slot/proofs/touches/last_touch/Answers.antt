@@ -16,7 +16,8 @@ returns-then-has_place c =
 pub loop-taken-preserved : goal.loop-taken-preserved
 loop-taken-preserved c =
     let has = has-read c.args.region c.in-Some.taken.now _ _ c.has_place.result c.deref.ensures c.as_slice.ensures c.has_place.ensures in
-    touched-earlier c.args.region (touched_in c.args.region c.args.touches.now) _ _ c.in-Some.taken.now c.in-Some.ensures.cases.0 (sym has ∙ c.if-has_place.false)
+    touched-earlier c.args.region (touched_in c.args.region c.args.touches.now) _ _ c.in-Some.taken.now
+    c.in-Some.ensures.cases.0 (sym has ∙ c.if-has_place.false)
     ∙ c.loop-taken.invariant
 
 pub returns : goal.returns

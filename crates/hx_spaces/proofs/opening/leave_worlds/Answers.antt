@@ -11,7 +11,8 @@ pub returns-clause-runs : goal.returns-clause-runs
 returns-clause-runs c =
     left_all c.args.worlds.items
     (subst (λ (l : List WorldState). All (λ (w : WorldState). IsRunOfSpace (newest w)) l)
-    (all_yielded c.loop-world.yielded c.loop-world.world-iterator.rest.items c.args.worlds.items _ c.loop-world.invariant.2 (sym c.loop-world.world-iterator.rest.ok.0) c.in-None.ensures.steps.0)
+    (all_yielded c.loop-world.yielded c.loop-world.world-iterator.rest.items c.args.worlds.items _
+    c.loop-world.invariant.2 (sym c.loop-world.world-iterator.rest.ok.0) c.in-None.ensures.steps.0)
     c.loop-world.invariant.1)
 
 pub loop-world-preserved : goal.loop-world-preserved
@@ -19,6 +20,8 @@ loop-world-preserved c = (
   c.in_ok-push.ensures.items ∙ ap (λ (l : List (List Entry)). l ++ c.leave.result ∷ []) c.loop-world.invariant.0
       ∙ ap (λ (t : List Entry). map (λ (w : WorldState). w.trace) c.loop-world.yielded ++ t ∷ []) c.leave.ensures.trace
       ∙ sym (map-push (λ (w : WorldState). w.trace) c.loop-world.yielded c.in-Some.world),
-  left c.loop-world.yielded c.in-Some.world c.leave.result c.loop-world.invariant.1 c.leave.ensures.trace c.leave.ensures.valid c.leave.ensures.run c.leave.ensures.few,
-  moved c.loop-world.yielded c.loop-world.world-iterator.rest.items c.next.new.self.rest.items c.args.worlds.items c.in-Some.world c.loop-world.invariant.2 c.in-Some.ensures.steps.0,
+  left c.loop-world.yielded c.in-Some.world c.leave.result c.loop-world.invariant.1 c.leave.ensures.trace
+      c.leave.ensures.valid c.leave.ensures.run c.leave.ensures.few,
+  moved c.loop-world.yielded c.loop-world.world-iterator.rest.items c.next.new.self.rest.items c.args.worlds.items
+      c.in-Some.world c.loop-world.invariant.2 c.in-Some.ensures.steps.0,
 )

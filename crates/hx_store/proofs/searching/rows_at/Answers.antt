@@ -11,7 +11,8 @@ loop-place-preserved c =
     let place = get_or c.args.places.now c.loop-place.place-index 0 in (
       c.in_ok-add_row_at.ensures.more
           ∙ ap (λ (l : List Row). l ++ list_of (rows_at c.args.rows.now place)) c.loop-place.invariant.0
-          ∙ flat-next (λ i. list_of (rows_at c.args.rows.now i)) c.args.places.now c.loop-place.place-index place (slice_get-get_or c.args.places.now c.loop-place.place-index 0 c.loop-place-test.true),
+          ∙ flat-next (λ i. list_of (rows_at c.args.rows.now i)) c.args.places.now c.loop-place.place-index place
+          (slice_get-get_or c.args.places.now c.loop-place.place-index 0 c.loop-place-test.true),
       (let one = c.add_row_at.ensures.one in let so_far = c.loop-place.invariant.1 in omega (arith, one, so_far)),
       (let same = c.add_row_at.ensures.capacity in let room = c.loop-place.invariant.2 in omega (arith, same, room)),
     )

@@ -10,5 +10,8 @@ returns-in_default c =
     let l = c.args.lists.now in
     let is : slice_get l.heads.items c.in_ok-place.place ≡ Some c.in_ok-head.head.now = sym c.head_at.ensures ∙ ap option_copied c.in_ok-head.was in
     let none = unkept l.wholes.items c.in_ok-head.head.now.input c.in_default.not-Whole in
-    let at = filed_place l c.args.id c.len.result c.in_ok-number.number c.in_ok-place.place c.in_ok-head.head.now c.requires (c.len.ensures ∙ l.places.ok.0) c.in_ok-number.ensures c.in_ok-place.ensures is none c.posts_end.result (c.posts_end.ensures ∙ ap (posts_from (length l.posts.items)) c.next_of.ensures) c.place_among.result c.place_among.ensures in
+    let at = filed_place l c.args.id c.len.result c.in_ok-number.number c.in_ok-place.place c.in_ok-head.head.now
+    c.requires (c.len.ensures ∙ l.places.ok.0) c.in_ok-number.ensures c.in_ok-place.ensures is none
+    c.posts_end.result (c.posts_end.ensures ∙ ap (posts_from (length l.posts.items)) c.next_of.ensures)
+    c.place_among.result c.place_among.ensures in
     record { within = at.within; post = at.post }

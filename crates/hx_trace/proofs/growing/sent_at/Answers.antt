@@ -12,14 +12,16 @@ overflow_sub-id c = sent_some (entries_in c.args.lists.now) c.args.id _ c.requir
 pub unreachable-requires : goal.unreachable-requires
 unreachable-requires c =
     let l = c.args.lists.now in
-    let at = lies_in l c.args.id _ c.len.result c.in_ok-place.place c.requires.sent (c.len.ensures ∙ l.places.ok.0) c.in_ok-place.ensures.0 c.in_ok-place.ensures.1 in
+    let at = lies_in l c.args.id _ c.len.result c.in_ok-place.place c.requires.sent
+    (c.len.ensures ∙ l.places.ok.0) c.in_ok-place.ensures.0 c.in_ok-place.ensures.1 in
     let both : None ≡ Some at.head = ap option_copied (sym c.in_default.is) ∙ c.head_at.ensures ∙ at.head_is in
     absurd (cc)
 
 pub overflow_add-result : goal.overflow_add-result
 overflow_add-result c =
     let l = c.args.lists.now in
-    let at = lies_in l c.args.id _ c.len.result c.in_ok-place.place c.requires.sent (c.len.ensures ∙ l.places.ok.0) c.in_ok-place.ensures.0 c.in_ok-place.ensures.1 in
+    let at = lies_in l c.args.id _ c.len.result c.in_ok-place.place c.requires.sent
+    (c.len.ensures ∙ l.places.ok.0) c.in_ok-place.ensures.0 c.in_ok-place.ensures.1 in
     let is : slice_get l.heads.items c.in_ok-place.place ≡ Some c.in-Some.head.now = sym c.head_at.ensures ∙ ap option_copied c.in-Some.is in
     let none = unkept l.wholes.items c.in-Some.head.now.input c.in_default-input.not-Whole in
     let post = post_filed l.posts.items l.notes.items l.wholes.items l.heads.items c.in_ok-place.place c.args.id.place _ c.in-Some.head.now at is none in
@@ -28,7 +30,8 @@ overflow_add-result c =
 pub returns-in_default-input : goal.returns-in_default-input
 returns-in_default-input c =
     let l = c.args.lists.now in
-    let at = lies_in l c.args.id _ c.len.result c.in_ok-place.place c.requires.sent (c.len.ensures ∙ l.places.ok.0) c.in_ok-place.ensures.0 c.in_ok-place.ensures.1 in
+    let at = lies_in l c.args.id _ c.len.result c.in_ok-place.place c.requires.sent
+    (c.len.ensures ∙ l.places.ok.0) c.in_ok-place.ensures.0 c.in_ok-place.ensures.1 in
     let is : slice_get l.heads.items c.in_ok-place.place ≡ Some c.in-Some.head.now = sym c.head_at.ensures ∙ ap option_copied c.in-Some.is in
     let none = unkept l.wholes.items c.in-Some.head.now.input c.in_default-input.not-Whole in
     let post = post_filed l.posts.items l.notes.items l.wholes.items l.heads.items c.in_ok-place.place c.args.id.place _ c.in-Some.head.now at is none in

@@ -12,7 +12,8 @@ pub returns-in_err-head : goal.returns-in_err-head
 returns-in_err-head c =
     let l = c.args.lists.now in
     let is : slice_get l.heads.items c.args.place ≡ None = sym c.head_at.ensures ∙ ap option_copied c.in_err-head.was in
-    rw c.from_residual.ensures (sym (ap (option_map (λ (e : Entry). e.outputs)) (no_entry_at l.posts.items l.notes.items l.wholes.items l.heads.items c.args.place is)))
+    rw c.from_residual.ensures (sym (ap (option_map (λ (e : Entry). e.outputs))
+    (no_entry_at l.posts.items l.notes.items l.wholes.items l.heads.items c.args.place is)))
 
 pub next_of-requires : goal.next_of-requires
 next_of-requires c = get_within c.args.lists.now.heads.items c.args.place c.in_ok-head.head.now (sym c.head_at.ensures ∙ ap option_copied c.in_ok-head.was)

@@ -6,7 +6,8 @@ use Rattle.hx_types.proofs.prefixes.prefix_by_bytes.Goals.{in-Some, in-None}
 use Rattle.hx_types.proofs.Prefixed.{few-bytes, more-bytes, one-byte}
 
 pub overflow_mul-prefix : goal.overflow_mul-prefix
-overflow_mul-prefix c = let l = few-bytes c.loop-place.prefix c.loop-place.place c.loop-place.invariant.1 c.loop-place-test.true in Fits-of_lt (omega (arith, l))
+overflow_mul-prefix c = let l = few-bytes c.loop-place.prefix c.loop-place.place c.loop-place.invariant.1
+    c.loop-place-test.true in Fits-of_lt (omega (arith, l))
 
 pub overflow_add-prefix : goal.overflow_add-prefix
 overflow_add-prefix c =
@@ -28,7 +29,8 @@ loop-place-preserved c =
       | in-None w ↦ w.byte-is ∙ w.in-None.ensures.lookup.4 (omega arith) 0
     ] in
     let f : get_or bytes i 0 < 256 = Fits-lt-pow (c.type_inv.bytes i) in (
-      (λ k e. (λ j. prefix_from k (n * 256 + b j) (drop (add-one i j) bytes)) ∙ sym (one-byte k n i bytes) ∙ c.loop-place.invariant.0 (suc k) (omega (arith, e))),
+      (λ k e. (λ j. prefix_from k (n * 256 + b j) (drop (add-one i j) bytes)) ∙ sym (one-byte k n i bytes)
+          ∙ c.loop-place.invariant.0 (suc k) (omega (arith, e))),
       more-bytes n i c.match-get.byte c.loop-place.invariant.1 (omega (arith, b, f)),
     )
 

@@ -6,7 +6,8 @@ use Rattle.hx_types.proofs.prefixes.prefix_of.Goals as goal
 
 pub returns-in-Some : goal.returns-in-Some
 returns-in-Some c = record {
-  prefix_is = c.from_be_bytes.ensures ∙ first-eight c.as_bytes-bytes.result.now c.in-Some.front.now c.in-Some.ensures.cases.same c.in-Some.ensures.cases.enough ∙ ap prefix_of c.as_bytes-bytes.ensures.value;
+  prefix_is = c.from_be_bytes.ensures ∙ first-eight c.as_bytes-bytes.result.now c.in-Some.front.now
+      c.in-Some.ensures.cases.same c.in-Some.ensures.cases.enough ∙ ap prefix_of c.as_bytes-bytes.ensures.value;
   bytes = all-bytes c.args.text.now (λ k. Fits-lt-pow (c.type_inv.text k));
 }
 

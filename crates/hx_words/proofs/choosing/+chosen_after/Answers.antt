@@ -13,7 +13,8 @@ pub returns-in_err-with : goal.returns-in_err-with
 returns-in_err-with t c after =
     let first = first_word _ _ c.in-len1-up.len_at_least c.name-item.is in
     let named : codes "--trace" ≡ string_bytes c.name-item.result = search rules in
-    unanswered _ after _ c.from_residual.ensures (refused Trace _ _ _ _ after (ap (λ word. word ∷ []) named) tt first (taken _ Trace _ c.with.ensures c.in_err-with.was))
+    unanswered _ after _ c.from_residual.ensures (refused Trace _ _ _ _ after (ap (λ word. word ∷ []) named) tt first
+    (taken _ Trace _ c.with.ensures c.in_err-with.was))
 
 pub returns-then-eq : goal.returns-then-eq
 returns-then-eq t c after =
@@ -33,7 +34,9 @@ returns-in_err-option t c after =
     let second = first_word _ _ c.in-len1-up-rest.len_at_least c.value-item.is in
     let two = two_left _ _ _ _ _ _ _ first second c.as_str-2.ensures.value c.as_str-3.ensures.value in
     let other : c.as_str-2.result.now ≢ codes "--trace" = search rules in
-    unanswered _ after _ c.from_residual-in_err-option.ensures (never_said _ _ _ _ _ after two other (λ o e within. none-some o (sym c.in_err-option.was ∙ (c.option_of.ensures o).1 (e, within))))
+    unanswered _ after _ c.from_residual-in_err-option.ensures
+    (never_said _ _ _ _ _ after two other (λ o e within. none-some o
+    (sym c.in_err-option.was ∙ (c.option_of.ensures o).1 (e, within))))
 
 pub returns-in_err-with-2 : goal.returns-in_err-with-2
 returns-in_err-with-2 t c after =
@@ -41,7 +44,9 @@ returns-in_err-with-2 t c after =
     let second = first_word _ _ c.in-len1-up-rest.len_at_least c.value-item.is in
     let two = two_left _ _ _ _ _ _ _ first second c.as_str-2.ensures.value c.as_str-3.ensures.value in
     let told = (c.option_of.ensures c.in_ok-option.option).0 c.in_ok-option.was in
-    unanswered _ after _ c.from_residual-in_err-with-2.ensures (refused c.in_ok-option.option _ _ _ _ after told.0 told.1 two (taken _ c.in_ok-option.option _ c.with-2.ensures c.in_err-with-2.was))
+    unanswered _ after _ c.from_residual-in_err-with-2.ensures
+    (refused c.in_ok-option.option _ _ _ _ after told.0 told.1 two
+    (taken _ c.in_ok-option.option _ c.with-2.ensures c.in_err-with-2.was))
 
 pub returns : goal.returns
 returns t c after =

@@ -8,11 +8,13 @@ pub returns-then-not-idle : goal.returns-then-not-idle
 returns-then-not-idle c =
     busy_told c.index-counted.result.now.session.state c.ended.result (sym c.idle.ensures ∙ c.if-not-idle.true) c.ended.ensures
     ∙ ap (λ (s : SessionState). s.under_way)
-    (session_state c.args.inside.now.script c.args.inside.now.actors c.args.inside.now.log c.requires.world c.args.session c.requires.actor c.index-counted.result.now c.index-counted.ensures)
+    (session_state c.args.inside.now.script c.args.inside.now.actors c.args.inside.now.log c.requires.world
+    c.args.session c.requires.actor c.index-counted.result.now c.index-counted.ensures)
 
 pub returns-else-not-idle : goal.returns-else-not-idle
 returns-else-not-idle c =
     ap not c.if-not-idle.false
     ∙ sym (idle_free c.index-counted.result.now.session.state (sym c.idle.ensures ∙ c.if-not-idle.false))
     ∙ ap (λ (s : SessionState). s.under_way)
-    (session_state c.args.inside.now.script c.args.inside.now.actors c.args.inside.now.log c.requires.world c.args.session c.requires.actor c.index-counted.result.now c.index-counted.ensures)
+    (session_state c.args.inside.now.script c.args.inside.now.actors c.args.inside.now.log c.requires.world
+    c.args.session c.requires.actor c.index-counted.result.now c.index-counted.ensures)

@@ -26,23 +26,38 @@ server_takes-requires-clause-ascending c = ascending c.args.inside.now.script c.
 pub returns-clause-world : goal.returns-clause-world
 returns-clause-world c =
     let after : Actors =
-    record { coordinator = c.args.inside.now.actors.coordinator; servers = with_item c.args.inside.now.actors.servers (c.args.server.0 - 1) c.server_takes.new.counted; sessions = c.args.inside.now.actors.sessions } in
+    record {
+      coordinator = c.args.inside.now.actors.coordinator;
+      servers = with_item c.args.inside.now.actors.servers (c.args.server.0 - 1) c.server_takes.new.counted;
+      sessions = c.args.inside.now.actors.sessions;
+    } in
     (came_to_server c.args.inside.now.script c.args.inside.now.actors c.args.inside.now.log c.requires.world c.args.server c.requires.actor
     c.index_mut-counted.result.now c.index_mut-counted.ensures.value c.args.input c.requires.running c.requires.may
-    c.server_takes.new.counted after c.server_takes.new.log c.server_takes.result c.server_takes.ensures.decided c.server_takes.ensures.log c.server_takes.ensures.taken refl refl refl).world
+    c.server_takes.new.counted after c.server_takes.new.log c.server_takes.result c.server_takes.ensures.decided
+    c.server_takes.ensures.log c.server_takes.ensures.taken refl refl refl).world
 
 pub returns-clause-turn : goal.returns-clause-turn
 returns-clause-turn c =
     let after : Actors =
-    record { coordinator = c.args.inside.now.actors.coordinator; servers = with_item c.args.inside.now.actors.servers (c.args.server.0 - 1) c.server_takes.new.counted; sessions = c.args.inside.now.actors.sessions } in
+    record {
+      coordinator = c.args.inside.now.actors.coordinator;
+      servers = with_item c.args.inside.now.actors.servers (c.args.server.0 - 1) c.server_takes.new.counted;
+      sessions = c.args.inside.now.actors.sessions;
+    } in
     (came_to_server c.args.inside.now.script c.args.inside.now.actors c.args.inside.now.log c.requires.world c.args.server c.requires.actor
     c.index_mut-counted.result.now c.index_mut-counted.ensures.value c.args.input c.requires.running c.requires.may
-    c.server_takes.new.counted after c.server_takes.new.log c.server_takes.result c.server_takes.ensures.decided c.server_takes.ensures.log c.server_takes.ensures.taken refl refl refl).turn
+    c.server_takes.new.counted after c.server_takes.new.log c.server_takes.result c.server_takes.ensures.decided
+    c.server_takes.ensures.log c.server_takes.ensures.taken refl refl refl).turn
 
 pub returns-clause-same : goal.returns-clause-same
 returns-clause-same c =
     let after : Actors =
-    record { coordinator = c.args.inside.now.actors.coordinator; servers = with_item c.args.inside.now.actors.servers (c.args.server.0 - 1) c.server_takes.new.counted; sessions = c.args.inside.now.actors.sessions } in
+    record {
+      coordinator = c.args.inside.now.actors.coordinator;
+      servers = with_item c.args.inside.now.actors.servers (c.args.server.0 - 1) c.server_takes.new.counted;
+      sessions = c.args.inside.now.actors.sessions;
+    } in
     (came_to_server c.args.inside.now.script c.args.inside.now.actors c.args.inside.now.log c.requires.world c.args.server c.requires.actor
     c.index_mut-counted.result.now c.index_mut-counted.ensures.value c.args.input c.requires.running c.requires.may
-    c.server_takes.new.counted after c.server_takes.new.log c.server_takes.result c.server_takes.ensures.decided c.server_takes.ensures.log c.server_takes.ensures.taken refl refl refl).same
+    c.server_takes.new.counted after c.server_takes.new.log c.server_takes.result c.server_takes.ensures.decided
+    c.server_takes.ensures.log c.server_takes.ensures.taken refl refl refl).same

@@ -14,6 +14,7 @@ returns-clause-taken c =
     let is = heard_is c.args.id c.args.trace.now.entries p (sym (c.post-post.ensures ∙ c.requires.lies.post)) in
     record {
       space = c.make.ensures.space;
-      state = c.make.ensures.state (Deliver c.args.id p.from p.message) (c.in-Ok.ensures.change c.args.id) ∙ ap (λ (i : Input). (session_step s.space s.state i).state) (sym is);
+      state = c.make.ensures.state (Deliver c.args.id p.from p.message) (c.in-Ok.ensures.change c.args.id)
+          ∙ ap (λ (i : Input). (session_step s.space s.state i).state) (sym is);
       entries = refl;
     }

@@ -9,7 +9,8 @@ loop-at-preserved c =
     let one = c.push_reserved.ensures.len in
     let same = c.push_reserved.ensures.capacity in
     record {
-      items = place_more c.reserve.new.self.items c.loop-at.places.items c.push_reserved.new.self.items s.place s.at c.loop-at.at s.part.now _ c.has_notes.result
+      items = place_more c.reserve.new.self.items c.loop-at.places.items c.push_reserved.new.self.items s.place s.at
+          c.loop-at.at s.part.now _ c.has_notes.result
           c.push_reserved.ensures.items c.loop-at.invariant.items c.loop-at.auto.at c.has_notes.ensures refl;
       room = omega (arith, room, one, same);
     }

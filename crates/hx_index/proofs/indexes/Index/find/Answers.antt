@@ -16,10 +16,13 @@ returns-clause-matching g c =
     (
     λ ids e i.
     let all = e
-    ∙ ap (λ (l : List ℕ). filter (matches_at (g.L.Look.rows c.narrowest-span.new.look) terms) (slice_range l c.narrowest-span.result.first c.narrowest-span.result.end)) c.order.ensures.numbers
-    ∙ ap (λ (r : ℕ → Option Row). filter (matches_at r terms) (slice_range order c.narrowest-span.result.first c.narrowest-span.result.end)) c.narrowest-span.ensures.rows
+    ∙ ap (λ (l : List ℕ). filter (matches_at (g.L.Look.rows c.narrowest-span.new.look) terms)
+    (slice_range l c.narrowest-span.result.first c.narrowest-span.result.end)) c.order.ensures.numbers
+    ∙ ap (λ (r : ℕ → Option Row). filter (matches_at r terms)
+    (slice_range order c.narrowest-span.result.first c.narrowest-span.result.end)) c.narrowest-span.ensures.rows
     ∙ sym span.all in
-    ap (λ (l : List ℕ). stands_in l i) all ∙ all-matching rows c.narrowest-span.result.attribute terms order (c.requires c.narrowest-span.result.attribute span.attribute_is) i
+    ap (λ (l : List ℕ). stands_in l i) all ∙ all-matching rows c.narrowest-span.result.attribute terms order
+    (c.requires c.narrowest-span.result.attribute span.attribute_is) i
     )
     c.matching.ensures.found
 
@@ -33,9 +36,12 @@ returns-clause-once g c =
     (
     λ ids e.
     let all = e
-    ∙ ap (λ (l : List ℕ). filter (matches_at (g.L.Look.rows c.narrowest-span.new.look) terms) (slice_range l c.narrowest-span.result.first c.narrowest-span.result.end)) c.order.ensures.numbers
-    ∙ ap (λ (r : ℕ → Option Row). filter (matches_at r terms) (slice_range order c.narrowest-span.result.first c.narrowest-span.result.end)) c.narrowest-span.ensures.rows
+    ∙ ap (λ (l : List ℕ). filter (matches_at (g.L.Look.rows c.narrowest-span.new.look) terms)
+    (slice_range l c.narrowest-span.result.first c.narrowest-span.result.end)) c.order.ensures.numbers
+    ∙ ap (λ (r : ℕ → Option Row). filter (matches_at r terms)
+    (slice_range order c.narrowest-span.result.first c.narrowest-span.result.end)) c.narrowest-span.ensures.rows
     ∙ sym span.all in
-    subst (IsDistinct eqb) (sym all) (each-once rows c.narrowest-span.result.attribute terms order (c.requires c.narrowest-span.result.attribute span.attribute_is))
+    subst (IsDistinct eqb) (sym all) (each-once rows c.narrowest-span.result.attribute terms order
+    (c.requires c.narrowest-span.result.attribute span.attribute_is))
     )
     c.matching.ensures.found

@@ -34,5 +34,6 @@ returns-clause-least g c =
     let one : Span = record { attribute = c.attribute-attribute.result; first = c.run-first.result.0; end = c.run-first.result.1 } in
     let indexed : is_indexed index term ≡ true = sym (c.if-not-has_order.ensures {u = tt}) in
     let is : term ≡ get_or terms c.args.number term = c.index-as_slice-number.is ∙ ap (λ (l : List Term). get_or l c.args.number term) c.as_slice.ensures in
-    least-next index rows terms c.args.number term c.requires.within is c.run-first.result.0 c.run-first.result.1 c.run-first.ensures.run indexed c.args.best one refl refl
+    least-next index rows terms c.args.number term c.requires.within is c.run-first.result.0 c.run-first.result.1
+    c.run-first.ensures.run indexed c.args.best one refl refl
     ∙ ap (λ (s : Span). least_run index rows (s.end - s.first) (drop (c.args.number + 1) terms)) (sym c.shorter.ensures)

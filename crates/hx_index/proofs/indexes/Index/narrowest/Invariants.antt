@@ -9,7 +9,9 @@ abbrev pub invariant-loop-number : goal.invariant-loop-number
 invariant-loop-number g l = record {
   rows : g.L.Look.rows l.look ≡ g.L.Look.rows l.initial.look;
   span : IsSpan l.self (g.L.Look.rows l.initial.look) l.terms l.best.attribute l.best.first l.best.end;
-  least : least_run l.self (g.L.Look.rows l.initial.look) (l.best.end - l.best.first) (drop l.number l.terms) ≡ least_run l.self (g.L.Look.rows l.initial.look) (count_of l.self) l.terms;
+  least : least_run l.self (g.L.Look.rows l.initial.look) (l.best.end - l.best.first) (drop l.number l.terms)
+      ≡ least_run l.self (g.L.Look.rows l.initial.look) (count_of l.self) l.terms;
   counted : g.L.Look.looks l.initial.look ≤ g.L.Look.looks l.look;
-  looks : g.L.Look.looks l.look + 2 * indexed_count l.self (drop l.number l.terms) * digits_of (count_of l.self) ≤ g.L.Look.looks l.initial.look + 2 * indexed_count l.self l.terms * digits_of (count_of l.self);
+  looks : g.L.Look.looks l.look + 2 * indexed_count l.self (drop l.number l.terms) * digits_of (count_of l.self)
+      ≤ g.L.Look.looks l.initial.look + 2 * indexed_count l.self l.terms * digits_of (count_of l.self);
 }

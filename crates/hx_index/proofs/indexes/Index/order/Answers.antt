@@ -9,11 +9,13 @@ there c =
     let l = c.requires in
     let n = items-length c.self.inside.orders.items in
     let v = ap (λ (x : IndexState). length x.orders) c.self.view_is in
-    slice_get-get_or c.self.inside.orders.items c.args.attribute c.index.result.now (omega (arith, l, n, v)) ∙ ap (λ (o : Vec ℕ Global). Some o) (sym c.index.ensures)
+    slice_get-get_or c.self.inside.orders.items c.args.attribute c.index.result.now (omega (arith, l, n, v))
+    ∙ ap (λ (o : Vec ℕ Global). Some o) (sym c.index.ensures)
 
 pub returns-clause-numbers : goal.returns-clause-numbers
 returns-clause-numbers c =
-    c.as_slice.ensures.value ∙ sym (order-at c.self.inside.orders.items c.self.inside.room c.args.attribute c.index.result.now (there c)) ∙ ap (λ (x : IndexState). order_of x c.args.attribute) c.self.view_is
+    c.as_slice.ensures.value ∙ sym (order-at c.self.inside.orders.items c.self.inside.room c.args.attribute
+    c.index.result.now (there c)) ∙ ap (λ (x : IndexState). order_of x c.args.attribute) c.self.view_is
 
 pub returns-clause-count : goal.returns-clause-count
 returns-clause-count c =

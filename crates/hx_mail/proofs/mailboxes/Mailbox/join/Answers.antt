@@ -11,7 +11,8 @@ use Rattle.hx_mail.proofs.mailboxes.Mailbox.join.Goals as goal
 pub absorb-requires-clause-rule : goal.absorb-requires-clause-rule
 absorb-requires-clause-rule g c =
     merges c.port.inside.pass.id (view c.port.inside.pass) c.into_pass-pass.result.id (view c.into_pass-pass.result)
-    (ap (λ (p : Ported). p.view.of_box) c.port.view_is ∙ c.requires.port.1 ∙ sym c.requires.other.1 ∙ sym (ap (λ (v : PortView). v.of_box) c.into_pass-pass.ensures.view))
+    (ap (λ (p : Ported). p.view.of_box) c.port.view_is ∙ c.requires.port.1 ∙ sym c.requires.other.1
+    ∙ sym (ap (λ (v : PortView). v.of_box) c.into_pass-pass.ensures.view))
 
 pub learn_as-requires-clause-rule : goal.learn_as-requires-clause-rule
 learn_as-requires-clause-rule g c items views kept at = (learns _ _ items views kept at, once _ _ items views kept at)
@@ -19,8 +20,10 @@ learn_as-requires-clause-rule g c items views kept at = (learns _ _ items views 
 pub invariant_of-port : goal.invariant_of-port
 invariant_of-port g c =
     let after : IsNamed c.port.inside.name c.port.inside.splits (view c.learn_as.new.pass) =
-    join_named c.port.inside.name c.port.inside.splits (view c.port.inside.pass) (view c.into_pass-pass.result) _ (c.port.invariant.1, c.port.invariant.2, c.port.invariant.3)
-    (λ n e. subst (λ (v : PortView). CarriesName 0 v → ⊥) (sym c.into_pass-pass.ensures.view) c.requires.later (c.into_pass-pass.ensures.first n e)) (c.learn_as.ensures.queue.1 ∙ c.absorb.ensures.rule) in
+    join_named c.port.inside.name c.port.inside.splits (view c.port.inside.pass) (view c.into_pass-pass.result) _
+    (c.port.invariant.1, c.port.invariant.2, c.port.invariant.3)
+    (λ n e. subst (λ (v : PortView). CarriesName 0 v → ⊥) (sym c.into_pass-pass.ensures.view) c.requires.later
+    (c.into_pass-pass.ensures.first n e)) (c.learn_as.ensures.queue.1 ∙ c.absorb.ensures.rule) in
     (c.learn_as.ensures.queue.0.2 ∙ c.absorb.ensures.queue.2 ∙ c.port.invariant.0, after.0, after.1, after.2)
 
 pub returns-clause-order : goal.returns-clause-order

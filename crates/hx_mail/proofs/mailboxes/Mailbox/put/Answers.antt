@@ -8,7 +8,8 @@ use Rattle.hx_mail.proofs.mailboxes.Mailbox.put.Goals as goal
 
 pub try_push_as-requires-clause-rule : goal.try_push_as-requires-clause-rule
 try_push_as-requires-clause-rule g c =
-    puts (ruled_capacity c.self.inside.queue) c.port.inside.pass.id (view c.port.inside.pass) record { port = c.port.inside.name; envelope = c.args.envelope } c.args.self.now.names
+    puts (ruled_capacity c.self.inside.queue) c.port.inside.pass.id
+    (view c.port.inside.pass) record { port = c.port.inside.name; envelope = c.args.envelope } c.args.self.now.names
     (ap (λ (p : Ported). p.view.of_box) c.port.view_is ∙ c.requires.port.1) c.requires.addressed (sym c.port.invariant.1)
     (own_carried c.port.inside.name c.port.inside.splits (view c.port.inside.pass) (c.port.invariant.1, c.port.invariant.2, c.port.invariant.3))
 

@@ -13,5 +13,6 @@ pop_as-requires-clause-rule g c = (
 pub invariant_of-port : goal.invariant_of-port
 invariant_of-port g c =
     let after : IsNamed c.port.inside.name c.port.inside.splits (view c.pop_as.new.pass) =
-    take_either _ c.port.inside.name c.port.inside.splits (view c.port.inside.pass) _ c.pop_as.result (c.port.invariant.1, c.port.invariant.2, c.port.invariant.3) c.pop_as.ensures.rule in
+    take_either _ c.port.inside.name c.port.inside.splits (view c.port.inside.pass) _ c.pop_as.result
+    (c.port.invariant.1, c.port.invariant.2, c.port.invariant.3) c.pop_as.ensures.rule in
     (c.pop_as.ensures.queue.2 ∙ c.port.invariant.0, after.0, after.1, after.2)

@@ -26,5 +26,7 @@ regions_from-requires c =
 
 pub returns : goal.returns
 returns c =
-    regions_found c.args.self.now c.self.inside.space c.args.terms.now c.as_slice-2.result.now c.as_slice.result.now c.args.s c.subspace-subspace.result.now.first c.in_ok-rows.rows.items c.in_ok-regions.regions c.requires
-    c.self.view_is c.as_slice-2.ensures (c.as_slice.ensures ∙ c.subspace-subspace.ensures.axes) c.subspace-subspace.ensures.first c.in_ok-rows.ensures c.in_ok-regions.ensures
+    regions_found c.args.self.now c.self.inside.space c.args.terms.now c.as_slice-2.result.now c.as_slice.result.now
+    c.args.s c.subspace-subspace.result.now.first c.in_ok-rows.rows.items c.in_ok-regions.regions c.requires
+    c.self.view_is c.as_slice-2.ensures (c.as_slice.ensures ∙ c.subspace-subspace.ensures.axes)
+    c.subspace-subspace.ensures.first c.in_ok-rows.ensures c.in_ok-regions.ensures

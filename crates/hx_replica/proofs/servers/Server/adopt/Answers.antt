@@ -12,10 +12,13 @@ invariant_of-self c = record {
   bare = bare_again _ c.requires.bare.0
       (
       c.keep_all.ensures.views
-      ∙ adopted_views c.self.inside c.args.self.now c.args.config c.deref.result.now c.replace-old.result.items c.self.view_is c.deref.ensures (ap (λ (v : Vec Replica Global). v.items) c.replace-old.ensures.value)
+      ∙ adopted_views c.self.inside c.args.self.now c.args.config c.deref.result.now c.replace-old.result.items
+      c.self.view_is c.deref.ensures (ap (λ (v : Vec Replica Global). v.items) c.replace-old.ensures.value)
       ∙ sym (ap (λ (s : ServerState). s.replicas) c.requires.bare.1)
       );
 }
 
 pub returns-clause-rooms : goal.returns-clause-rooms
-returns-clause-rooms c = adopted_rooms c.self.inside c.args.self.now c.replace-old.result.items c.keep_all.new.next.items c.self.view_is (ap (λ (v : Vec Replica Global). v.items) c.replace-old.ensures.value) c.keep_all.ensures.rooms
+returns-clause-rooms c = adopted_rooms c.self.inside c.args.self.now c.replace-old.result.items
+    c.keep_all.new.next.items c.self.view_is (ap (λ (v : Vec Replica Global). v.items) c.replace-old.ensures.value)
+    c.keep_all.ensures.rooms

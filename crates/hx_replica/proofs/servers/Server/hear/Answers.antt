@@ -8,7 +8,8 @@ use Rattle.hx_replica.specs.Servers.{ServerValue}
 use Rattle.hx_replica.proofs.Asking.{update_taken}
 use Rattle.hx_replica.proofs.Bareness.{bare_seen}
 use Rattle.hx_replica.proofs.Naming.{message_named}
-use Rattle.hx_replica.proofs.Planning.{acked_quiet, asked_quiet, change_made, install_quiet, nothing_more, notes_made, posts_made, posts_met, quiet_made, snapped_quiet, unmoved_by, updated_quiet}
+use Rattle.hx_replica.proofs.Planning.{acked_quiet, asked_quiet, change_made, install_quiet, nothing_more, notes_made}
+use Rattle.hx_replica.proofs.Planning.{posts_made, posts_met, quiet_made, snapped_quiet, unmoved_by, updated_quiet}
 use Rattle.hx_replica.proofs.Roomy.{all_same}
 use Rattle.hx_replica.proofs.Snapped.{config_taken, snapshot_taken}
 use Rattle.hx_replica.proofs.Sounding.{message_sound}
@@ -39,13 +40,16 @@ pub on_call-requires-clause-small : goal.on_call-requires-clause-small
 on_call-requires-clause-small c = c.requires.can.small
 
 pub on_update-requires-clause-placed : goal.on_update-requires-clause-placed
-on_update-requires-clause-placed c = (update_taken c.args.self.now c.args.from c.args.message.now c.in-Update.epoch c.in-Update.region c.in-Update.update c.requires c.in-Update.is).placed
+on_update-requires-clause-placed c = (update_taken c.args.self.now c.args.from c.args.message.now c.in-Update.epoch
+    c.in-Update.region c.in-Update.update c.requires c.in-Update.is).placed
 
 pub on_update-requires-clause-few : goal.on_update-requires-clause-few
-on_update-requires-clause-few c = (update_taken c.args.self.now c.args.from c.args.message.now c.in-Update.epoch c.in-Update.region c.in-Update.update c.requires c.in-Update.is).few
+on_update-requires-clause-few c = (update_taken c.args.self.now c.args.from c.args.message.now c.in-Update.epoch
+    c.in-Update.region c.in-Update.update c.requires c.in-Update.is).few
 
 pub on_update-requires-clause-after : goal.on_update-requires-clause-after
-on_update-requires-clause-after c = (update_taken c.args.self.now c.args.from c.args.message.now c.in-Update.epoch c.in-Update.region c.in-Update.update c.requires c.in-Update.is).after
+on_update-requires-clause-after c = (update_taken c.args.self.now c.args.from c.args.message.now c.in-Update.epoch
+    c.in-Update.region c.in-Update.update c.requires c.in-Update.is).after
 
 pub on_install-requires-clause-config : goal.on_install-requires-clause-config
 on_install-requires-clause-config c = config_taken c.args.self.now c.args.from c.args.message.now c.in-Install.config c.requires c.in-Install.is
@@ -63,7 +67,8 @@ pub returns-in_ok-meet-in-Update-clause-posts : goal.returns-in_ok-meet-in-Updat
 returns-in_ok-meet-in-Update-clause-posts c =
     let v = c.args.self.now in
     posts_met v c.args.from c.args.message.now _ c.in-Update.is c.on_update.result c.in-Update.epoch
-    (updated v.space v.state c.args.from c.in-Update.update (if_installed (replica_for v.state c.in-Update.region))) c.args.posts.now c.meet-in-Update.new.posts c.on_update.new.posts refl
+    (updated v.space v.state c.args.from c.in-Update.update (if_installed (replica_for v.state c.in-Update.region)))
+    c.args.posts.now c.meet-in-Update.new.posts c.on_update.new.posts refl
     c.in_ok-meet-in-Update.ensures c.on_update.ensures.posts
 
 pub returns-in_ok-meet-in-Update-clause-notes : goal.returns-in_ok-meet-in-Update-clause-notes
@@ -73,13 +78,15 @@ returns-in_ok-meet-in-Update-clause-notes c =
     (updated_quiet v.space v.state c.args.from c.in-Update.update (if_installed (replica_for v.state c.in-Update.region)))
 
 pub returns-in_ok-meet-in-Update-clause-change : goal.returns-in_ok-meet-in-Update-clause-change
-returns-in_ok-meet-in-Update-clause-change c = change_made c.args.self.now c.args.from c.args.message.now _ c.in-Update.is c.on_update.new.self c.on_update.result c.on_update.ensures.change
+returns-in_ok-meet-in-Update-clause-change c = change_made c.args.self.now c.args.from c.args.message.now _
+    c.in-Update.is c.on_update.new.self c.on_update.result c.on_update.ensures.change
 
 pub returns-in_ok-meet-in-Ack-clause-posts : goal.returns-in_ok-meet-in-Ack-clause-posts
 returns-in_ok-meet-in-Ack-clause-posts c =
     let v = c.args.self.now in
     posts_met v c.args.from c.args.message.now _ c.in-Ack.is c.on_ack.result c.in-Ack.epoch
-    (acked v.space v.state c.args.from c.in-Ack.key c.in-Ack.version.0 c.in-Ack.by (if_installed (replica_for v.state c.in-Ack.region))) c.args.posts.now c.meet-in-Ack.new.posts c.on_ack.new.posts refl
+    (acked v.space v.state c.args.from c.in-Ack.key c.in-Ack.version.0 c.in-Ack.by
+    (if_installed (replica_for v.state c.in-Ack.region))) c.args.posts.now c.meet-in-Ack.new.posts c.on_ack.new.posts refl
     c.in_ok-meet-in-Ack.ensures c.on_ack.ensures.posts
 
 pub returns-in_ok-meet-in-Ack-clause-notes : goal.returns-in_ok-meet-in-Ack-clause-notes
@@ -89,13 +96,15 @@ returns-in_ok-meet-in-Ack-clause-notes c =
     (acked_quiet v.space v.state c.args.from c.in-Ack.key c.in-Ack.version.0 c.in-Ack.by (if_installed (replica_for v.state c.in-Ack.region)))
 
 pub returns-in_ok-meet-in-Ack-clause-change : goal.returns-in_ok-meet-in-Ack-clause-change
-returns-in_ok-meet-in-Ack-clause-change c = change_made c.args.self.now c.args.from c.args.message.now _ c.in-Ack.is c.on_ack.new.self c.on_ack.result c.on_ack.ensures.change
+returns-in_ok-meet-in-Ack-clause-change c = change_made c.args.self.now c.args.from c.args.message.now _ c.in-Ack.is
+    c.on_ack.new.self c.on_ack.result c.on_ack.ensures.change
 
 pub returns-in_ok-meet-in-Ask-clause-posts : goal.returns-in_ok-meet-in-Ask-clause-posts
 returns-in_ok-meet-in-Ask-clause-posts c =
     let v = c.args.self.now in
     posts_met v c.args.from c.args.message.now _ c.in-Ask.is c.on_ask.result c.in-Ask.epoch
-    (asked v.state c.args.from c.in-Ask.epoch c.in-Ask.number c.in-Ask.terms (if_installed (replica_for v.state c.in-Ask.region))) c.args.posts.now c.meet-in-Ask.new.posts c.on_ask.new.posts refl
+    (asked v.state c.args.from c.in-Ask.epoch c.in-Ask.number c.in-Ask.terms
+    (if_installed (replica_for v.state c.in-Ask.region))) c.args.posts.now c.meet-in-Ask.new.posts c.on_ask.new.posts refl
     c.in_ok-meet-in-Ask.ensures c.on_ask.ensures.posts
 
 pub returns-in_ok-meet-in-Ask-clause-notes : goal.returns-in_ok-meet-in-Ask-clause-notes
@@ -105,21 +114,25 @@ returns-in_ok-meet-in-Ask-clause-notes c =
     (asked_quiet v.state c.args.from c.in-Ask.epoch c.in-Ask.number c.in-Ask.terms (if_installed (replica_for v.state c.in-Ask.region)))
 
 pub returns-in_ok-meet-in-Ask-clause-change : goal.returns-in_ok-meet-in-Ask-clause-change
-returns-in_ok-meet-in-Ask-clause-change c = change_made c.args.self.now c.args.from c.args.message.now _ c.in-Ask.is c.on_ask.new.self c.on_ask.result c.on_ask.ensures.change
+returns-in_ok-meet-in-Ask-clause-change c = change_made c.args.self.now c.args.from c.args.message.now _ c.in-Ask.is
+    c.on_ask.new.self c.on_ask.result c.on_ask.ensures.change
 
 pub returns-in_ok-meet-in-Call-clause-posts : goal.returns-in_ok-meet-in-Call-clause-posts
 returns-in_ok-meet-in-Call-clause-posts c =
     let v = c.args.self.now in
     posts_met v c.args.from c.args.message.now _ c.in-Call.is c.on_call.result c.in-Call.epoch
-    (called_by v.space v.state c.args.from c.in-Call.number c.in-Call.op) c.args.posts.now c.meet.new.posts c.on_call.new.posts refl c.in_ok-meet-in-Call.ensures
-    (subst (λ (op : Op). OnOk c.on_call.result (c.on_call.new.posts ≡ c.meet.new.posts ++ (called_by v.space v.state c.args.from c.in-Call.number op).posts)) c.deref.ensures
+    (called_by v.space v.state c.args.from c.in-Call.number c.in-Call.op) c.args.posts.now c.meet.new.posts
+    c.on_call.new.posts refl c.in_ok-meet-in-Call.ensures
+    (subst (λ (op : Op). OnOk c.on_call.result (c.on_call.new.posts ≡ c.meet.new.posts
+    ++ (called_by v.space v.state c.args.from c.in-Call.number op).posts)) c.deref.ensures
     c.on_call.ensures.posts)
 
 pub returns-in_ok-meet-in-Call-clause-notes : goal.returns-in_ok-meet-in-Call-clause-notes
 returns-in_ok-meet-in-Call-clause-notes c =
     let v = c.args.self.now in
     notes_made v c.args.from c.args.message.now _ c.in-Call.is c.on_call.result c.args.notes.now c.on_call.new.notes
-    (subst (λ (op : Op). OnOk c.on_call.result (c.on_call.new.notes ≡ c.args.notes.now ++ (called_by v.space v.state c.args.from c.in-Call.number op).notes)) c.deref.ensures
+    (subst (λ (op : Op). OnOk c.on_call.result (c.on_call.new.notes ≡ c.args.notes.now
+    ++ (called_by v.space v.state c.args.from c.in-Call.number op).notes)) c.deref.ensures
     c.on_call.ensures.notes)
 
 pub returns-in_ok-meet-in-Call-clause-change : goal.returns-in_ok-meet-in-Call-clause-change
@@ -162,7 +175,8 @@ returns-in_ok-meet-in-Snap-clause-change c =
     )
 
 pub returns-in-Install-clause-posts : goal.returns-in-Install-clause-posts
-returns-in-Install-clause-posts c = posts_made c.args.self.now c.args.from c.args.message.now _ c.in-Install.is c.on_install.result c.args.posts.now c.on_install.new.posts c.on_install.ensures.posts
+returns-in-Install-clause-posts c = posts_made c.args.self.now c.args.from c.args.message.now _ c.in-Install.is
+    c.on_install.result c.args.posts.now c.on_install.new.posts c.on_install.ensures.posts
 
 pub returns-in-Install-clause-notes : goal.returns-in-Install-clause-notes
 returns-in-Install-clause-notes c =
@@ -172,11 +186,13 @@ returns-in-Install-clause-notes c =
 pub returns-in-Install-clause-change : goal.returns-in-Install-clause-change
 returns-in-Install-clause-change c =
     let v = c.args.self.now in
-    subst (λ (x : ServerValue). IfOk c.on_install.result (IsChange x (message_step v.space v.state c.args.from c.args.message.now).state)) (sym c.on_install.ensures.stays)
+    subst (λ (x : ServerValue). IfOk c.on_install.result
+    (IsChange x (message_step v.space v.state c.args.from c.args.message.now).state)) (sym c.on_install.ensures.stays)
     (change_made v c.args.from c.args.message.now _ c.in-Install.is v c.on_install.result c.on_install.ensures.change)
 
 pub returns-in-Die-clause-posts : goal.returns-in-Die-clause-posts
-returns-in-Die-clause-posts c = posts_made c.args.self.now c.args.from c.args.message.now _ c.in-Die.is c.halt.result c.args.posts.now c.halt.new.posts c.halt.ensures.posts
+returns-in-Die-clause-posts c = posts_made c.args.self.now c.args.from c.args.message.now _ c.in-Die.is c.halt.result
+    c.args.posts.now c.halt.new.posts c.halt.ensures.posts
 
 pub returns-in-Die-clause-notes : goal.returns-in-Die-clause-notes
 returns-in-Die-clause-notes c = quiet_made c.args.self.now c.args.from c.args.message.now _ c.in-Die.is c.halt.result c.args.notes.now refl
@@ -188,8 +204,10 @@ pub returns-in_default : goal.returns-in_default
 returns-in_default c =
     let v = c.args.self.now in
     let n = c.in_default in
-    let none = unmoved_by v.space v.state c.args.from c.args.message.now (λ epoch number op e. n.not-Call epoch number op e) (λ epoch g u e. n.not-Update epoch g u e)
-    (λ epoch g by key version e. n.not-Ack epoch g by key version e) (λ epoch number g terms e. n.not-Ask epoch number g terms e) (λ config e. n.not-Install config e)
+    let none = unmoved_by v.space v.state c.args.from c.args.message.now
+    (λ epoch number op e. n.not-Call epoch number op e) (λ epoch g u e. n.not-Update epoch g u e)
+    (λ epoch g by key version e. n.not-Ack epoch g by key version e)
+    (λ epoch number g terms e. n.not-Ask epoch number g terms e) (λ config e. n.not-Install config e)
     (λ e. n.not-Die e) (λ epoch g snapshot pending e. n.not-Snap epoch g snapshot pending e) in
     record {
       posts = nothing_more c.args.posts.now _ (ap (λ (t : ServerStep). t.posts) none);

@@ -67,8 +67,10 @@ call-requires-clause-leading c =
     let taken = taken_still old new c.reserve.ensures.space c.reserve.ensures.state (λ space s. leading space s key) c.in-Some-leading.replica key
     key 1 c.in_ok-place.place x t c.in-Some-leading.ensures refl c.in_ok-place.ensures.room c.context_at-context.ensures.seen
     c.slot_at-slot.ensures.state in
-    let marked = marked_still old new c.reserve.ensures.space c.reserve.ensures.state (marked_inside c.self.inside c.args.self.now c.self.view_is c.self.invariant) in
-    let leads = slot_leads new key c.in-Some-leading.replica taken.there.replica marked (small_still old new c.reserve.ensures.state c.requires.small) taken.there.is taken.there.at_place in
+    let marked = marked_still old new c.reserve.ensures.space c.reserve.ensures.state
+    (marked_inside c.self.inside c.args.self.now c.self.view_is c.self.invariant) in
+    let leads = slot_leads new key c.in-Some-leading.replica taken.there.replica marked
+    (small_still old new c.reserve.ensures.state c.requires.small) taken.there.is taken.there.at_place in
     subst (λ (y : SlotContext). IsLeading y.space y.region t) (sym taken.stands) (subst (IsLeading new.space taken.there.replica.region) (sym taken.same) leads)
 
 pub returns-clause-posts : goal.returns-clause-posts
@@ -86,7 +88,8 @@ returns-clause-posts c =
     (
     ap (λ (a : Actor). called_by new.space new.state a c.args.number c.args.op.now) c.in-Session.is
     ∙ ap (called new.space new.state (record { session = c.in-Session.session; number = c.args.number }) c.args.op.now) (sym c.in-Some.ensures)
-    ∙ call_made new c.in-Some-leading.replica 1 c.in_ok-place.place x t (record { session = c.in-Session.session; number = c.args.number }) c.args.op.now key taken
+    ∙ call_made new c.in-Some-leading.replica 1 c.in_ok-place.place x t
+    (record { session = c.in-Session.session; number = c.args.number }) c.args.op.now key taken
     ) c.args.posts.now c.call.new.posts c.in-Ok.ensures.posts
 
 pub returns-clause-notes : goal.returns-clause-notes
@@ -104,7 +107,8 @@ returns-clause-notes c =
     (
     ap (λ (a : Actor). called_by new.space new.state a c.args.number c.args.op.now) c.in-Session.is
     ∙ ap (called new.space new.state (record { session = c.in-Session.session; number = c.args.number }) c.args.op.now) (sym c.in-Some.ensures)
-    ∙ call_made new c.in-Some-leading.replica 1 c.in_ok-place.place x t (record { session = c.in-Session.session; number = c.args.number }) c.args.op.now key taken
+    ∙ call_made new c.in-Some-leading.replica 1 c.in_ok-place.place x t
+    (record { session = c.in-Session.session; number = c.args.number }) c.args.op.now key taken
     ) c.args.notes.now c.call.new.notes c.in-Ok.ensures.notes
 
 pub returns-clause-change : goal.returns-clause-change
@@ -123,9 +127,12 @@ returns-clause-change c =
     (
     ap (λ (a : Actor). called_by new.space new.state a c.args.number c.args.op.now) c.in-Session.is
     ∙ ap (called new.space new.state (record { session = c.in-Session.session; number = c.args.number }) c.args.op.now) (sym c.in-Some.ensures)
-    ∙ call_made new c.in-Some-leading.replica 1 c.in_ok-place.place x t (record { session = c.in-Session.session; number = c.args.number }) c.args.op.now key taken
+    ∙ call_made new c.in-Some-leading.replica 1 c.in_ok-place.place x t
+    (record { session = c.in-Session.session; number = c.args.number }) c.args.op.now key taken
     ) c.in-Some-leading.replica c.in_ok-place.place 1 key x c.in-Ok.change taken.there.at_place taken.stands taken.same
-    (subst (λ (k : List ℕ). IsChangeOf x.region t k (call_step x t (record { session = c.in-Session.session; number = c.args.number }) c.args.op.now) c.in-Ok.change) held c.in-Ok.ensures.change)
+    (subst (λ (k : List ℕ). IsChangeOf x.region t k
+    (call_step x t (record { session = c.in-Session.session; number = c.args.number }) c.args.op.now)
+    c.in-Ok.change) held c.in-Ok.ensures.change)
     (room_small c.in-Ok.change) taken.room
 
 pub returns-in_default-key-clause-posts : goal.returns-in_default-key-clause-posts
@@ -155,7 +162,8 @@ returns-in_default-leading-clause-posts c =
     nothing_more c.args.posts.now _ (ap (λ (t : ServerStep). t.posts)
     (ap (λ (a : Actor). called_by v.space v.state a c.args.number c.args.op.now) c.in-Session.is
     ∙ ap (called v.space v.state (record { session = c.in-Session.session; number = c.args.number }) c.args.op.now) (sym c.in-Some.ensures)
-    ∙ called_nowhere v.space v.state (record { session = c.in-Session.session; number = c.args.number }) c.args.op.now c.in-Some.key.now (found_nowhere (leading v.space v.state c.in-Some.key.now) c.in_default-leading.ensures)))
+    ∙ called_nowhere v.space v.state (record { session = c.in-Session.session; number = c.args.number }) c.args.op.now
+    c.in-Some.key.now (found_nowhere (leading v.space v.state c.in-Some.key.now) c.in_default-leading.ensures)))
 
 pub returns-in_default-leading-clause-notes : goal.returns-in_default-leading-clause-notes
 returns-in_default-leading-clause-notes c =
@@ -163,7 +171,8 @@ returns-in_default-leading-clause-notes c =
     nothing_more c.args.notes.now _ (ap (λ (t : ServerStep). t.notes)
     (ap (λ (a : Actor). called_by v.space v.state a c.args.number c.args.op.now) c.in-Session.is
     ∙ ap (called v.space v.state (record { session = c.in-Session.session; number = c.args.number }) c.args.op.now) (sym c.in-Some.ensures)
-    ∙ called_nowhere v.space v.state (record { session = c.in-Session.session; number = c.args.number }) c.args.op.now c.in-Some.key.now (found_nowhere (leading v.space v.state c.in-Some.key.now) c.in_default-leading.ensures)))
+    ∙ called_nowhere v.space v.state (record { session = c.in-Session.session; number = c.args.number }) c.args.op.now
+    c.in-Some.key.now (found_nowhere (leading v.space v.state c.in-Some.key.now) c.in_default-leading.ensures)))
 
 pub returns-in_default-leading-clause-change : goal.returns-in_default-leading-clause-change
 returns-in_default-leading-clause-change c =
@@ -171,4 +180,5 @@ returns-in_default-leading-clause-change c =
     unchanged v _ c.requires.bare
     (ap (λ (a : Actor). called_by v.space v.state a c.args.number c.args.op.now) c.in-Session.is
     ∙ ap (called v.space v.state (record { session = c.in-Session.session; number = c.args.number }) c.args.op.now) (sym c.in-Some.ensures)
-    ∙ called_nowhere v.space v.state (record { session = c.in-Session.session; number = c.args.number }) c.args.op.now c.in-Some.key.now (found_nowhere (leading v.space v.state c.in-Some.key.now) c.in_default-leading.ensures))
+    ∙ called_nowhere v.space v.state (record { session = c.in-Session.session; number = c.args.number }) c.args.op.now
+    c.in-Some.key.now (found_nowhere (leading v.space v.state c.in-Some.key.now) c.in_default-leading.ensures))

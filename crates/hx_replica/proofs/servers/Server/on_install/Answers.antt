@@ -21,7 +21,8 @@ returns-clause-posts c =
     let mine = ap (λ (k : Config). k.epoch.0) c.deref-2.ensures in
     let other = ap (λ (k : Config). k.epoch.0) c.deref.ensures in
     let newer : i.config.epoch.0 < config.epoch.0 = omega (arith, c.if-deref.false, mine, other) in
-    let all = λ (k : Config) (views : List ReplicaState). flat_map (λ (g : RegionId). adopted_posts i.space (standing k i.id) (replica_or_new views g)) (listed_regions k i.id) in
+    let all = λ (k : Config) (views : List ReplicaState). flat_map
+    (λ (g : RegionId). adopted_posts i.space (standing k i.id) (replica_or_new views g)) (listed_regions k i.id) in
     subst (λ (v : ServerValue). c.post_adoption.new.posts ≡ c.args.posts.now ++ (install_at v.space v.state config).posts) c.self.view_is
     (
     adoption_posts (value_of i) config newer c.args.posts.now c.post_adoption.new.posts
@@ -37,7 +38,8 @@ returns-clause-change c =
     let mine = ap (λ (k : Config). k.epoch.0) c.deref-2.ensures in
     let other = ap (λ (k : Config). k.epoch.0) c.deref.ensures in
     let newer : i.config.epoch.0 < config.epoch.0 = omega (arith, c.if-deref.false, mine, other) in
-    let new : c.in_ok-replicas.replicas.items ≡ map (new_replica i.space) (listed_regions config i.id) = c.in_ok-replicas.ensures ∙ ap (λ (k : Config). map (new_replica i.space) (listed_regions k i.id)) c.deref-4.ensures in
+    let new : c.in_ok-replicas.replicas.items ≡ map (new_replica i.space) (listed_regions config i.id) =
+    c.in_ok-replicas.ensures ∙ ap (λ (k : Config). map (new_replica i.space) (listed_regions k i.id)) c.deref-4.ensures in
     subst (λ (v : ServerValue). IsChange v (install_at v.space v.state config).state (a_change.Adopt c.in_ok-config.config c.in_ok-replicas.replicas))
     c.self.view_is
     (

@@ -67,7 +67,8 @@ returns-clause-posts c =
     subst (λ (v : ServerValue). c.installed.new.posts ≡ c.args.posts.now ++ (snapped v.space v.state c.args.from snapshot pending
     (replica_for v.state g)).posts) c.self.view_is
     (
-    join_posts (value_of i) c.args.from g snapshot pending c.in-Some.number c.index.result.now taken hears c.args.posts.now c.installed.new.posts c.if-index.false
+    join_posts (value_of i) c.args.from g snapshot pending c.in-Some.number c.index.result.now taken hears
+    c.args.posts.now c.installed.new.posts c.if-index.false
     (c.in-Ok.ensures.posts ∙ ap (λ (k : Config). (c.args.posts.now ++ (slots k).posts) ++ ready_post (standing k i.id) g) c.deref-2.ensures)
     )
 
@@ -100,7 +101,8 @@ returns-then-not-hears_snap-clause-posts c =
     let g = c.args.region in
     let v = c.args.self.now in
     nothing_more c.args.posts.now _ (ap (λ (t : ServerStep). t.posts) (unheard_step v c.args.from g c.args.snapshot.now c.args.pending.now
-    (unheard i v c.args.from g c.self.view_is (ap (λ (k : Config). hears_snap k g i.id c.args.from) (sym c.deref.ensures) ∙ sym c.hears_snap.ensures ∙ c.if-not-hears_snap.true))))
+    (unheard i v c.args.from g c.self.view_is (ap (λ (k : Config). hears_snap k g i.id c.args.from)
+    (sym c.deref.ensures) ∙ sym c.hears_snap.ensures ∙ c.if-not-hears_snap.true))))
 
 pub returns-then-not-hears_snap-clause-change : goal.returns-then-not-hears_snap-clause-change
 returns-then-not-hears_snap-clause-change c =
@@ -109,4 +111,5 @@ returns-then-not-hears_snap-clause-change c =
     let v = c.args.self.now in
     stays v (snapped v.space v.state c.args.from c.args.snapshot.now c.args.pending.now (replica_for v.state g)) c.requires.bare
     (ap (λ (t : ServerStep). t.state) (unheard_step v c.args.from g c.args.snapshot.now c.args.pending.now
-    (unheard i v c.args.from g c.self.view_is (ap (λ (k : Config). hears_snap k g i.id c.args.from) (sym c.deref.ensures) ∙ sym c.hears_snap.ensures ∙ c.if-not-hears_snap.true))))
+    (unheard i v c.args.from g c.self.view_is (ap (λ (k : Config). hears_snap k g i.id c.args.from)
+    (sym c.deref.ensures) ∙ sym c.hears_snap.ensures ∙ c.if-not-hears_snap.true))))

@@ -30,7 +30,10 @@ invariant_of-self c =
 
 pub returns-clause-rows : goal.returns-clause-rows
 returns-clause-rows c =
-    if_found c.find.result (λ rows e. rows_there c.self.inside c.args.self.now c.args.place c.index_mut-replica.result.now c.args.terms.now rows c.self.view_is c.self.invariant (within c.self.inside c.args.self.now c.args.place c.self.view_is c.requires) c.index_mut-replica.ensures.value e) c.find.ensures.rows
+    if_found c.find.result (λ rows e. rows_there c.self.inside c.args.self.now c.args.place
+    c.index_mut-replica.result.now c.args.terms.now rows c.self.view_is c.self.invariant
+    (within c.self.inside c.args.self.now c.args.place c.self.view_is c.requires)
+    c.index_mut-replica.ensures.value e) c.find.ensures.rows
 
 pub returns-clause-stays : goal.returns-clause-stays
 returns-clause-stays c =

@@ -16,7 +16,8 @@ use Rattle.hx_replica.proofs.servers.Server.send_again.Goals as goal
 pub returns-clause-posts : goal.returns-clause-posts
 returns-clause-posts c =
     let i = c.self.inside in
-    let all = λ (k : Config) (rs : List Replica). asking_last (standing k i.id) (flat_map (λ (r : Replica). replica_tick i.space (standing k i.id) (view_of r)) rs) in
+    let all = λ (k : Config) (rs : List Replica). asking_last (standing k i.id)
+    (flat_map (λ (r : Replica). replica_tick i.space (standing k i.id) (view_of r)) rs) in
     on_ok_weaker c.post_tick.result
     (
     λ e. subst (λ (v : ServerValue). c.post_tick.new.posts ≡ c.args.posts.now ++ (tick_step v.space v.state).posts) c.self.view_is
@@ -35,7 +36,8 @@ pub post_tick-requires-clause-regions : goal.post_tick-requires-clause-regions
 post_tick-requires-clause-regions c =
     let i = c.self.inside in
     own_regions i.space c.as_slice.result.now
-    (subst (AreReplicas i.space) (sym (c.as_slice.ensures.value ∙ c.sort_orders.ensures)) (ordered_are i.space i.replicas.items c.self.invariant.replicas_are)).each
+    (subst (AreReplicas i.space) (sym (c.as_slice.ensures.value ∙ c.sort_orders.ensures))
+    (ordered_are i.space i.replicas.items c.self.invariant.replicas_are)).each
 
 pub post_tick-requires-clause-ordered : goal.post_tick-requires-clause-ordered
 post_tick-requires-clause-ordered c = subst AreOrdered (sym (c.as_slice.ensures.value ∙ c.sort_orders.ensures)) (are_in_order c.self.inside.replicas.items)

@@ -17,7 +17,8 @@ invariant_of-result c = record {
       subst (λ (x : Space). AreReplicas x c.args.replicas.items) (sym c.in_ok-space.ensures)
       (subst (AreReplicas c.args.space.now) (sym c.requires.replicas) (first_ones c.args.space.now c.args.config c.args.id));
   bare =
-      subst (λ (rs : List Replica). map folded_replica (views_of rs) ≡ views_of rs) (sym c.requires.replicas) (bare_first c.args.space.now (listed_regions c.args.config c.args.id));
+      subst (λ (rs : List Replica). map folded_replica (views_of rs) ≡ views_of rs) (sym c.requires.replicas)
+      (bare_first c.args.space.now (listed_regions c.args.config c.args.id));
 }
 
 pub returns-clause-state : goal.returns-clause-state

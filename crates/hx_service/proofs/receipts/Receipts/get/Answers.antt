@@ -10,12 +10,16 @@ use Rattle.hx_service.proofs.receipts.Receipts.get.Goals as goal
 pub receipt_in-requires : goal.receipt_in-requires
 receipt_in-requires c =
     noted-at (reverse c.self.inside.trace.now) c.args.place c.in-Some.booked.now
-    (placed (reverse c.self.inside.trace.now) c.self.inside.booked.now c.self.invariant c.args.place c.in-Some.booked.now (slice_get-get_or c.self.inside.booked.now c.args.place _ (ltb-true _ _ (sym c.in-Some.ensures.lookup.0)) ∙ ap (λ b. Some b) (sym c.in-Some.ensures.lookup.1)))
+    (placed (reverse c.self.inside.trace.now) c.self.inside.booked.now c.self.invariant c.args.place
+    c.in-Some.booked.now (slice_get-get_or c.self.inside.booked.now c.args.place _
+    (ltb-true _ _ (sym c.in-Some.ensures.lookup.0)) ∙ ap (λ b. Some b) (sym c.in-Some.ensures.lookup.1)))
 
 pub returns-in-Some : goal.returns-in-Some
 returns-in-Some c =
     read-at (reverse c.self.inside.trace.now) c.args.place c.in-Some.booked.now
-    (placed (reverse c.self.inside.trace.now) c.self.inside.booked.now c.self.invariant c.args.place c.in-Some.booked.now (slice_get-get_or c.self.inside.booked.now c.args.place _ (ltb-true _ _ (sym c.in-Some.ensures.lookup.0)) ∙ ap (λ b. Some b) (sym c.in-Some.ensures.lookup.1)))
+    (placed (reverse c.self.inside.trace.now) c.self.inside.booked.now c.self.invariant c.args.place
+    c.in-Some.booked.now (slice_get-get_or c.self.inside.booked.now c.args.place _
+    (ltb-true _ _ (sym c.in-Some.ensures.lookup.0)) ∙ ap (λ b. Some b) (sym c.in-Some.ensures.lookup.1)))
     c.receipt_in.result.caller c.receipt_in.result.begin c.receipt_in.result.end c.receipt_in.result.version c.receipt_in.result.answer.now
     c.receipt_in.ensures.caller c.receipt_in.ensures.begin c.receipt_in.ensures.entry c.receipt_in.ensures.end
     ∙ ap (λ (l : List Receipt). slice_get l c.args.place) c.self.view_is

@@ -18,4 +18,5 @@ pub returns-clause-grows : goal.returns-clause-grows
 returns-clause-grows c =
     grows c.args.self.now c.args.session c.args.op c.make_call.new.world c.requires.session c.make_call.result
     (subst (λ (w : ServiceState). Calls w c.args.session c.args.op c.make_call.new.world c.make_call.result) c.self.view_is c.make_call.ensures.calls)
-    (subst (λ (w : ServiceState). IsDrained c.make_call.new.world.script (reverse w.trace) (reverse c.make_call.new.world.trace)) c.self.view_is c.make_call.ensures.drained)
+    (subst (λ (w : ServiceState). IsDrained c.make_call.new.world.script (reverse w.trace)
+    (reverse c.make_call.new.world.trace)) c.self.view_is c.make_call.ensures.drained)

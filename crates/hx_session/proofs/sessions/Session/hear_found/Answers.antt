@@ -29,11 +29,13 @@ returns-in-Some-clause-notes c =
 pub returns-in-None-clause-change : goal.returns-in-None-clause-change
 returns-in-None-clause-change c =
     subst (λ (step : SessionStep). Makes c.args.self.now.state step c.change_nothing-in-None.result)
-    (unfound_is c.self.inside c.args.self.now c.args.epoch c.args.number c.args.region c.args.rows.now c.as_slice.result.now c.self.view_is c.as_slice.ensures c.in-None.ensures.none)
+    (unfound_is c.self.inside c.args.self.now c.args.epoch c.args.number c.args.region c.args.rows.now
+    c.as_slice.result.now c.self.view_is c.as_slice.ensures c.in-None.ensures.none)
     (stays_makes c.self.inside c.args.self.now c.change_nothing-in-None.result c.self.view_is c.change_nothing-in-None.ensures)
 
 pub returns-in-None-clause-notes : goal.returns-in-None-clause-notes
 returns-in-None-clause-notes c =
     subst (λ (step : SessionStep). c.args.notes.now ≡ c.args.notes.now ++ step.notes)
-    (unfound_is c.self.inside c.args.self.now c.args.epoch c.args.number c.args.region c.args.rows.now c.as_slice.result.now c.self.view_is c.as_slice.ensures c.in-None.ensures.none)
+    (unfound_is c.self.inside c.args.self.now c.args.epoch c.args.number c.args.region c.args.rows.now
+    c.as_slice.result.now c.self.view_is c.as_slice.ensures c.in-None.ensures.none)
     (sym (append-nil c.args.notes.now))

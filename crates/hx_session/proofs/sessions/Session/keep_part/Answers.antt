@@ -13,7 +13,8 @@ returns-then-all_found-clause-change c =
     IfOk-weaker c.end_call.result _ _
     (
     λ change e. last_makes c.self.inside c.args.self.now c.args.region c.args.rows.now c.self.view_is
-    (ap (λ (ps : List SearchPart). list_all (is_found c.args.region) ps) (sym c.as_slice-parts.ensures) ∙ sym c.all_found.ensures ∙ c.if-all_found.true) change e
+    (ap (λ (ps : List SearchPart). list_all (is_found c.args.region) ps) (sym c.as_slice-parts.ensures)
+    ∙ sym c.all_found.ensures ∙ c.if-all_found.true) change e
     )
     c.end_call.ensures.change
 
@@ -24,7 +25,8 @@ returns-then-all_found-clause-notes c =
     λ e. last_notes c.self.inside c.args.self.now c.args.region c.args.rows.now c.self.view_is
     (ap (λ (ps : List SearchPart). list_all (is_found c.args.region) ps) (sym c.as_slice-parts.ensures) ∙ sym c.all_found.ensures ∙ c.if-all_found.true)
     c.in_ok-rows.rows c.args.notes.now c.end_call.new.notes
-    (c.in_ok-rows.ensures ∙ ap (λ (ps : List SearchPart). merged_parts (map (with_part c.args.region c.args.rows.now) (map part_seen ps))) c.as_slice-parts.ensures) e
+    (c.in_ok-rows.ensures ∙ ap (λ (ps : List SearchPart). merged_parts
+    (map (with_part c.args.region c.args.rows.now) (map part_seen ps))) c.as_slice-parts.ensures) e
     )
     c.end_call.ensures.notes
 

@@ -21,7 +21,8 @@ invariant_of-self c =
     let is = top-seen a c.self.invariant in
     let above : last_version a.base.floor.0 a.accepted.items < t.update.version.0 = omega (arith, is, top) in
     let held = all-filter (IsHeld a.region) (λ (p : PlacedUpdate). not (eqb p.update.version.0 t.update.version.0)) a.early.items c.self.invariant.early in
-    let dropped = c.drop_version.ensures.items ∙ ap (λ (u : Update). filter (λ (p : PlacedUpdate). not (eqb p.update.version.0 u.version.0)) a.early.items) c.deref.ensures in
+    let dropped = c.drop_version.ensures.items ∙ ap
+    (λ (u : Update). filter (λ (p : PlacedUpdate). not (eqb p.update.version.0 u.version.0)) a.early.items) c.deref.ensures in
     let spare = subst (λ (s : SlotState). 0 < s.spare) (sym c.self.view_is) c.requires.spare in
     accepted-slot a t c.push_reserved.new.self c.drop_version.new.early _ c.self.invariant placed above refl
     c.push_reserved.ensures.items c.push_reserved.ensures.len c.push_reserved.ensures.capacity
@@ -32,7 +33,10 @@ pub returns-clause-state : goal.returns-clause-state
 returns-clause-state c =
     let t : AcceptedUpdate = record { update = c.args.placed.update; keeps = c.args.placed.keeps; acknowledged = false } in
     let top = subst (λ (s : SlotState). top_of s.state < t.update.version.0) (sym c.self.view_is) c.requires.above in
-    let dropped = c.drop_version.ensures.items ∙ ap (λ (u : Update). filter (λ (p : PlacedUpdate). not (eqb p.update.version.0 u.version.0)) c.self.inside.early.items) c.deref.ensures in
+    let dropped = c.drop_version.ensures.items ∙ ap
+    (λ (u : Update). filter (λ (p : PlacedUpdate). not (eqb p.update.version.0 u.version.0))
+    c.self.inside.early.items) c.deref.ensures in
     let floor = floor-seen c.self.inside c.self.invariant in
-    accepted-state c.self.inside t c.push_reserved.new.self c.drop_version.new.early (c.self.inside.spare - 1) (omega (arith, top, floor)) c.push_reserved.ensures.items dropped
+    accepted-state c.self.inside t c.push_reserved.new.self c.drop_version.new.early (c.self.inside.spare - 1)
+    (omega (arith, top, floor)) c.push_reserved.ensures.items dropped
     ∙ ap (λ (s : SlotState). moved (Take c.args.placed.update) s.state) c.self.view_is

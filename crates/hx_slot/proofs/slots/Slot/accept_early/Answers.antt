@@ -10,7 +10,9 @@ loop-count-preserved c =
     let new = c.accept_next_early.new.self in
     let m = c.args.most - (c.loop-count.count + 1) in
     let n : c.args.most - c.loop-count.count ≡ suc m = omega arith in
-    let step = turn-step old.region m old.state new.state (sym c.if-not-accept_next_early.false ∙ c.accept_next_early.ensures.found) c.accept_next_early.ensures.state c.accept_next_early.ensures.later in
+    let step = turn-step old.region m old.state new.state
+    (sym c.if-not-accept_next_early.false ∙ c.accept_next_early.ensures.found) c.accept_next_early.ensures.state
+    c.accept_next_early.ensures.later in
     let region = c.accept_next_early.ensures.region in
     let counted = ap (λ (g : RegionId). length (taken (turns g m (top_of new.state) new.state.early))) region in
     let now = step.count ∙ ap (λ k. length (taken (turns old.region k (top_of old.state) old.state.early))) (sym n) in

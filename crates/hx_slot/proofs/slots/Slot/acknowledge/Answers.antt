@@ -39,10 +39,12 @@ returns-clause-state c =
     let t = c.index_mut.result.now in
     let rest = c.rest_of-pending.ensures ∙ ap (drop a.committed) c.as_slice.ensures.value in
     let at = read-at a v c.in-Some.place t (sym (c.in-Some.ensures ∙ ap (position (is_of_version v)) rest)) c.index_mut.ensures.value in
-    acknowledged-state a c.in-Some.place t (with_item a.accepted (a.committed + c.in-Some.place) (record t { acknowledged = true })) c.with-self-inside.result at.within at.read refl
+    acknowledged-state a c.in-Some.place t (with_item a.accepted (a.committed + c.in-Some.place)
+    (record t { acknowledged = true })) c.with-self-inside.result at.within at.read refl
     (c.with-self-inside.ensures ∙ ap (λ k. with_ack k a.acked.versions) (sym at.version))
     ∙ ap (λ k. moved (Acknowledge k) (seen a).state) at.version
     ∙ ap (λ (s : SlotState). moved (Acknowledge v) s.state) c.self.view_is
 
 pub returns-clause-stands : goal.returns-clause-stands
-returns-clause-stands c = λ s h. stands-mark c.args.self.now.region _ c.args.self.now.state _ s c.args.version.0 (returns-clause-state c) (ap (λ (x : SlotState). x.region) c.self.view_is) h
+returns-clause-stands c = λ s h. stands-mark c.args.self.now.region _ c.args.self.now.state _ s c.args.version.0
+    (returns-clause-state c) (ap (λ (x : SlotState). x.region) c.self.view_is) h

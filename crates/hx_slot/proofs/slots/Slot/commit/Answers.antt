@@ -17,7 +17,9 @@ invariant_of-self c =
     let n = c.args.count in
     let rest = c.rest_of-pending.ensures ∙ ap (drop a.committed) c.as_slice.ensures.value in
     settled-slot a n c.last_version-self-inside.result c.above-self-inside.result c.self.invariant
-    (let l = front-within (pending_in a) in let e = c.requires ∙ ap (λ (s : SlotState). length (settled s.state)) (sym c.self.view_is) ∙ settled-count a c.self.invariant in omega (arith, l, e))
+    (let l = front-within (pending_in a) in let e =
+    c.requires ∙ ap (λ (s : SlotState). length (settled s.state)) (sym c.self.view_is)
+    ∙ settled-count a c.self.invariant in omega (arith, l, e))
     (c.last_version-self-inside.ensures ∙ ap (λ (ts : List AcceptedUpdate). last_version a.floor.0 (take n ts)) rest)
     c.above-self-inside.ensures
 

@@ -8,6 +8,8 @@ loop-count-preserved c =
     let s = c.args.self.now in
     let m = c.len-most.result - (c.loop-count.count + 1) in
     let n : c.len-most.result - c.loop-count.count ≡ suc m = omega arith in
-    let first = ap (λ (moves : List Move). length (taken moves)) (turns-first s.region (c.len-most.result - c.loop-count.count) m c.loop-count.top.0 s.state.early c.deref.result.now n (ap Some c.deref.ensures ∙ c.in-Some.ensures.turn)) in
+    let first = ap (λ (moves : List Move). length (taken moves))
+    (turns-first s.region (c.len-most.result - c.loop-count.count) m c.loop-count.top.0 s.state.early
+    c.deref.result.now n (ap Some c.deref.ensures ∙ c.in-Some.ensures.turn)) in
     let before = c.loop-count.invariant in
     omega (arith, first, before)

@@ -10,7 +10,8 @@ invariant_of-self-2 c =
     let some = c.if-self-eq0.false in
     let is = front a.accepted.items c.index.result.now (omega (arith, within, some)) c.index.ensures in
     let count : a.committed ≡ suc (a.committed - 1) = omega (arith, some) in
-    committed-slot a c.self.invariant c.fold.new.self c.index.result.now (drop 1 a.accepted.items) c.remove.new.self (a.committed - 1) is count c.in-Ok.ensures.folded c.remove.ensures.items c.remove.ensures.len c.remove.ensures.capacity
+    committed-slot a c.self.invariant c.fold.new.self c.index.result.now (drop 1 a.accepted.items) c.remove.new.self
+    (a.committed - 1) is count c.in-Ok.ensures.folded c.remove.ensures.items c.remove.ensures.len c.remove.ensures.capacity
 
 pub returns : goal.returns
 returns c =
@@ -19,4 +20,6 @@ returns c =
     let some = c.if-self-eq0.false in
     let is = front a.accepted.items c.index.result.now (omega (arith, within, some)) c.index.ensures in
     let count : a.committed ≡ suc (a.committed - 1) = omega (arith, some) in
-    committed-seen a c.self.invariant c.fold.new.self c.index.result.now (drop 1 a.accepted.items) c.remove.new.self (a.committed - 1) is count c.in-Ok.ensures.folded c.remove.ensures.items c.remove.ensures.len c.remove.ensures.capacity c.args.self.now c.self.view_is
+    committed-seen a c.self.invariant c.fold.new.self c.index.result.now (drop 1 a.accepted.items) c.remove.new.self
+    (a.committed - 1) is count c.in-Ok.ensures.folded c.remove.ensures.items c.remove.ensures.len
+    c.remove.ensures.capacity c.args.self.now c.self.view_is

@@ -18,14 +18,19 @@ invariant_of-self c =
     let held = all-filter (IsHeld a.region) (λ (q : PlacedUpdate). not (eqb q.update.version.0 p.update.version.0)) a.early.items c.self.invariant.early in
     let this = subst (λ (s : SlotState). IsHeld s.region p) (sym c.self.view_is) c.requires.held in
     let all = by_recursion-push (IsHeld a.region) _ p held this in
-    let items = c.push_reserved.ensures.items ∙ ap (λ (ps : List PlacedUpdate). ps ++ p ∷ []) (c.drop_version.ensures.items ∙ ap (λ (u : Update). filter (λ (q : PlacedUpdate). not (eqb q.update.version.0 u.version.0)) c.self.inside.early.items) c.deref.ensures) in
+    let items = c.push_reserved.ensures.items ∙ ap (λ (ps : List PlacedUpdate). ps ++ p ∷ [])
+    (c.drop_version.ensures.items ∙ ap (λ (u : Update). filter
+    (λ (q : PlacedUpdate). not (eqb q.update.version.0 u.version.0)) c.self.inside.early.items) c.deref.ensures) in
     let spare = subst (λ (s : SlotState). 0 < s.spare) (sym c.self.view_is) c.requires.spare in
     let len = c.push_reserved.ensures.len in
     let less = c.drop_version.ensures.len in
-    held-slot a c.push_reserved.new.self _ c.self.invariant (subst (AllByRecursion (IsHeld a.region)) (sym items) all) (omega (arith, len, less, spare)) (c.push_reserved.ensures.capacity ∙ c.drop_version.ensures.capacity)
+    held-slot a c.push_reserved.new.self _ c.self.invariant (subst (AllByRecursion (IsHeld a.region)) (sym items) all)
+    (omega (arith, len, less, spare)) (c.push_reserved.ensures.capacity ∙ c.drop_version.ensures.capacity)
 
 pub returns-clause-state : goal.returns-clause-state
 returns-clause-state c =
     let p = c.args.placed in
-    let items = c.push_reserved.ensures.items ∙ ap (λ (ps : List PlacedUpdate). ps ++ p ∷ []) (c.drop_version.ensures.items ∙ ap (λ (u : Update). filter (λ (q : PlacedUpdate). not (eqb q.update.version.0 u.version.0)) c.self.inside.early.items) c.deref.ensures) in
+    let items = c.push_reserved.ensures.items ∙ ap (λ (ps : List PlacedUpdate). ps ++ p ∷ [])
+    (c.drop_version.ensures.items ∙ ap (λ (u : Update). filter
+    (λ (q : PlacedUpdate). not (eqb q.update.version.0 u.version.0)) c.self.inside.early.items) c.deref.ensures) in
     held-state c.self.inside p c.push_reserved.new.self (c.self.inside.spare - 1) items ∙ ap (λ (s : SlotState). moved (Hold p.update) s.state) c.self.view_is

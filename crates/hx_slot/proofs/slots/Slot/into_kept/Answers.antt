@@ -9,13 +9,21 @@ use Rattle.hx_slot.proofs.Lean.{base-kept, kept-orderly}
 use Rattle.hx_slot.proofs.slots.Slot.into_kept.Goals as goal
 use Rattle.hx_slot.proofs.slots.Slot.into_kept.Goals.{After-from_vec-2}
 
-made : (c : After-from_vec-2) → record { key = c.self.inside.key; floor = c.self.inside.floor; object = c.self.inside.base.object; marks = c.from_vec.result; touches = c.from_vec-2.result } ≡ kept_of c.self.inside.region (seen c.self.inside).state
+made : (c : After-from_vec-2) → record {
+  key = c.self.inside.key;
+  floor = c.self.inside.floor;
+  object = c.self.inside.base.object;
+  marks = c.from_vec.result;
+  touches = c.from_vec-2.result;
+}
+    ≡ kept_of c.self.inside.region (seen c.self.inside).state
 made c =
     let a = c.self.inside in
     let none = c.if-self-gt0.false in
     let marks = c.from_vec.ensures in
     let touches = c.from_vec-2.ensures in
-    (λ j. record { key = a.key; floor = a.floor; object = a.base.object; marks = marks j; touches = touches j }) ∙ base-kept a c.self.invariant (omega (arith, none))
+    (λ j. record { key = a.key; floor = a.floor; object = a.base.object; marks = marks j; touches = touches j })
+    ∙ base-kept a c.self.invariant (omega (arith, none))
 
 pub returns-clause-kept : goal.returns-clause-kept
 returns-clause-kept c =

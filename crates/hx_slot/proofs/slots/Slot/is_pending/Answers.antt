@@ -11,5 +11,6 @@ pub returns : goal.returns
 returns c =
     let a = c.self.inside in
     let rest = c.rest_of-pending.ensures ∙ ap (drop a.committed) c.as_slice.ensures.value in
-    c.has_update.ensures ∙ ap (λ (ts : List AcceptedUpdate). list_any (is_of_version c.args.version.0) ts) rest ∙ pending-version a c.self.invariant c.args.version.0
+    c.has_update.ensures ∙ ap (λ (ts : List AcceptedUpdate). list_any (is_of_version c.args.version.0) ts) rest
+    ∙ pending-version a c.self.invariant c.args.version.0
     ∙ ap (λ (s : SlotState). is_pending c.args.version.0 s.state) c.self.view_is

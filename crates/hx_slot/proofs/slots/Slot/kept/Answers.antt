@@ -13,7 +13,14 @@ use Rattle.hx_slot.proofs.Lean.{kept-orderly, marks-seen, object-seen, touches-s
 use Rattle.hx_slot.proofs.Carrying.{committed-state}
 use Rattle.hx_slot.proofs.slots.Slot.kept.Goals as goal
 
-made : (c : goal.In_ok-touches_over) → record { key = c.in_ok-copy.field-0; floor = c.self.inside.floor; object = c.in_ok-copy_row.field-0; marks = c.in_ok-marks_over.field-0; touches = c.in_ok-touches_over.field-0 } ≡ kept_of c.self.inside.region (seen c.self.inside).state
+made : (c : goal.In_ok-touches_over) → record {
+  key = c.in_ok-copy.field-0;
+  floor = c.self.inside.floor;
+  object = c.in_ok-copy_row.field-0;
+  marks = c.in_ok-marks_over.field-0;
+  touches = c.in_ok-touches_over.field-0;
+}
+    ≡ kept_of c.self.inside.region (seen c.self.inside).state
 made c =
     let a = c.self.inside in
     let line = ap (λ (ts : List AcceptedUpdate). take a.committed ts) c.deref.ensures.value in
@@ -25,8 +32,11 @@ made c =
     in
     let key = c.in_ok-copy.ensures in
     let object = c.in_ok-copy_row.ensures ∙ row in
-    let marks = c.in_ok-marks_over.ensures ∙ ap (λ (ts : List AcceptedUpdate). provided a.keeps_marks (marks_over a.base.marks.items ts)) line ∙ marks-seen a c.self.invariant in
-    let touches = c.in_ok-touches_over.ensures ∙ ap (λ (ts : List AcceptedUpdate). provided a.keeps_marks (touches_over a.base.touches.items ts)) line ∙ touches-seen a c.self.invariant in
+    let marks = c.in_ok-marks_over.ensures ∙ ap (λ (ts : List AcceptedUpdate). provided a.keeps_marks
+    (marks_over a.base.marks.items ts)) line ∙ marks-seen a c.self.invariant in
+    let touches = c.in_ok-touches_over.ensures ∙ ap
+    (λ (ts : List AcceptedUpdate). provided a.keeps_marks (touches_over a.base.touches.items ts)) line
+    ∙ touches-seen a c.self.invariant in
     λ j. record { key = key j; floor = a.floor; object = object j; marks = marks j; touches = touches j }
 
 pub returns-clause-kept : goal.returns-clause-kept

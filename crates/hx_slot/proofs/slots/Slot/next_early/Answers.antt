@@ -28,10 +28,12 @@ returns-in-Some-clause-place c =
     let a = c.self.inside in
     let at = sym (c.in-Some.ensures ∙ ap (position (comes_after c.args.top.0)) c.as_slice.ensures.value) in
     let found = turn-found a.region c.args.top.0 a.early.items c.in-Some.place c.index.result.now c.self.invariant.early at c.index.ensures in
-    subst (λ (s : SlotState). IsPlacedIn s.region c.index.result.now.update) c.self.view_is (place_number-within a.region c.index.result.now.update.places c.index.result.now.keeps found.held.placed.place)
+    subst (λ (s : SlotState). IsPlacedIn s.region c.index.result.now.update) c.self.view_is
+    (place_number-within a.region c.index.result.now.update.places c.index.result.now.keeps found.held.placed.place)
 
 pub returns-in-None-clause-turn : goal.returns-in-None-clause-turn
 returns-in-None-clause-turn c =
     let a = c.self.inside in
     let at = sym (c.in-None.ensures ∙ ap (position (comes_after c.args.top.0)) c.as_slice.ensures.value) in
-    subst (λ (s : SlotState). None ≡ find (follows s.region c.args.top.0) s.state.early) c.self.view_is (sym (turn-none a.region c.args.top.0 a.early.items c.self.invariant.early at))
+    subst (λ (s : SlotState). None ≡ find (follows s.region c.args.top.0) s.state.early) c.self.view_is
+    (sym (turn-none a.region c.args.top.0 a.early.items c.self.invariant.early at))

@@ -14,7 +14,9 @@ use Rattle.hx_slot.proofs.Turns.{later-held}
 use Rattle.hx_slot.proofs.slots.Slot.offer.Goals as goal
 
 pub hold-requires-clause-held : goal.hold-requires-clause-held
-hold-requires-clause-held c = held-read c.args.self.now.region c.args.update c.as_slice.result.now c.args.place _ c.requires.place c.requires.placed (c.as_slice.ensures ∙ ap (λ (u : Update). u.places) c.deref-2.ensures) c.requires.after c.requires.few
+hold-requires-clause-held c = held-read c.args.self.now.region c.args.update c.as_slice.result.now c.args.place _
+    c.requires.place c.requires.placed (c.as_slice.ensures ∙ ap (λ (u : Update). u.places) c.deref-2.ensures)
+    c.requires.after c.requires.few
 
 pub returns-then-placed-top-clause-answer : goal.returns-then-placed-top-clause-answer
 returns-then-placed-top-clause-answer c =
@@ -22,7 +24,9 @@ returns-then-placed-top-clause-answer c =
     let top = c.top-top.ensures.top in
     let same = ap (λ (u : Update). u.version.0) c.deref.ensures in
     let up = c.if-deref-top.false in
-    let follows = follows-read s.region c.args.update c.as_slice.result.now c.args.place _ c.top-top.result.0 _ c.requires.place c.requires.placed (c.as_slice.ensures ∙ ap (λ (u : Update). u.places) c.deref-2.ensures) top ∙ ne_eqb _ c.top-top.result.0 c.if-placed-top.true in
+    let follows = follows-read s.region c.args.update c.as_slice.result.now c.args.place _ c.top-top.result.0 _
+    c.requires.place c.requires.placed (c.as_slice.ensures ∙ ap (λ (u : Update). u.places) c.deref-2.ensures) top
+    ∙ ne_eqb _ c.top-top.result.0 c.if-placed-top.true in
     sym (offer-early s.region s.state c.args.update (omega (arith, top, up, same)) follows)
 
 pub returns-then-placed-top-clause-state : goal.returns-then-placed-top-clause-state
@@ -31,11 +35,16 @@ returns-then-placed-top-clause-state c =
     let top = c.top-top.ensures.top in
     let same = ap (λ (u : Update). u.version.0) c.deref.ensures in
     let up = c.if-deref-top.false in
-    let follows = follows-read s.region c.args.update c.as_slice.result.now c.args.place _ c.top-top.result.0 _ c.requires.place c.requires.placed (c.as_slice.ensures ∙ ap (λ (u : Update). u.places) c.deref-2.ensures) top ∙ ne_eqb _ c.top-top.result.0 c.if-placed-top.true in
-    c.hold.ensures.state ∙ sym (ap (λ (moves : List Move). moved_all moves s.state) (offered-early s.region s.state c.args.update (omega (arith, top, up, same)) follows))
+    let follows = follows-read s.region c.args.update c.as_slice.result.now c.args.place _ c.top-top.result.0 _
+    c.requires.place c.requires.placed (c.as_slice.ensures ∙ ap (λ (u : Update). u.places) c.deref-2.ensures) top
+    ∙ ne_eqb _ c.top-top.result.0 c.if-placed-top.true in
+    c.hold.ensures.state ∙ sym (ap (λ (moves : List Move). moved_all moves s.state)
+    (offered-early s.region s.state c.args.update (omega (arith, top, up, same)) follows))
 
 pub accept-requires-clause-held : goal.accept-requires-clause-held
-accept-requires-clause-held c = held-read c.args.self.now.region c.args.update c.as_slice.result.now c.args.place _ c.requires.place c.requires.placed (c.as_slice.ensures ∙ ap (λ (u : Update). u.places) c.deref-2.ensures) c.requires.after c.requires.few
+accept-requires-clause-held c = held-read c.args.self.now.region c.args.update c.as_slice.result.now c.args.place _
+    c.requires.place c.requires.placed (c.as_slice.ensures ∙ ap (λ (u : Update). u.places) c.deref-2.ensures)
+    c.requires.after c.requires.few
 
 pub returns-clause-answer : goal.returns-clause-answer
 returns-clause-answer c =
@@ -44,12 +53,16 @@ returns-clause-answer c =
     let top = c.top-top.ensures.top in
     let same = ap (λ (u : Update). u.version.0) c.deref.ensures in
     let up = c.if-deref-top.false in
-    let follows = follows-read s.region u c.as_slice.result.now c.args.place _ c.top-top.result.0 _ c.requires.place c.requires.placed (c.as_slice.ensures ∙ ap (λ (u : Update). u.places) c.deref-2.ensures) top ∙ eq-eqb _ c.top-top.result.0 c.if-placed-top.false in
-    let later = subst (λ (x : SlotState). AllByRecursion (IsLater x.region) x.state.early) c.self.view_is (later-held c.self.inside.region c.self.inside.early.items c.self.invariant.early) in
+    let follows = follows-read s.region u c.as_slice.result.now c.args.place _ c.top-top.result.0 _ c.requires.place
+    c.requires.placed (c.as_slice.ensures ∙ ap (λ (u : Update). u.places) c.deref-2.ensures) top
+    ∙ eq-eqb _ c.top-top.result.0 c.if-placed-top.false in
+    let later = subst (λ (x : SlotState). AllByRecursion (IsLater x.region) x.state.early) c.self.view_is
+    (later-held c.self.inside.region c.self.inside.early.items c.self.invariant.early) in
     let early = ap (λ (x : SlotState). length x.state.early) c.self.view_is in
     let held = length-map c.self.inside.early.items (λ (p : PlacedUpdate). p.update) in
     let most : c.len-most.result ≡ length s.state.early = omega (arith, early, held) in
-    let after = accepted-turns s.region c.accept.new.self.region s.state c.accept.new.self.state u c.len-most.result c.accept.ensures.state c.accept.ensures.region most later in
+    let after = accepted-turns s.region c.accept.new.self.region s.state c.accept.new.self.state u c.len-most.result
+    c.accept.ensures.state c.accept.ensures.region most later in
     let count = c.accept_early.ensures.count ∙ ap (λ (moves : List Move). length (taken moves)) after in
     let is : 1 + c.accept_early.result ≡ suc (length (taken (turns s.region (length s.state.early) u.version.0 s.state.early))) = omega (arith, count) in
     ap Accepted is ∙ sym (offer-taken s.region s.state u (omega (arith, top, up, same)) follows)
@@ -61,12 +74,16 @@ returns-clause-state c =
     let top = c.top-top.ensures.top in
     let same = ap (λ (u : Update). u.version.0) c.deref.ensures in
     let up = c.if-deref-top.false in
-    let follows = follows-read s.region u c.as_slice.result.now c.args.place _ c.top-top.result.0 _ c.requires.place c.requires.placed (c.as_slice.ensures ∙ ap (λ (u : Update). u.places) c.deref-2.ensures) top ∙ eq-eqb _ c.top-top.result.0 c.if-placed-top.false in
-    let later = subst (λ (x : SlotState). AllByRecursion (IsLater x.region) x.state.early) c.self.view_is (later-held c.self.inside.region c.self.inside.early.items c.self.invariant.early) in
+    let follows = follows-read s.region u c.as_slice.result.now c.args.place _ c.top-top.result.0 _ c.requires.place
+    c.requires.placed (c.as_slice.ensures ∙ ap (λ (u : Update). u.places) c.deref-2.ensures) top
+    ∙ eq-eqb _ c.top-top.result.0 c.if-placed-top.false in
+    let later = subst (λ (x : SlotState). AllByRecursion (IsLater x.region) x.state.early) c.self.view_is
+    (later-held c.self.inside.region c.self.inside.early.items c.self.invariant.early) in
     let early = ap (λ (x : SlotState). length x.state.early) c.self.view_is in
     let held = length-map c.self.inside.early.items (λ (p : PlacedUpdate). p.update) in
     let most : c.len-most.result ≡ length s.state.early = omega (arith, early, held) in
-    let after = accepted-turns s.region c.accept.new.self.region s.state c.accept.new.self.state u c.len-most.result c.accept.ensures.state c.accept.ensures.region most later in
+    let after = accepted-turns s.region c.accept.new.self.region s.state c.accept.new.self.state u c.len-most.result
+    c.accept.ensures.state c.accept.ensures.region most later in
     c.accept_early.ensures.state
     ∙ ap (λ (moves : List Move). moved_all moves c.accept.new.self.state) after
     ∙ ap (moved_all (turns s.region (length s.state.early) u.version.0 s.state.early)) c.accept.ensures.state
@@ -83,8 +100,11 @@ returns-then-deref-top-clause-stands c = λ s h.
 
 pub returns-then-placed-top-clause-stands : goal.returns-then-placed-top-clause-stands
 returns-then-placed-top-clause-stands c = λ s h.
-    stands-offer c.args.self.now.region c.hold.new.self.region c.args.self.now.state c.hold.new.self.state s c.args.update c.requires.after (returns-then-placed-top-clause-state c) c.hold.ensures.region h
+    stands-offer c.args.self.now.region c.hold.new.self.region c.args.self.now.state c.hold.new.self.state s
+    c.args.update c.requires.after (returns-then-placed-top-clause-state c) c.hold.ensures.region h
 
 pub returns-clause-stands : goal.returns-clause-stands
 returns-clause-stands c = λ s h.
-    stands-offer c.args.self.now.region c.accept_early.new.self.region c.args.self.now.state c.accept_early.new.self.state s c.args.update c.requires.after (returns-clause-state c) (c.accept_early.ensures.region ∙ c.accept.ensures.region) h
+    stands-offer c.args.self.now.region c.accept_early.new.self.region c.args.self.now.state
+    c.accept_early.new.self.state s c.args.update c.requires.after (returns-clause-state c)
+    (c.accept_early.ensures.region ∙ c.accept.ensures.region) h

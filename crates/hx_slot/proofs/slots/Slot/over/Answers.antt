@@ -9,7 +9,13 @@ pub returns-clause-state : goal.returns-clause-state
 returns-clause-state c =
     (λ j. folded c.args.region (record {
       marks = c.args.keeps_marks;
-      base = record { key = c.args.base.key; floor = c.args.base.floor; object = c.args.base.object; marks = c.into_vec.ensures j; touches = c.into_vec-2.ensures j };
+      base = record {
+        key = c.args.base.key;
+        floor = c.args.base.floor;
+        object = c.args.base.object;
+        marks = c.into_vec.ensures j;
+        touches = c.into_vec-2.ensures j;
+      };
       accepted = newest_first [] (c.new.ensures.items j);
       floor = c.args.base.floor.0;
       acked = c.new-2.ensures j;

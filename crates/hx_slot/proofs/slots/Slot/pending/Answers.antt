@@ -22,7 +22,8 @@ pub returns-clause-version : goal.returns-clause-version
 returns-clause-version c =
     let rest = c.rest_of-pending.ensures ∙ ap (drop c.self.inside.committed) c.as_slice.ensures.value in
     let at = c.update_at.ensures ∙ ap (λ (ts : List AcceptedUpdate). slice_get (map update_of ts) c.args.i) rest in
-    subst (λ (s : SlotState). IfSome (option_copied c.update_at.result) (λ (u : Update). (s.state.floor < u.version.0) × (u.version.0 ≤ top_of s.state))) c.self.view_is
+    subst (λ (s : SlotState). IfSome (option_copied c.update_at.result)
+    (λ (u : Update). (s.state.floor < u.version.0) × (u.version.0 ≤ top_of s.state))) c.self.view_is
     (
     subst (λ (o : Option Update). IfSome o (λ (u : Update). (c.self.inside.floor.0 < u.version.0) × (u.version.0 ≤ top_of (seen c.self.inside).state))) (sym at)
     (if_at _ _ c.args.i (versions-seen c.self.inside c.self.invariant))
@@ -33,7 +34,8 @@ returns-clause-place c =
     let rest = c.rest_of-pending.ensures ∙ ap (drop c.self.inside.committed) c.as_slice.ensures.value in
     let at = c.update_at.ensures ∙ ap (λ (ts : List AcceptedUpdate). slice_get (map update_of ts) c.args.i) rest in
     subst (λ (s : SlotState). IfSome (option_copied c.update_at.result) (IsPlacedIn s.region)) c.self.view_is
-    (subst (λ (o : Option Update). IfSome o (IsPlacedIn c.self.inside.region)) (sym at) (if_at (IsPlacedIn c.self.inside.region) _ c.args.i (places-seen c.self.inside c.self.invariant)))
+    (subst (λ (o : Option Update). IfSome o (IsPlacedIn c.self.inside.region)) (sym at)
+    (if_at (IsPlacedIn c.self.inside.region) _ c.args.i (places-seen c.self.inside c.self.invariant)))
 
 pub returns-clause-few : goal.returns-clause-few
 returns-clause-few c =

@@ -25,6 +25,7 @@ returns-clause-touched c =
 
 pub returns-clause-below : goal.returns-clause-below
 returns-clause-below c =
-    let below = subst (λ (s : SlotState). touched_in c.args.region (touches_of s.state) ≤ top_of s.state) c.self.view_is (touched-below c.self.inside c.self.invariant c.args.region) in
+    let below = subst (λ (s : SlotState). touched_in c.args.region (touches_of s.state) ≤ top_of s.state)
+    c.self.view_is (touched-below c.self.inside c.self.invariant c.args.region) in
     let is = returns-clause-touched c in
     omega (arith, is, below)

@@ -18,7 +18,8 @@ returns-then-as_slice-place c =
     let u = c.args.update.now in
     let top = c.top-top.ensures.top in
     let up = c.if-update-top.false in
-    let follows = follows-read s.region u c.as_slice.result.now c.args.place _ c.top-top.result.0 _ c.requires.place c.requires.placed c.as_slice.ensures top ∙ ne_eqb _ c.top-top.result.0 c.if-as_slice-place.true in
+    let follows = follows-read s.region u c.as_slice.result.now c.args.place _ c.top-top.result.0 _ c.requires.place
+    c.requires.placed c.as_slice.ensures top ∙ ne_eqb _ c.top-top.result.0 c.if-as_slice-place.true in
     sym (ap accepted_count (offer-early s.region s.state u (omega (arith, top, up)) follows))
 
 pub returns : goal.returns
@@ -27,7 +28,8 @@ returns c =
     let u = c.args.update.now in
     let top = c.top-top.ensures.top in
     let up = c.if-update-top.false in
-    let follows = follows-read s.region u c.as_slice.result.now c.args.place _ c.top-top.result.0 _ c.requires.place c.requires.placed c.as_slice.ensures top ∙ eq-eqb _ c.top-top.result.0 c.if-as_slice-place.false in
+    let follows = follows-read s.region u c.as_slice.result.now c.args.place _ c.top-top.result.0 _ c.requires.place
+    c.requires.placed c.as_slice.ensures top ∙ eq-eqb _ c.top-top.result.0 c.if-as_slice-place.false in
     let count = c.early_count_after.ensures.count in
     let is = ap accepted_count (offer-taken s.region s.state u (omega (arith, top, up)) follows) in
     omega (arith, count, is)

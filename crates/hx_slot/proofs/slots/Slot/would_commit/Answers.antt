@@ -14,7 +14,8 @@ returns-then-not-has_update c =
     let a = c.self.inside in
     let v = c.args.version.0 in
     let rest = c.rest_of-pending.ensures ∙ ap (drop a.committed) c.as_slice.ensures.value in
-    let no = sym (pending-version a c.self.invariant v) ∙ sym (c.if-not-has_update.ensures ∙ ap (λ (ts : List AcceptedUpdate). list_any (is_of_version v) ts) rest) in
+    let no = sym (pending-version a c.self.invariant v)
+    ∙ sym (c.if-not-has_update.ensures ∙ ap (λ (ts : List AcceptedUpdate). list_any (is_of_version v) ts) rest) in
     ap committed_count (ack-unknown (seen a).state v no) ∙ ap (λ (s : SlotState). committed_count (ack_answer s.state v)) c.self.view_is
 
 pub returns-then-waits_below : goal.returns-then-waits_below
@@ -22,8 +23,10 @@ returns-then-waits_below c =
     let a = c.self.inside in
     let v = c.args.version.0 in
     let rest = c.rest_of-pending.ensures ∙ ap (drop a.committed) c.as_slice.ensures.value in
-    let yes = sym (pending-version a c.self.invariant v) ∙ sym (c.if-not-has_update.ensures ∙ ap (λ (ts : List AcceptedUpdate). list_any (is_of_version v) ts) rest) in
-    let waits = sym (waits-seen a c.self.invariant v) ∙ sym (c.if-waits_below.ensures ∙ ap (λ (ts : List AcceptedUpdate). list_any (is_waiting_below v) ts) rest) in
+    let yes = sym (pending-version a c.self.invariant v)
+    ∙ sym (c.if-not-has_update.ensures ∙ ap (λ (ts : List AcceptedUpdate). list_any (is_of_version v) ts) rest) in
+    let waits = sym (waits-seen a c.self.invariant v)
+    ∙ sym (c.if-waits_below.ensures ∙ ap (λ (ts : List AcceptedUpdate). list_any (is_waiting_below v) ts) rest) in
     ap committed_count (ack-kept (seen a).state v yes waits) ∙ ap (λ (s : SlotState). committed_count (ack_answer s.state v)) c.self.view_is
 
 pub returns : goal.returns
@@ -31,8 +34,10 @@ returns c =
     let a = c.self.inside in
     let v = c.args.version.0 in
     let rest = c.rest_of-pending.ensures ∙ ap (drop a.committed) c.as_slice.ensures.value in
-    let yes = sym (pending-version a c.self.invariant v) ∙ sym (c.if-not-has_update.ensures ∙ ap (λ (ts : List AcceptedUpdate). list_any (is_of_version v) ts) rest) in
-    let waits = sym (waits-seen a c.self.invariant v) ∙ sym (c.if-waits_below.ensures ∙ ap (λ (ts : List AcceptedUpdate). list_any (is_waiting_below v) ts) rest) in
+    let yes = sym (pending-version a c.self.invariant v)
+    ∙ sym (c.if-not-has_update.ensures ∙ ap (λ (ts : List AcceptedUpdate). list_any (is_of_version v) ts) rest) in
+    let waits = sym (waits-seen a c.self.invariant v)
+    ∙ sym (c.if-waits_below.ensures ∙ ap (λ (ts : List AcceptedUpdate). list_any (is_waiting_below v) ts) rest) in
     ap committed_count
     (
     ack-commits (seen a).state v c.acknowledged_with.result yes waits

@@ -15,35 +15,45 @@ first_begin-first-requires-clause-seated c =
 pub begin_at-requires-clause-few : goal.begin_at-requires-clause-few
 begin_at-requires-clause-few c =
     let found =
-    subst (λ (l : List WorldState). Some (begin_turn c.in-Some.field-0.place c.in-Some.field-0.space) ≡ first_begin c.self.inside.bundle.now (map newest l)) c.as_slice.ensures.value c.in-Some.ensures in
-    next_few c.self.inside.bundle.now c.self.inside.worlds.items c.self.inside.order.items c.self.inside.begun.items c.self.invariant.kept c.in-Some.field-0.place c.in-Some.field-0.space
+    subst (λ (l : List WorldState). Some (begin_turn c.in-Some.field-0.place c.in-Some.field-0.space)
+    ≡ first_begin c.self.inside.bundle.now (map newest l)) c.as_slice.ensures.value c.in-Some.ensures in
+    next_few c.self.inside.bundle.now c.self.inside.worlds.items c.self.inside.order.items c.self.inside.begun.items
+    c.self.invariant.kept c.in-Some.field-0.place c.in-Some.field-0.space
     (found_next c.self.inside.bundle.now c.self.inside.worlds.items c.in-Some.field-0.place c.in-Some.field-0.space found)
 
 pub begin_at-requires-clause-can : goal.begin_at-requires-clause-can
 begin_at-requires-clause-can c =
     let found =
-    subst (λ (l : List WorldState). Some (begin_turn c.in-Some.field-0.place c.in-Some.field-0.space) ≡ first_begin c.self.inside.bundle.now (map newest l)) c.as_slice.ensures.value c.in-Some.ensures in
-    can_begin c.self.inside.bundle.now c.self.inside.worlds.items c.self.inside.order.items c.in-Some.field-0.place c.in-Some.field-0.space c.self.invariant.kept.course
+    subst (λ (l : List WorldState). Some (begin_turn c.in-Some.field-0.place c.in-Some.field-0.space)
+    ≡ first_begin c.self.inside.bundle.now (map newest l)) c.as_slice.ensures.value c.in-Some.ensures in
+    can_begin c.self.inside.bundle.now c.self.inside.worlds.items c.self.inside.order.items c.in-Some.field-0.place
+    c.in-Some.field-0.space c.self.invariant.kept.course
     (found_next c.self.inside.bundle.now c.self.inside.worlds.items c.in-Some.field-0.place c.in-Some.field-0.space found)
 
 pub count_begin-requires : goal.count_begin-requires
 count_begin-requires c =
     let found =
-    subst (λ (l : List WorldState). Some (begin_turn c.in-Some.field-0.place c.in-Some.field-0.space) ≡ first_begin c.self.inside.bundle.now (map newest l)) c.as_slice.ensures.value c.in-Some.ensures in
-    next_counts c.self.inside.bundle.now c.self.inside.worlds.items c.self.inside.order.items c.self.inside.begun.items c.self.invariant.kept c.in-Some.field-0.place c.in-Some.field-0.space
+    subst (λ (l : List WorldState). Some (begin_turn c.in-Some.field-0.place c.in-Some.field-0.space)
+    ≡ first_begin c.self.inside.bundle.now (map newest l)) c.as_slice.ensures.value c.in-Some.ensures in
+    next_counts c.self.inside.bundle.now c.self.inside.worlds.items c.self.inside.order.items
+    c.self.inside.begun.items c.self.invariant.kept c.in-Some.field-0.place c.in-Some.field-0.space
     (found_next c.self.inside.bundle.now c.self.inside.worlds.items c.in-Some.field-0.place c.in-Some.field-0.space found)
 
 pub invariant_of-self-2 : goal.invariant_of-self-2
 invariant_of-self-2 c =
     let found =
-    subst (λ (l : List WorldState). Some (begin_turn c.in-Some.field-0.place c.in-Some.field-0.space) ≡ first_begin c.self.inside.bundle.now (map newest l)) c.as_slice.ensures.value c.in-Some.ensures in
+    subst (λ (l : List WorldState). Some (begin_turn c.in-Some.field-0.place c.in-Some.field-0.space)
+    ≡ first_begin c.self.inside.bundle.now (map newest l)) c.as_slice.ensures.value c.in-Some.ensures in
     record {
       kept =
-          begun_kept c.self.inside.bundle.now c.self.inside.worlds.items c.self.inside.order.items c.self.inside.begun.items c.self.invariant.kept c.in-Some.field-0.place c.in-Some.field-0.space
+          begun_kept c.self.inside.bundle.now c.self.inside.worlds.items c.self.inside.order.items
+          c.self.inside.begun.items c.self.invariant.kept c.in-Some.field-0.place c.in-Some.field-0.space
           (found_next c.self.inside.bundle.now c.self.inside.worlds.items c.in-Some.field-0.place c.in-Some.field-0.space found)
-          c.begin_at.new.worlds.items c.reserve.new.self.items c.push_reserved.new.self.items c.in_ok-begin_at.ensures.begins c.begin_at.ensures.short c.reserve.ensures.items c.push_reserved.ensures.items
+          c.begin_at.new.worlds.items c.reserve.new.self.items c.push_reserved.new.self.items
+          c.in_ok-begin_at.ensures.begins c.begin_at.ensures.short c.reserve.ensures.items c.push_reserved.ensures.items
           c.count_begin.new.begun.items c.count_begin.ensures;
       rest =
-          rest_with (map newest c.self.inside.worlds.items) (map newest c.begin_at.new.worlds.items) (begin_turn c.in-Some.field-0.place c.in-Some.field-0.space)
+          rest_with (map newest c.self.inside.worlds.items) (map newest c.begin_at.new.worlds.items)
+          (begin_turn c.in-Some.field-0.place c.in-Some.field-0.space)
           c.self.inside.first c.look_from.new.first c.self.invariant.rest c.in_ok-begin_at.ensures.begins c.look_from.ensures;
     }

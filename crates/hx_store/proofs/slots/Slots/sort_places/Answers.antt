@@ -19,5 +19,7 @@ returns-clause-ascend c =
     (
     rises-from es now
     (λ k d l. subst (λ n. text_below (key_in es (get_or now n d)) (key_in es (get_or now k d)) ≡ false) (add-one k)
-    (text_below-is_lt (key_in es (get_or now (k + 1) d)) (key_in es (get_or now k d)) ∙ sorted-from (λ (x : ℕ). key_in es x) now c.sort_unstable_by.ensures.sorted (λ a r f' called. search rules) k d (omega arith) (omega (arith, l))))
+    (text_below-is_lt (key_in es (get_or now (k + 1) d)) (key_in es (get_or now k d))
+    ∙ sorted-from (λ (x : ℕ). key_in es x) now c.sort_unstable_by.ensures.sorted
+    (λ a r f' called. search rules) k d (omega arith) (omega (arith, l))))
     )

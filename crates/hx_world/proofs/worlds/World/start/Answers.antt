@@ -8,6 +8,8 @@ pub invariant_of-result : goal.invariant_of-result
 invariant_of-result c =
     subst (λ (script : Script). IsWorldOn script c.in_ok-actors.actors c.empty.result) (sym c.in_ok-script.ensures)
     (
-    world_starts c.args.script.now c.in_ok-actors.actors c.empty.result c.requires c.posts_of_runs_are_sound.ensures.posts c.posts_of_runs_are_sound.ensures.versions c.posts_of_runs_are_sound.ensures.epochs
+    world_starts c.args.script.now c.in_ok-actors.actors c.empty.result c.requires
+    c.posts_of_runs_are_sound.ensures.posts c.posts_of_runs_are_sound.ensures.versions
+    c.posts_of_runs_are_sound.ensures.epochs
     c.in_ok-actors.ensures c.empty.ensures.trace c.empty.ensures.waiting
     )
