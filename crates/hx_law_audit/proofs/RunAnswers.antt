@@ -38,7 +38,8 @@ longer : (front : List (List ℕ)) (k : List ℕ) (back : List (List ℕ)) → l
 longer [] k back = omega arith
 longer (x ∷ front) k back = let r = longer front k back in omega (arith, r)
 
-all_below : (k : List ℕ) (rest : List (List ℕ)) → list_all (text_below k) rest ≡ true → (j : List ℕ) → IsIn j rest → text_below k j ≡ true
+-- each key of a list is above one that is below all of them
+pub all_below : (k : List ℕ) (rest : List (List ℕ)) → list_all (text_below k) rest ≡ true → (j : List ℕ) → IsIn j rest → text_below k j ≡ true
 all_below k [] h j i = absurd i
 all_below k (x ∷ rest) h j (inl e) = ap (text_below k) e ∙ (and_parts (text_below k x) (list_all (text_below k) rest) h).0
 all_below k (x ∷ rest) h j (inr i) = all_below k rest (and_parts (text_below k x) (list_all (text_below k) rest) h).1 j i

@@ -1,7 +1,7 @@
 -- The block of a run's report is one of a report.
 use Rattle.hx_law_lemmas.proofs.Lemmas.Vocabulary.{[], All, All-cons, All-head, All-nil, All-tail, and_parts, ap, arith, Bool, Config, Entry, history_of, inl}
 use Rattle.hx_law_lemmas.proofs.Lemmas.Vocabulary.{inr, IsIn, IsRun, IsScript, Item, KeyFits, keys_ascend, length, List, list_all, lt-ltb, map, nat_lt, None}
-use Rattle.hx_law_lemmas.proofs.Lemmas.Vocabulary.{Option, refl, Script, ServerId, Some, subst, sym, text_below, Totals, true, Value, ℕ, ◌+◌, ◌<◌, ◌^◌, ◌∙◌}
+use Rattle.hx_law_lemmas.proofs.Lemmas.Vocabulary.{Option, refl, Script, ServerId, Some, subst, sym, text_below, Totals, true, Value, ℕ, ◌+◌, ◌<◌, ◌^◌}
 use Rattle.hx_law_lemmas.proofs.Lemmas.Vocabulary.{◌∷◌, ◌≡◌, ◌≢◌}
 use Rattle.hx_history.specs.declared.key_histories.KeyHistory.{KeyHistory}
 use Rattle.hx_history.specs.Listed.{AreHistories, IsHistory}
@@ -13,7 +13,7 @@ use Rattle.hx_report_lines.specs.declared.epochs.EpochLine.{EpochLine}
 use Rattle.hx_report_lines.specs.declared.histories.HistoryLines.{HistoryLines}
 use Rattle.hx_report_lines.specs.Values.{Ascends, AscendsFrom, Is64, IsBlock, IsDriverLine, IsEpochOf, IsHistoryOf, IsItemOf, IsRawLine, MaybeObjectIsSayable}
 use Rattle.hx_law_audit.specs.Running.{TotalsAreSayable}
-use Rattle.hx_law_audit.proofs.RunAnswers.{item_good, key_good}
+use Rattle.hx_law_audit.proofs.RunAnswers.{all_below, item_good, key_good}
 use Rattle.hx_law_audit.proofs.RunCalls.{ascends_from, caller_small, calls_ascend, calls_good}
 use Rattle.hx_law_audit.proofs.RunConfigs.{IsGoodConfig, configs_hold, configs_of, lost_of_space}
 use Rattle.hx_law_audit.proofs.RunLines.{history_lines, item_line}
@@ -35,12 +35,7 @@ keys_pairwise : (ks : List (List ℕ)) → keys_ascend ks ≡ true → Pairwise 
 keys_pairwise [] h = tt
 keys_pairwise (k ∷ rest) h =
     let p = and_parts (list_all (text_below k) rest) (keys_ascend rest) h in
-    ((λ j i. all_below rest p.0 j i), keys_pairwise rest p.1)
-  where
-    all_below : (ks : List (List ℕ)) → list_all (text_below k) ks ≡ true → (j : List ℕ) → IsIn j ks → text_below k j ≡ true
-    all_below [] h j i = absurd i
-    all_below (x ∷ ks) h j (inl e) = ap (text_below k) e ∙ (and_parts (text_below k x) (list_all (text_below k) ks) h).0
-    all_below (x ∷ ks) h j (inr i) = all_below ks (and_parts (text_below k x) (list_all (text_below k) ks) h).1 j i
+    ((λ j i. all_below k rest p.0 j i), keys_pairwise rest p.1)
 
 same_keys : (listed : List KeyHistory) → map (λ (h : HistoryLines). h.key) (map history_lines listed) ≡ map (λ (h : KeyHistory). h.key) listed
 same_keys [] = refl

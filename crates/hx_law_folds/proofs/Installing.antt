@@ -8,16 +8,12 @@ use Rattle.std.proofs.Common.{◌||◌}
 use Rattle.hx_types.proofs.Lemmas.{same_text-symm, text_below-differs, text_below-other, text_below-trans}
 use Rattle.hx_model.proofs.Lemmas.{found_same, others_stay}
 use Rattle.hx_model.specs.ServerSteps.{with_key}
+use Rattle.hx_law_folds.specs.Folding.{TextsAscend}
 use Rattle.hx_law_folds.proofs.Joining.{joining-state}
 use Rattle.hx_law_folds.proofs.Lists.{all-weaker}
 use Rattle.hx_law_folds.proofs.Slots.{slot-new}
 use Rattle.hx_law_folds.proofs.Snapshots.{among-marks, kept-sent, pending-sent}
 use Rattle.hx_law_folds.proofs.States.{among-key}
-
--- keys in byte order
-abbrev pub Ascend : List (List ℕ) → Type 0
-Ascend [] = ⊤
-Ascend (x ∷ rest) = AllByRecursion (λ (y : List ℕ). text_below x y ≡ true) rest × Ascend rest
 
 all-with_key : (P : List ℕ → Type 0) (key : List ℕ) (ks : List (List ℕ)) → P key → AllByRecursion P ks → AllByRecursion P (with_key key ks)
 all-with_key P key [] p h = (p, tt)
@@ -26,18 +22,18 @@ all-with_key P key (x ∷ rest) p h =
     (λ e. h)
     (λ e. cond_both (text_below key x) (key ∷ x ∷ rest) (x ∷ with_key key rest) (AllByRecursion P) (λ b. (p, h)) (λ b. (h.0, all-with_key P key rest p h.1)))
 
-with_key-ascends : (key : List ℕ) (ks : List (List ℕ)) → Ascend ks → Ascend (with_key key ks)
+with_key-ascends : (key : List ℕ) (ks : List (List ℕ)) → TextsAscend ks → TextsAscend (with_key key ks)
 with_key-ascends key [] h = (tt, tt)
 with_key-ascends key (x ∷ rest) h =
-    cond_both (same_text key x) (x ∷ rest) (cond (text_below key x) (key ∷ x ∷ rest) (x ∷ with_key key rest)) Ascend
+    cond_both (same_text key x) (x ∷ rest) (cond (text_below key x) (key ∷ x ∷ rest) (x ∷ with_key key rest)) TextsAscend
     (λ e. h)
     (
-    λ e. cond_both (text_below key x) (key ∷ x ∷ rest) (x ∷ with_key key rest) Ascend
+    λ e. cond_both (text_below key x) (key ∷ x ∷ rest) (x ∷ with_key key rest) TextsAscend
     (λ b. ((b, all-weaker (λ (y : List ℕ). text_below x y ≡ true) (λ (y : List ℕ). text_below key y ≡ true) (λ y k. text_below-trans key x y b k) rest h.0), h))
     (λ b. (all-with_key (λ (y : List ℕ). text_below x y ≡ true) key rest (text_below-other key x e b) h.0, with_key-ascends key rest h.1))
     )
 
-pub keys-ascend : (us : List Update) → Ascend (keys_of us)
+pub keys-ascend : (us : List Update) → TextsAscend (keys_of us)
 keys-ascend [] = tt
 keys-ascend (u ∷ us) = with_key-ascends u.key (keys_of us) (keys-ascend us)
 
@@ -46,7 +42,7 @@ abbrev pub Once : List (List ℕ) → Type 0
 Once [] = ⊤
 Once (x ∷ rest) = AllByRecursion (λ (y : List ℕ). same_text y x ≡ false) rest × Once rest
 
-pub ascend-once : (ks : List (List ℕ)) → Ascend ks → Once ks
+pub ascend-once : (ks : List (List ℕ)) → TextsAscend ks → Once ks
 ascend-once [] h = tt
 ascend-once (x ∷ rest) h = (
   all-weaker (λ (y : List ℕ). text_below x y ≡ true) (λ (y : List ℕ). same_text y x ≡ false)

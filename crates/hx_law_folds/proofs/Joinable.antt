@@ -15,7 +15,7 @@ use Rattle.hx_law_folds.proofs.States.{among-of, with-slots}
 use Rattle.hx_law_folds.proofs.ServerWalk.{Brings, SlotsStay, step-stays}
 
 -- slots stay in byte order of keys
-with_state-ascends : (s : KeyState) (states : List KeyState) → KeysAscend states → KeysAscend (with_state s states)
+pub with_state-ascends : (s : KeyState) (states : List KeyState) → KeysAscend states → KeysAscend (with_state s states)
 with_state-ascends s [] h = (tt, tt)
 with_state-ascends s (x ∷ rest) h =
     cond_both (same_text x.base.key s.base.key) (s ∷ rest) (cond (text_below s.base.key x.base.key) (s ∷ x ∷ rest) (x ∷ with_state s rest)) KeysAscend

@@ -4,6 +4,7 @@ pub use Rattle.hx_law_folds.proofs.Deciding.{decide-same}
 pub use Rattle.hx_law_folds.proofs.Folds.{folded-twice, kept-folded, mark-folded, top-folded, touches-folded}
 pub use Rattle.hx_law_folds.proofs.Installing.{Once, after_join, among-slot-turn, ascend-once, from-kept, installed, keys-ascend, other, some}
 pub use Rattle.hx_law_folds.proofs.Joinable.{can-join, joinable-stays, keys-differ, sent-ascends, sent-floors, start-joinable, from-key}
+pub use Rattle.hx_law_folds.proofs.Joinable.{with_state-ascends}
 pub use Rattle.hx_law_folds.proofs.Joining.{joining-posts}
 pub use Rattle.hx_law_folds.proofs.Lists.{all-filter, all-weaker, when_some_both}
 pub use Rattle.hx_law_folds.proofs.Prefixes.{kept-marks-line, kept-touches-line, latest-line, marks-line, object-line, prefix-folded, touches-line}

@@ -20,7 +20,8 @@ use Rattle.hx_law_folds.specs.Folding.{Descends, IsLater, IsSlotOf, folded}
 use Rattle.hx_law_folds.proofs.Lemmas.{bare-folded, bare-from, AllFit, all-filter, later-of, offered_all-fit, when_some_both, among-key, folded-among}
 use Rattle.hx_law_folds.proofs.Lemmas.{folded-new, folded-with}
 use Rattle.hx_store.specs.Stores.{acknowledging}
-use Rattle.hx_replica.specs.Installing.{CanCome, IsFresh, TextsAscend, joined_slots, joining, of_key, own_offer}
+use Rattle.hx_law_folds.specs.Folding.{TextsAscend}
+use Rattle.hx_replica.specs.Installing.{CanCome, IsFresh, joined_slots, joining, of_key, own_offer}
 use Rattle.hx_replica.proofs.Asking.{state_marks}
 use Rattle.hx_replica.proofs.Changing.{marks_stay, with_marked}
 use Rattle.hx_replica.proofs.KeyOrder.{earlier_differ}

@@ -1,19 +1,19 @@
 -- The keys of updates, in byte order.
-use Rattle.std.proofs.Common.{◌≡◌, ℕ, zero, suc, ◌+◌, ◌<◌, true, false, cond, List, [], ◌∷◌, ◌++◌, take, drop, get_or}
+use Rattle.std.proofs.Common.{◌≡◌, ℕ, zero, suc, ◌+◌, ◌<◌, true, false, List, [], ◌∷◌, ◌++◌, take, drop, get_or}
 use Rattle.std.proofs.Common.{length, Some, refl, ap, sym, ◌∙◌, add-one, append_assoc}
 use Rattle.std.specs.Borrow.{Bor}
 use Rattle.std.specs.List.{AllByRecursion, insert, slice_get}
-use Rattle.std.proofs.lemmas.Bool.{cond_both, cond-true, cond-false, false_from_ne_true, false≢true}
+use Rattle.std.proofs.lemmas.Bool.{cond-true, cond-false, false_from_ne_true, false≢true}
 use Rattle.std.proofs.lemmas.List.{take-append-drop}
 use Rattle.std.proofs.lemmas.Option.{same_Some}
 use Rattle.hx_model.specs.Types.{Update}
-use Rattle.hx_types.proofs.Lemmas.{text_below-differs, text_below-other, text_below-trans}
+use Rattle.hx_types.proofs.Lemmas.{text_below-differs}
 use Rattle.hx_types.specs.Words.{same_text, text_below}
 use Rattle.hx_model.proofs.Lemmas.{eq_of_same_text, same_text_self}
 use Rattle.hx_model.specs.ServerSteps.{keys_of, with_key}
-use Rattle.hx_law_folds.proofs.Lemmas.{all-weaker}
 use Rattle.hx_store.proofs.Lemmas.{at-map}
-use Rattle.hx_replica.specs.Installing.{TextsAscend, texts}
+use Rattle.hx_law_folds.specs.Folding.{TextsAscend}
+use Rattle.hx_replica.specs.Installing.{texts}
 use Rattle.hx_replica.proofs.Turns.{at_item, take_next}
 
 -- a key that is put among these, so far as they were gone through
@@ -89,29 +89,6 @@ put_none (u ∷ us) = ap (with_key u.key) (put_none us)
 pub put_one : (us : List Update) (u : Update) (ks : List (List ℕ)) → put_keys (us ++ u ∷ []) ks ≡ put_keys us (with_key u.key ks)
 put_one [] u ks = refl
 put_one (x ∷ us) u ks = ap (with_key x.key) (put_one us u ks)
-
--- the keys ascend
-all_with_key : (P : List ℕ → Type 0) (key : List ℕ) (ks : List (List ℕ)) → P key → AllByRecursion P ks → AllByRecursion P (with_key key ks)
-all_with_key P key [] p h = (p, tt)
-all_with_key P key (x ∷ rest) p h =
-    cond_both (same_text key x) (x ∷ rest) (cond (text_below key x) (key ∷ x ∷ rest) (x ∷ with_key key rest)) (AllByRecursion P)
-    (λ e. h)
-    (λ e. cond_both (text_below key x) (key ∷ x ∷ rest) (x ∷ with_key key rest) (AllByRecursion P) (λ b. (p, h)) (λ b. (h.0, all_with_key P key rest p h.1)))
-
-with_key_ascends : (key : List ℕ) (ks : List (List ℕ)) → TextsAscend ks → TextsAscend (with_key key ks)
-with_key_ascends key [] h = (tt, tt)
-with_key_ascends key (x ∷ rest) h =
-    cond_both (same_text key x) (x ∷ rest) (cond (text_below key x) (key ∷ x ∷ rest) (x ∷ with_key key rest)) TextsAscend
-    (λ e. h)
-    (
-    λ e. cond_both (text_below key x) (key ∷ x ∷ rest) (x ∷ with_key key rest) TextsAscend
-    (λ b. ((b, all-weaker (λ (y : List ℕ). text_below x y ≡ true) (λ (y : List ℕ). text_below key y ≡ true) (λ y k. text_below-trans key x y b k) rest h.0), h))
-    (λ b. (all_with_key (λ (y : List ℕ). text_below x y ≡ true) key rest (text_below-other key x e b) h.0, with_key_ascends key rest h.1))
-    )
-
-pub keys_ascend : (us : List Update) → TextsAscend (keys_of us)
-keys_ascend [] = tt
-keys_ascend (u ∷ us) = with_key_ascends u.key (keys_of us) (keys_ascend us)
 
 -- those before a key differ from it
 pub earlier_differ : (ks : List (List ℕ)) (i : ℕ) (k : List ℕ) → TextsAscend ks → slice_get ks i ≡ Some k

@@ -1,9 +1,9 @@
 -- What a replica becomes that installs a snapshot with its pending updates.
-use Rattle.std.specs.Prelude.{◌≡◌, ℕ, ◌<◌, ◌≤◌, true, ⊤, List, [], ◌∷◌, map, length, if◌then◌else◌}
+use Rattle.std.specs.Prelude.{◌≡◌, ℕ, ◌<◌, ◌≤◌, List, [], map, length, if◌then◌else◌}
 use Rattle.std.specs.Borrow.{Bor}
-use Rattle.std.specs.List.{All, AllByRecursion, filter}
+use Rattle.std.specs.List.{All, filter}
 use Rattle.hx_model.specs.Types.{Kept, Place, RegionId, Update}
-use Rattle.hx_types.specs.Words.{same_text, text_below}
+use Rattle.hx_types.specs.Words.{same_text}
 use Rattle.hx_types.specs.declared.limits.TheConstants.{MOST_PLACES}
 use Rattle.hx_model.specs.ServerSteps.{Slots, SlotContext as ModelContext, accepting, join_keys, offered_all}
 use Rattle.hx_model.specs.Slots.{KeyState, Move, offered}
@@ -48,8 +48,3 @@ joined_slots context us states keys = join_keys context us (record { states = st
 -- texts that are lent
 abbrev pub texts : List (Bor (List ℕ)) → List (List ℕ)
 texts bs = map (λ (b : Bor (List ℕ)). b.now) bs
-
--- in byte order, each once
-abbrev pub TextsAscend : List (List ℕ) → Type 0
-TextsAscend [] = ⊤
-TextsAscend (x ∷ rest) = AllByRecursion (λ (y : List ℕ). text_below x y ≡ true) rest × TextsAscend rest

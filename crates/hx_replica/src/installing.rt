@@ -7,7 +7,8 @@ ghost use Rattle.hx_model.specs.ServerSteps.{installed_slots, move_posts, offere
 ghost use Rattle.hx_model.specs.Slots.{Forget, KeyState, moved, moved_all};
 ghost use Rattle.hx_slot.specs.States.{IsOrderly};
 ghost use Rattle.hx_store.specs.Stores.{state_at};
-ghost use Rattle.hx_replica.specs.Installing.{CanCome, IsFresh, TextsAscend, joined_slots, joining, of_key, own_offer, texts};
+ghost use Rattle.hx_law_folds.specs.Folding.{TextsAscend};
+ghost use Rattle.hx_replica.specs.Installing.{CanCome, IsFresh, joined_slots, joining, of_key, own_offer, texts};
 ghost use Rattle.hx_replica.specs.Outputs.{context_seen};
 ghost use Rattle.hx_replica.specs.Ticking.{standing};
 

@@ -7,49 +7,15 @@ use Rattle.std.proofs.lemmas.Bool.{false_from_ne_true, ne_eqb, or_cases, or_left
 use Rattle.std.proofs.lemmas.Option.{same_Some}
 use Rattle.indexmap.specs.IndexMap.{set_value_at}
 use Rattle.hx_model.specs.Types.{RegionId}
-use Rattle.hx_types.proofs.Lemmas.{same_text-symm, text_below-apart, text_below-back, text_below-other, text_below-trans}
+use Rattle.hx_types.proofs.Lemmas.{same_text-symm, text_below-apart, text_below-back, text_below-other}
 use Rattle.hx_types.specs.Words.{same_text, text_below, when_some}
-use Rattle.hx_model.proofs.Lemmas.{eq_of_same_text, same_text_self}
+use Rattle.hx_model.proofs.Lemmas.{same_text_self}
 use Rattle.hx_model.specs.Slots.{KeyState, new_state, state_among, with_state}
 use Rattle.hx_law_folds.specs.Folding.{KeysAscend}
 use Rattle.hx_store.specs.Slots.{StoreSlot, Entry}
 use Rattle.hx_store.specs.Invariant.{IsSplit, IsStoreSlot, KeysApart, is_listed, is_place, key_in, state_in, states_in}
 use Rattle.hx_store.specs.Stores.{has_slot}
 use Rattle.hx_store.proofs.Lists.{all-at, set-elsewhere, set-here}
-
--- keys that ascend stay so with a slot more
-above-with : (key : List ℕ) (s : KeyState) (states : List KeyState) → text_below key s.base.key ≡ true
-    → AllByRecursion (λ (t : KeyState). text_below key t.base.key ≡ true) states
-    → AllByRecursion (λ (t : KeyState). text_below key t.base.key ≡ true) (with_state s states)
-above-with key s [] b h = (b, tt)
-above-with key s (x ∷ rest) b h =
-    cond_both (same_text x.base.key s.base.key) (s ∷ rest)
-    (cond (text_below s.base.key x.base.key) (s ∷ x ∷ rest) (x ∷ with_state s rest))
-    (AllByRecursion (λ (t : KeyState). text_below key t.base.key ≡ true))
-    (λ e. (b, h.1))
-    (
-    λ e. cond_both (text_below s.base.key x.base.key) (s ∷ x ∷ rest) (x ∷ with_state s rest)
-    (AllByRecursion (λ (t : KeyState). text_below key t.base.key ≡ true))
-    (λ l. (b, (h.0, h.1)))
-    (λ l. (h.0, above-with key s rest b h.1))
-    )
-
-above-lower : (low key : List ℕ) (states : List KeyState) → text_below low key ≡ true
-    → AllByRecursion (λ (t : KeyState). text_below key t.base.key ≡ true) states
-    → AllByRecursion (λ (t : KeyState). text_below low t.base.key ≡ true) states
-above-lower low key [] b h = tt
-above-lower low key (x ∷ rest) b h = (text_below-trans low key x.base.key b h.0, above-lower low key rest b h.1)
-
-pub ascend-with : (s : KeyState) (states : List KeyState) → KeysAscend states → KeysAscend (with_state s states)
-ascend-with s [] h = (tt, tt)
-ascend-with s (x ∷ rest) h =
-    cond_both (same_text x.base.key s.base.key) (s ∷ rest) (cond (text_below s.base.key x.base.key) (s ∷ x ∷ rest) (x ∷ with_state s rest)) KeysAscend
-    (λ e. (subst (λ (k : List ℕ). AllByRecursion (λ (t : KeyState). text_below k t.base.key ≡ true) rest) (eq_of_same_text x.base.key s.base.key e) h.0, h.1))
-    (
-    λ e. cond_both (text_below s.base.key x.base.key) (s ∷ x ∷ rest) (x ∷ with_state s rest) KeysAscend
-    (λ b. ((b, above-lower s.base.key x.base.key rest b h.0), h))
-    (λ b. (above-with x.base.key s rest (text_below-other s.base.key x.base.key (same_text-symm s.base.key x.base.key ∙ e) b) h.0, ascend-with s rest h.1))
-    )
 
 -- a slot that is put twice stands as it was put last
 pub with-again : (s w : KeyState) (states : List KeyState) → w.base.key ≡ s.base.key → with_state w (with_state s states) ≡ with_state w states

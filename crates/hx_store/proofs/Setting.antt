@@ -9,12 +9,13 @@ use Rattle.indexmap.specs.IndexMap.{set_value_at}
 use Rattle.hx_model.specs.Types.{RegionId}
 use Rattle.hx_types.specs.Words.{same_text, when_some}
 use Rattle.hx_law_folds.specs.Folding.{KeysAscend}
+use Rattle.hx_law_folds.proofs.Lemmas.{with_state-ascends}
 use Rattle.hx_model.specs.Slots.{KeyState, new_state, state_among, with_state}
 use Rattle.hx_store.specs.Slots.{StoreSlot, Entry}
 use Rattle.hx_store.specs.Invariant.{IsSplit, IsStore, IsStoreSlot, KeysApart, is_listed, is_place, listed_count, room_of, rooms_in, state_in, states_in}
 use Rattle.hx_store.specs.Stores.{KeepsRooms, Room, UsesRoom}
 use Rattle.hx_store.proofs.Lists.{all-among, all-at, at-front, set-elsewhere, set-here, set-length}
-use Rattle.hx_store.proofs.Order.{ascend-with, found-place, inserted, listed-there, replaced}
+use Rattle.hx_store.proofs.Order.{found-place, inserted, listed-there, replaced}
 
 abbrev in_state : Option Entry → KeyState
 in_state o = when_some o (new_state false []) (λ (x : Entry). x.1.slot.state)
@@ -225,7 +226,7 @@ module _ {g : RegionId} {marks : Bool} {es : List Entry} {order : List ℕ} {cap
           × (with_state w.slot.state (states_in es order) ≡ states_in new order)
       set-listed t l =
           let is = replaced g marks es h.each h.apart i e at w kept.key_is order (are-there h) h.ascend (is-among ∙ t) in (
-            stays l (subst KeysAscend is (ascend-with w.slot.state (states_in es order) h.ascend)),
+            stays l (subst KeysAscend is (with_state-ascends w.slot.state (states_in es order) h.ascend)),
             is,
           )
 
@@ -251,7 +252,7 @@ module _ {g : RegionId} {marks : Bool} {es : List Entry} {order : List ℕ} {cap
               each = each-set;
               apart = set-apart es i w h.apart;
               listed = λ k. any-inserted k i p order ∙ now k;
-              ascend = subst KeysAscend is (ascend-with w.slot.state (states_in es order) h.ascend);
+              ascend = subst KeysAscend is (with_state-ascends w.slot.state (states_in es order) h.ascend);
               count = (let c = set-count es i e w at in let q = h.count in let r = ap one_of f in
                   let s = ap one_of t in let l = length-insert order p i within in omega (arith, c, q, r, s, l));
               room = (let r = h.room in let s = set-length es i w in omega (arith, r, s));

@@ -3,9 +3,10 @@ use Rattle.std.specs.List.{AllByRecursion}
 use Rattle.hx_types.specs.Subspaces.{is_key_region}
 use Rattle.hx_model.specs.ServerSteps.{state_from}
 use Rattle.hx_model.specs.Slots.{KeyState}
-use Rattle.hx_replica.specs.Installing.{IsFresh, TextsAscend, texts}
+use Rattle.hx_law_folds.specs.Folding.{TextsAscend}
+use Rattle.hx_law_folds.proofs.Lemmas.{keys-ascend}
+use Rattle.hx_replica.specs.Installing.{IsFresh, texts}
 use Rattle.hx_replica.proofs.Joined.{from_marked, snapshot_fresh}
-use Rattle.hx_replica.proofs.KeyOrder.{keys_ascend}
 use Rattle.hx_replica.proofs.installing.install_all.Goals as goal
 
 pub join_all-requires-clause-fresh : goal.join_all-requires-clause-fresh
@@ -21,4 +22,4 @@ join_all-requires-clause-kinds c =
     ∙ sym c.in_ok-install.ensures.states) (from_marked b c.args.snapshot.now)
 
 pub join_all-requires-clause-keys : goal.join_all-requires-clause-keys
-join_all-requires-clause-keys c = subst TextsAscend (sym (ap texts c.as_slice.ensures.value ∙ c.in_ok-keys.ensures)) (keys_ascend c.args.pending.now)
+join_all-requires-clause-keys c = subst TextsAscend (sym (ap texts c.as_slice.ensures.value ∙ c.in_ok-keys.ensures)) (keys-ascend c.args.pending.now)
