@@ -2,6 +2,7 @@
 
 ghost use Rattle.std.specs.Prelude.{◌≡◌, ◌++◌, ◌<◌, ◌≤◌, IfOk, OnOk, length, map};
 ghost use Rattle.hx_types.specs.declared.calls.Op.TheVariants.{Cput};
+ghost use Rattle.hx_types.specs.declared.limits.TheConstants.{MOST_SESSIONS};
 ghost use Rattle.std.specs.List.{All, flat_map};
 ghost use Rattle.hx_bundle.specs.Bundles.{IsBundle};
 ghost use Rattle.hx_print.specs.BundlePrinting.{TakesTurn, bundle_session_text, bundle_sessions_text, bundle_steps_text, bundle_text, call_line_in, hands_of, op_rest, op_word, own_lines, own_text, shared_text, space_call_line, space_step_line, step_line_in, step_rest, step_word, turns_text};
@@ -186,7 +187,7 @@ fn put_sessions(
     spaces: &[Script],
     sessions: &Turns,
 ) -> Result<(), Memory>
-    requires few { length sessions.now ≤ 16 }
+    requires few { length sessions.now ≤ MOST_SESSIONS }
     requires turns { All (λ turns. All (λ k. k < length spaces.now) turns) sessions.now }
     ensures { OnOk result (out.new.items ≡ out.old.items ++ bundle_sessions_text spaces.now 1 sessions.now) }
 {

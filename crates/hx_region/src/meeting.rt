@@ -5,7 +5,7 @@ ghost use Rattle.hx_region.specs.Ranges.{AreThose, rows_from, rows_met};
 ghost use Rattle.hx_types.specs.Spaces.{ArePart, IsSpace};
 ghost use Rattle.hx_types.specs.Subspaces.{size_of};
 ghost use Rattle.hx_types.specs.Words.{below};
-ghost use Rattle.hx_types.specs.declared.limits.TheConstants.{MOST_REGIONS};
+ghost use Rattle.hx_types.specs.declared.limits.TheConstants.{MOST_PARTS, MOST_REGIONS};
 ghost use Rattle.hx_model.specs.Types.{Axis};
 
 use crate::cell;
@@ -62,7 +62,7 @@ fn rows_of_cells(
     size: u32,
     rows_of_rest: &Vec<u32>,
 ) -> Result<Vec<u32>, Memory>
-    requires cells { cells.first + cells.count ≤ 256 }
+    requires cells { cells.first + cells.count ≤ MOST_PARTS }
     requires few { (cells.first + cells.count) * size ≤ MOST_REGIONS }
     requires rows { All (λ row. row < size) rows_of_rest.now.items }
     ensures { IfOk result (λ rows. rows.items ≡ flat_map (λ place. rows_from size (cells.first + place) rows_of_rest.now.items) (below cells.count)) }

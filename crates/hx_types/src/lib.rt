@@ -86,6 +86,7 @@ pub use limits::MOST_ACTORS;
 pub use limits::MOST_ATTRIBUTES;
 pub use limits::MOST_AXES;
 pub use limits::MOST_CALLS;
+pub use limits::MOST_DRIVERS;
 pub use limits::MOST_ENTRIES;
 pub use limits::MOST_ENTRIES_OF_ALL;
 pub use limits::MOST_FAILURES;
