@@ -1,6 +1,7 @@
 -- What options choose is within its limits.
 use Rattle.std.proofs.Common.{ℕ, ◌≤◌, List, [], ◌∷◌, Option, Some, None, sym, subst, arith}
 use Rattle.std.specs.Prelude.{unwrap_or, IfSome}
+use Rattle.hx_types.specs.declared.limits.TheConstants.{MOST_DRIVERS}
 use Rattle.hx_words.specs.declared.options.CommandOption.{CommandOption}
 use Rattle.hx_words.specs.declared.options.CommandOption.TheVariants.{Workers, Lose, Repeat, Seed, Trace}
 use Rattle.hx_words.specs.declared.choosing.Chosen.{Chosen}
@@ -13,7 +14,7 @@ use Rattle.hx_words.specs.Saying.{AreSaid, ChooseRun, ChooseShare, ChooseSoak, n
 
 -- what is chosen is within the limits of its options
 record InLimits (chosen : Chosen) : Type 0 where
-  pub workers : IfSome chosen.workers (λ n. (1 ≤ n) × (n ≤ 16))
+  pub workers : IfSome chosen.workers (λ n. (1 ≤ n) × (n ≤ MOST_DRIVERS))
   pub lose : IfSome chosen.lose (λ n. n ≤ 1000000)
   pub repeat : IfSome chosen.repeat (λ n. n ≤ 1000000)
 
@@ -32,10 +33,10 @@ said_in_limits : (words : List (List ℕ)) (chosen : Chosen) → AreSaid words n
 said_in_limits words chosen s = all_in_limits s.options nothing_chosen chosen s.choose (record { workers = tt; lose = tt; repeat = tt })
 
 some_workers : (words : List (List ℕ)) (chosen : Chosen) → AreSaid words nothing_chosen chosen
-    → (1 ≤ unwrap_or chosen.workers 2) × (unwrap_or chosen.workers 2 ≤ 16)
+    → (1 ≤ unwrap_or chosen.workers 2) × (unwrap_or chosen.workers 2 ≤ MOST_DRIVERS)
 some_workers words chosen s = of chosen.workers (said_in_limits words chosen s).workers
   where
-    of : (workers : Option ℕ) → IfSome workers (λ n. (1 ≤ n) × (n ≤ 16)) → (1 ≤ unwrap_or workers 2) × (unwrap_or workers 2 ≤ 16)
+    of : (workers : Option ℕ) → IfSome workers (λ n. (1 ≤ n) × (n ≤ MOST_DRIVERS)) → (1 ≤ unwrap_or workers 2) × (unwrap_or workers 2 ≤ MOST_DRIVERS)
     of None h = (omega arith, omega arith)
     of (Some n) h = h
 

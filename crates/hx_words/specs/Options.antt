@@ -1,6 +1,7 @@
 -- Options, their words and limits, and what they choose one after the other.
 use Rattle.std.specs.Prelude.{ℕ, ◌≡◌, ◌≤◌, ◌<◌, ◌^◌, true, false, List, [], ◌∷◌, Some, None, codes, ⊤}
 use Rattle.std.specs.Fmt.{decimal}
+use Rattle.hx_types.specs.declared.limits.TheConstants.{MOST_DRIVERS}
 use Rattle.hx_words.specs.declared.options.CommandOption.{CommandOption}
 use Rattle.hx_words.specs.declared.options.CommandOption.TheVariants.{Workers, Lose, Repeat, Seed, Trace}
 use Rattle.hx_words.specs.declared.choosing.Chosen.{Chosen}
@@ -15,7 +16,7 @@ words_of Trace = codes "--trace" ∷ []
 
 -- its value is within its limits
 abbrev pub IsWithin : CommandOption → Type 0
-IsWithin (Workers n) = (1 ≤ n) × (n ≤ 16)
+IsWithin (Workers n) = (1 ≤ n) × (n ≤ MOST_DRIVERS)
 IsWithin (Lose n) = n ≤ 1000000
 IsWithin (Repeat n) = n ≤ 1000000
 IsWithin (Seed n) = n < 2 ^ 64

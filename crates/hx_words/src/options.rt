@@ -4,9 +4,7 @@ ghost use Rattle.std.specs.Prelude.{◌≡◌, ◌∷◌, [], ◌↔◌};
 ghost use Rattle.hx_words.specs.Options.{words_of, IsWithin};
 
 use crate::numbers::{number_of, number_within};
-
-/// The most threads that drive the actors.
-const MOST_WORKERS: u32 = 16;
+use hx_types::MOST_DRIVERS;
 
 /// The longest period at which posts can be lost or repeated.
 const LONGEST_PERIOD: u32 = 1_000_000;
@@ -31,7 +29,7 @@ pub(crate) fn option_of(name: &str, value: &str) -> Option<CommandOption>
     ensures { (option : CommandOption) → (result ≡ Some option) ↔ ((words_of option ≡ name.now ∷ value.now ∷ []) × IsWithin option) }
 {
     if name == "--workers" {
-        Some(CommandOption::Workers(number_within(value, 1, MOST_WORKERS)?))
+        Some(CommandOption::Workers(number_within(value, 1, MOST_DRIVERS)?))
     } else if name == "--lose" {
         Some(CommandOption::Lose(number_within(value, 0, LONGEST_PERIOD)?))
     } else if name == "--repeat" {
