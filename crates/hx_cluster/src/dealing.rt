@@ -1,5 +1,6 @@
 ghost use Rattle.std.specs.Prelude.{ℕ, ◌≡◌, ◌≤◌, length, map, slice_get, IfOk, Some};
 ghost use Rattle.hx_types.specs.Fitting.{IsScript};
+ghost use Rattle.hx_types.specs.declared.limits.TheConstants.{MOST_DRIVERS};
 ghost use Rattle.hx_outbox.specs.Places.{AreBoxes};
 ghost use Rattle.hx_cluster.specs.Clusters.{AreNewCrews, AreNewSeats};
 ghost use Rattle.hx_cluster.specs.Everyone.{actors_of};
@@ -104,7 +105,7 @@ pub fn deal(
     requires seats { AreNewSeats clock.now seats.items }
     requires all { length seats.items ≡ length (actors_of script.now) }
     requires ports { ArePortsOf workers boxes.now ports.items }
-    requires workers { (1 ≤ workers) × (workers ≤ 16) × (workers ≤ length fates.items) }
+    requires workers { (1 ≤ workers) × (workers ≤ MOST_DRIVERS) × (workers ≤ length fates.items) }
     ensures crews { IfOk result (λ drivers. AreNewCrews script.now clock.now boxes.now workers (map (λ d. d.crew) drivers.items)) }
     ensures fates { IfOk result (λ drivers. (i : ℕ) (d : _) (f : _) → slice_get drivers.items i ≡ Some d → slice_get fates.items i ≡ Some f → state d.fate ≡ state f) }
 {

@@ -1,5 +1,6 @@
 ghost use Rattle.std.specs.Prelude.{◌≡◌, ◌≤◌, ◌<◌, [], length, IfOk, Some};
 ghost use Rattle.hx_types.specs.Fitting.{IsScript};
+ghost use Rattle.hx_types.specs.declared.limits.TheConstants.{MOST_DRIVERS};
 ghost use Rattle.hx_mail.specs.Boxes.{IsPortOf};
 ghost use Rattle.hx_mail.specs.Ports.{first_port};
 ghost use Rattle.hx_outbox.specs.Places.{names_for, AreBoxes};
@@ -29,7 +30,7 @@ fn split_all<R: Wait>(
     workers: u32,
 ) -> Result<Vec<Port>, Memory>
     requires first { IsPortOf mailbox.now first.old × (first.old.view ≡ first_port (Some mailbox.now.names)) }
-    requires workers { workers ≤ 16 }
+    requires workers { workers ≤ MOST_DRIVERS }
     ensures first { IfOk result (λ _. IsInPort workers mailbox.now first.new × (ins_of first.new ≡ [])) }
     ensures others { IfOk result (λ others. AreOutPortsFrom 0 mailbox.now others.items × (length others.items ≡ workers)) }
 {
@@ -53,7 +54,7 @@ fn open_box<'a, R: Wait>(
 ) -> Result<(Mailbox<'a>, BoxPorts), Memory>
     requires script { IsScript script.now }
     requires capacity { 0 < capacity }
-    requires workers { workers ≤ 16 }
+    requires workers { workers ≤ MOST_DRIVERS }
     ensures names { IfOk result (λ opened. opened.0.names ≡ names_for script.now clock.now owner) }
     ensures ports { IfOk result (λ opened. AreNewPorts workers opened.0 opened.1) }
 {
@@ -81,7 +82,7 @@ pub fn open_boxes<'a, R: Wait>(
 ) -> Result<(Vec<Mailbox<'a>>, Vec<BoxPorts>), Memory>
     requires script { IsScript script.now }
     requires capacity { 0 < capacity }
-    requires workers { workers ≤ 16 }
+    requires workers { workers ≤ MOST_DRIVERS }
     ensures boxes { IfOk result (λ opened. AreBoxes script.now clock.now opened.0.items) }
     ensures ports { IfOk result (λ opened. ArePortsOf workers opened.0.items opened.1.items) }
 {

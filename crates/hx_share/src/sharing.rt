@@ -1,5 +1,6 @@
 ghost use Rattle.std.specs.Prelude.{◌≡◌, ◌≤◌, IfOk, length};
 ghost use Rattle.hx_types.specs.Fitting.{IsScript};
+ghost use Rattle.hx_types.specs.declared.limits.TheConstants.{MOST_DRIVERS};
 ghost use Rattle.hx_share.specs.Sharing.{IsShared};
 
 use crate::callers::call_sessions;
@@ -7,16 +8,13 @@ use crate::rest::make_rest;
 use hx_driver::Gate;
 use hx_service::{Charter, Roster};
 use hx_trace::Trace;
-use hx_types::{Actor, Memory, Script};
+use hx_types::{Actor, MOST_DRIVERS, Memory, Script};
 use hx_world::DrainError;
 use std::alloc::Global;
 use std::marker::Brand;
 use std::sync::{Mutex, Wait};
 use std::thread;
 use std::thread::Threads;
-
-/// The most threads that callers have.
-const MOST_CALLERS: usize = 16;
 
 /// What callers that share a store leave: the trace of all calls, and the actor that ended them,
 /// where one had made 1,048,576 entries and had one more to make.
@@ -43,7 +41,7 @@ pub fn share<R: Threads + Wait + Sync, G: Gate + Sync>(
     gate: &G,
 ) -> Result<Shared, Memory>
     requires valid { IsScript script.now }
-    requires workers { (1 ≤ workers) × (workers ≤ 16) }
+    requires workers { (1 ≤ workers) × (workers ≤ MOST_DRIVERS) }
     ensures { IfOk result (IsShared script.now) }
 {
     share_plan::<Brand, R, G>(rt, alloc, script, workers, gate)
@@ -59,7 +57,7 @@ fn share_plan<C: Charter + Send + Sync, R: Threads + Wait + Sync, G: Gate + Sync
 ) -> Result<Shared, Memory>
     requires valid { IsScript script.now }
     requires plan { script.now ≡ C.script }
-    requires workers { (1 ≤ workers) × (workers ≤ 16) }
+    requires workers { (1 ≤ workers) × (workers ≤ MOST_DRIVERS) }
     ensures { IfOk result (IsShared C.script) }
 {
     let roster: Roster<C> = Roster::new(alloc, script)?;
@@ -72,7 +70,7 @@ fn share_plan<C: Charter + Send + Sync, R: Threads + Wait + Sync, G: Gate + Sync
     thread::for_each_mut(
         rt,
         callers.as_mut_slice(),
-        MOST_CALLERS,
+        MOST_DRIVERS as usize,
         &|_place: usize, caller: &mut u32|
             requires valid { IsScript script.now }
             requires plan { script.now ≡ C.script }
