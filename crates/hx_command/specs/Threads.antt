@@ -9,6 +9,7 @@ use Rattle.hx_io.specs.Causes.{Rose}
 use Rattle.hx_io.specs.Pieces.{AppendsPrefix, ConsumesExactly}
 use Rattle.hx_bundle.specs.declared.bundles.Bundle.{Bundle}
 use Rattle.hx_types.specs.declared.ids.Actor.{Actor}
+use Rattle.hx_types.specs.declared.limits.TheConstants.{MOST_DRIVERS}
 use Rattle.hx_types.specs.declared.totals.Totals.{Totals}
 use Rattle.hx_types.specs.declared.traces.Entry.{Entry}
 use Rattle.hx_types.specs.declared.traces.Script.{Script}
@@ -44,13 +45,9 @@ use Rattle.hx_replay.specs.Texts.{IsRefused, scripted_of}
 abbrev pub tuning_of : Run → Tuning
 tuning_of run = record { lose_every = run.lose; repeat_every = run.repeat }
 
--- how many threads can work for all spaces together
-abbrev pub most_drivers : ℕ
-most_drivers = 16
-
 -- there are as many fates as the words may start drivers: under `run` the script says how many spaces there are
 pub record HasEnough (words : List (String Global)) (fates : ℕ) : Type 0 where
-  pub run : (run : Run) → SaysRun words run → most_drivers ≤ fates
+  pub run : (run : Run) → SaysRun words run → MOST_DRIVERS ≤ fates
   pub soak : (soak : Soak) → SaysSoak words soak → soak.workers ≤ fates
 
 -- ---- what is handed back
@@ -152,7 +149,7 @@ IsSummed soaked h bytes = IsOfOneRun (SumsUp soaked bytes) h
 
 -- so many of the threads that are asked for work for each space: no more than leave 16 for all
 abbrev pub workers_of : Bundle → ℕ → ℕ
-workers_of bundle workers = min workers (most_drivers / length bundle.spaces)
+workers_of bundle workers = min workers (MOST_DRIVERS / length bundle.spaces)
 
 -- these spaces were run one after the other, each to its end, but the last until this actor was worn
 abbrev pub RanUntilWorn : ℕ → Actor → List Script → List SpaceRun → Type 0

@@ -1,12 +1,13 @@
 ghost use Rattle.std.specs.Prelude.{◌≡◌, ◌≤◌, ◌⊎◌, length};
 ghost use Rattle.hx_io.specs.Causes.{Rose};
 ghost use Rattle.hx_types.specs.declared.ids.Actor.{Actor};
+ghost use Rattle.hx_types.specs.declared.limits.TheConstants.{MOST_DRIVERS};
 ghost use Rattle.hx_soak.specs.Soaking.{script_drawn};
 ghost use Rattle.hx_fate.specs.States.{never};
 ghost use Rattle.hx_words.specs.Limits.{IsRun, IsSoak};
 ghost use Rattle.hx_replay.specs.Outcomes.{IsSilent, status_of};
 ghost use Rattle.hx_replay.specs.Texts.{IsScripted};
-ghost use Rattle.hx_command.specs.Threads.{EndsRun, EndsSoak, EndsWith, HaveRisen, HaveRisenInEach, IsDecided, IsRunReported, IsRunWorn, any_version, most_drivers, spaces_of, tuning_of, workers_in};
+ghost use Rattle.hx_command.specs.Threads.{EndsRun, EndsSoak, EndsWith, HaveRisen, HaveRisenInEach, IsDecided, IsRunReported, IsRunWorn, any_version, spaces_of, tuning_of, workers_in};
 ghost use Rattle.hx_replay.specs.declared.outcomes.Outcome.{Outcome as OutcomeSeen};
 ghost use Rattle.hx_replay.specs.declared.texts.Scripted.{Scripted as ScriptedSeen};
 ghost use Rattle.hx_command.specs.HandedBack.{handed_back};
@@ -38,7 +39,7 @@ pub fn run_words<R: Threads + Wait + Sync, S: Source, K: Sink, G: Gate + Sync>(
     fates: Vec<Box<dyn Fate + Send>>,
     gate: &G,
 ) -> Finished
-    requires fates { most_drivers ≤ length fates.items }
+    requires fates { MOST_DRIVERS ≤ length fates.items }
     requires limits { IsRun command }
     ensures status { result.done.status ≡ status_of result.done.outcome }
     ensures run { (scripted : ScriptedSeen)
@@ -66,7 +67,7 @@ fn answer_scripted<R: Threads + Wait + Sync, K: Sink, G: Gate + Sync>(
     gate: &G,
 ) -> Finished
     requires scripted { IsScripted scripted.now }
-    requires fates { most_drivers ≤ length fates.items }
+    requires fates { MOST_DRIVERS ≤ length fates.items }
     requires limits { IsRun command }
     ensures ends { EndsWith (IsRunReported command scripted.now) (IsRunWorn command.workers scripted.now) (filled K.Sink sink.old sink.new) (handed_back result) result.done.outcome }
     ensures status { result.done.status ≡ status_of result.done.outcome }

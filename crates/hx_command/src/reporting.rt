@@ -1,5 +1,6 @@
 ghost use Rattle.std.specs.Prelude.{◌≡◌, ◌≤◌, ◌⊎◌, [], ◌∷◌, length, None};
 ghost use Rattle.hx_types.specs.Fitting.{IsScript};
+ghost use Rattle.hx_types.specs.declared.limits.TheConstants.{MOST_DRIVERS};
 ghost use Rattle.hx_replay.specs.Outcomes.{IsSilent, status_of};
 ghost use Rattle.hx_command.specs.Threads.{EndsOnThreads, HaveRisen, IsReported, IsThreaded, tuning_of};
 ghost use Rattle.hx_command.specs.HandedBack.{handed_back, space_run};
@@ -35,7 +36,7 @@ pub fn answer_run<R: Threads + Wait + Sync, K: Sink, G: Gate + Sync>(
     gate: &G,
 ) -> Finished
     requires script { IsScript script.now }
-    requires workers { (1 ≤ command.workers) × (command.workers ≤ 16) × (command.workers ≤ length fates.items) }
+    requires workers { (1 ≤ command.workers) × (command.workers ≤ MOST_DRIVERS) × (command.workers ≤ length fates.items) }
     ensures ends { EndsOnThreads (IsReported command script.now) script.now command.workers (filled K.Sink sink.old sink.new) (handed_back result) result.done.outcome }
     ensures status { result.done.status ≡ status_of result.done.outcome }
     ensures risen { HaveRisen state (tuning_of command) script.now command.workers fates.items result.fates.items (handed_back result) }

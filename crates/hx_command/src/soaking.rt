@@ -1,6 +1,6 @@
 ghost use Rattle.std.specs.Prelude.{◌≡◌, ◌≤◌, ◌⊎◌, [], ◌∷◌, length, None};
 ghost use Rattle.hx_types.specs.Fitting.{IsScript};
-ghost use Rattle.hx_types.specs.declared.limits.TheConstants.{MOST_CALLS};
+ghost use Rattle.hx_types.specs.declared.limits.TheConstants.{MOST_CALLS, MOST_DRIVERS};
 ghost use Rattle.hx_soak.specs.Soaking.{script_drawn};
 ghost use Rattle.hx_fate.specs.States.{never};
 ghost use Rattle.hx_replay.specs.Outcomes.{IsSilent, status_of};
@@ -41,7 +41,7 @@ pub fn answer_soak<R: Threads + Wait + Sync, K: Sink, G: Gate + Sync>(
     requires script { IsScript script.now }
     requires drawn { script.now ≡ script_drawn command.seed command.calls }
     requires few { command.calls ≤ MOST_CALLS }
-    requires workers { (1 ≤ command.workers) × (command.workers ≤ 16) × (command.workers ≤ length fates.items) }
+    requires workers { (1 ≤ command.workers) × (command.workers ≤ MOST_DRIVERS) × (command.workers ≤ length fates.items) }
     ensures ends { EndsOnThreads (IsSummed command) script.now command.workers (filled K.Sink sink.old sink.new) (handed_back result) result.done.outcome }
     ensures status { result.done.status ≡ status_of result.done.outcome }
     ensures risen { HaveRisen state never script.now command.workers fates.items result.fates.items (handed_back result) }

@@ -1,9 +1,10 @@
 ghost use Rattle.std.specs.Prelude.{◌≡◌, ◌≤◌, ◌⊎◌, [], length, map, reverse, IfOk};
 ghost use Rattle.std.specs.List.{flat_map};
 ghost use Rattle.hx_bundle.specs.Bundles.{IsBundle};
+ghost use Rattle.hx_types.specs.declared.limits.TheConstants.{MOST_DRIVERS};
 ghost use Rattle.hx_report.specs.BundleReporting.{IsBundleReport};
 ghost use Rattle.hx_replay.specs.Outcomes.{IsSilent, status_of};
-ghost use Rattle.hx_command.specs.Threads.{AreRan, AreReported, AreWornOnThreads, EndsWith, HaveRisenInEach, IsHandedWorn, RanAll, RanUntilWorn, handed_from, most_drivers, tuning_of, workers_of};
+ghost use Rattle.hx_command.specs.Threads.{AreRan, AreReported, AreWornOnThreads, EndsWith, HaveRisenInEach, IsHandedWorn, RanAll, RanUntilWorn, handed_from, tuning_of, workers_of};
 ghost use Rattle.hx_command.specs.HandedBack.{handed_back, handed_of, space_run};
 ghost use Rattle.hx_replay.specs.Streams.{filled};
 
@@ -38,8 +39,8 @@ pub fn answer_spaces<R: Threads + Wait + Sync, K: Sink, G: Gate + Sync>(
     gate: &G,
 ) -> Finished
     requires bundle { IsBundle bundle.now }
-    requires workers { (1 ≤ command.workers) × (command.workers ≤ 16) }
-    requires fates { most_drivers ≤ length fates.items }
+    requires workers { (1 ≤ command.workers) × (command.workers ≤ MOST_DRIVERS) }
+    requires fates { MOST_DRIVERS ≤ length fates.items }
     ensures ends { EndsWith (AreReported command bundle.now) (AreWornOnThreads bundle.now command.workers) (filled K.Sink sink.old sink.new) (handed_back result) result.done.outcome }
     ensures status { result.done.status ≡ status_of result.done.outcome }
     ensures risen { HaveRisenInEach state (tuning_of command) bundle.now.spaces (workers_of bundle.now command.workers) fates.items result.fates.items (handed_back result) }

@@ -4,17 +4,18 @@ ghost use Rattle.hx_bundle.specs.Bundles.{IsBundle};
 ghost use Rattle.hx_types.specs.declared.totals.Totals.{Totals as TotalsSeen};
 ghost use Rattle.hx_types.specs.declared.traces.Script.{Script as ScriptSeen};
 ghost use Rattle.hx_types.specs.Fitting.{IsScript};
+ghost use Rattle.hx_types.specs.declared.limits.TheConstants.{MOST_DRIVERS};
 ghost use Rattle.hx_fate.specs.States.{tuned};
 ghost use Rattle.hx_run.specs.Ran.{HasRisen};
-ghost use Rattle.hx_command.specs.Threads.{AreRan, IsThreaded, most_drivers, workers_of};
+ghost use Rattle.hx_command.specs.Threads.{AreRan, IsThreaded, workers_of};
 ghost use Rattle.hx_command.specs.HandedBack.{space_run};
 
 use crate::threads::{Threading, run_threads};
 use hx_bundle::Bundle;
 use hx_driver::Gate;
 use hx_fate::Fate;
-use hx_run::{MOST_DRIVERS, Ran};
-use hx_types::{Actor, Memory, Script};
+use hx_run::Ran;
+use hx_types::{Actor, MOST_DRIVERS, Memory, Script};
 use std::alloc::Global;
 use std::sync::Wait;
 use std::thread::Threads;
@@ -34,7 +35,7 @@ pub fn workers_of(bundle: &Bundle, workers: u32) -> u32
     requires workers { 1 ≤ workers }
     ensures exact { result ≡ workers_of bundle.now workers }
     ensures some { 1 ≤ result }
-    ensures few { result * length bundle.now.spaces ≤ most_drivers }
+    ensures few { result * length bundle.now.spaces ≤ MOST_DRIVERS }
 {
     workers.min(MOST_DRIVERS / bundle.spaces.len() as u32)
 }
@@ -66,7 +67,7 @@ fn run_next<R: Threads + Wait + Sync, G: Gate + Sync>(
     gate: &G,
 ) -> Result<Ran, Memory>
     requires script { IsScript script.now }
-    requires workers { (1 ≤ threading.workers) × (threading.workers ≤ 16) × (threading.workers ≤ length fates.old.items) }
+    requires workers { (1 ≤ threading.workers) × (threading.workers ≤ MOST_DRIVERS) × (threading.workers ≤ length fates.old.items) }
     requires capacity { 1 ≤ threading.capacity }
     ensures ran { IfOk result (λ ran. IsThreaded script.now threading.workers (space_run ran) ran.worn) }
     ensures fates { OnOk result (fates.new.items ≡ drop threading.workers fates.old.items) }
@@ -88,7 +89,7 @@ pub fn run_spaces<R: Threads + Wait + Sync, G: Gate + Sync>(
     gate: &G,
 ) -> Result<SpacesRan, Memory>
     requires scripts { All IsScript scripts.now }
-    requires workers { (1 ≤ threading.workers) × (threading.workers ≤ 16) × (threading.workers * length scripts.now ≤ length fates.items) }
+    requires workers { (1 ≤ threading.workers) × (threading.workers ≤ MOST_DRIVERS) × (threading.workers * length scripts.now ≤ length fates.items) }
     requires capacity { 1 ≤ threading.capacity }
     ensures ran { IfOk result (λ made. AreRan threading.workers scripts.now (map space_run made.runs.items) made.worn) }
     ensures risen { IfOk result (λ made. (k : ℕ) (j : ℕ) (script : ScriptSeen) (ran : _) (f : _) (g : _) (t : TotalsSeen) → j < threading.workers

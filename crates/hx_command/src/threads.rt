@@ -1,6 +1,7 @@
 ghost use Rattle.std.specs.Prelude.{ℕ, ◌≡◌, ◌≢◌, ◌≤◌, ◌<◌, length, slice_get, IfOk, Some};
 ghost use Rattle.hx_types.specs.declared.totals.Totals.{Totals as TotalsSeen};
 ghost use Rattle.hx_types.specs.Fitting.{IsScript};
+ghost use Rattle.hx_types.specs.declared.limits.TheConstants.{MOST_DRIVERS};
 ghost use Rattle.hx_fate.specs.States.{tuned};
 ghost use Rattle.hx_run.specs.Ran.{HasRisen};
 ghost use Rattle.hx_command.specs.Threads.{IsThreaded};
@@ -61,7 +62,7 @@ pub fn run_threads<R: Threads + Wait + Sync, G: Gate + Sync>(
     gate: &G,
 ) -> Result<Ran, Memory>
     requires script { IsScript script.now }
-    requires workers { (1 ≤ threading.workers) × (threading.workers ≤ 16) × (threading.workers ≤ length fates.items) }
+    requires workers { (1 ≤ threading.workers) × (threading.workers ≤ MOST_DRIVERS) × (threading.workers ≤ length fates.items) }
     requires capacity { 1 ≤ threading.capacity }
     ensures ran { IfOk result (λ ran. IsThreaded script.now threading.workers (space_run ran) ran.worn) }
     ensures risen { IfOk result (λ ran. (i : ℕ) (f : _) (g : _) (t : TotalsSeen) → slice_get fates.items i ≡ Some f → slice_get ran.fates.items i ≡ Some g → slice_get ran.totals.items i ≡ Some t → HasRisen script.now threading.workers ran.trace i t (tuned threading.tuning (state f)) (state g)) }

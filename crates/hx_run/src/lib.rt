@@ -18,5 +18,5 @@ mod running;
 
 pub use joining::{join_all, sort_by_place};
 pub use resting::{all_ended, at_rest};
-pub use rounds::{MOST_DRIVERS, run_rounds};
+pub use rounds::run_rounds;
 pub use running::{Ran, run};

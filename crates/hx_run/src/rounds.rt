@@ -15,15 +15,11 @@ use hx_clock::Clock;
 use hx_driver::{AtWork, Driver, Fault, Gate};
 use hx_mail::Mailbox;
 use hx_outbox::Floor;
-use hx_types::Script;
+use hx_types::{MOST_DRIVERS, Script};
 use std::alloc::Global;
 use std::sync::Wait;
 use std::thread;
 use std::thread::Threads;
-
-/// How many drivers are moved side by side at most, those of all spaces of a bundle together. This
-/// project's choice: as many as a script has sessions at most.
-pub const MOST_DRIVERS: u32 = 16;
 
 /// A slice of one driver.
 fn slice_one<R: Wait, G: Gate>(floor: &Floor<'_, R, G>, driver: &mut Driver, at_work: &AtWork)

@@ -1,6 +1,7 @@
 ghost use Rattle.std.specs.Prelude.{ℕ, ◌≡◌, ◌≤◌, ◌<◌, List, length, slice_get, map, IfOk, Some};
 ghost use Rattle.hx_types.specs.declared.totals.Totals.{Totals as TotalsSeen};
 ghost use Rattle.hx_types.specs.Fitting.{IsScript};
+ghost use Rattle.hx_types.specs.declared.limits.TheConstants.{MOST_DRIVERS};
 ghost use Rattle.hx_driver.specs.declared.crews.Crew.{Crew};
 ghost use Rattle.hx_cluster.specs.Clusters.{AreNewSeats};
 ghost use Rattle.hx_cluster.specs.Everyone.{actors_of};
@@ -85,7 +86,7 @@ fn run_drivers<R: Threads + Wait + Sync, G: Gate + Sync>(
 ) -> Result<Driven, Memory>
     requires script { IsScript script.now }
     requires seats { AreNewSeats clock.now seats.items × (length seats.items ≡ length (actors_of script.now)) }
-    requires workers { (1 ≤ workers) × (workers ≤ 16) × (workers ≤ length fates.items) }
+    requires workers { (1 ≤ workers) × (workers ≤ MOST_DRIVERS) × (workers ≤ length fates.items) }
     requires capacity { 1 ≤ capacity }
     ensures closed { IfOk result (λ made. (start : List Crew) × (now : List Crew) × AreClosed script.now clock.now workers start now made.fault × IsLeft script.now clock.now now made.closed.actors.items made.closed.totals.items made.closed.ports.items × (made.met_worn.items ≡ map (λ c. worn_in c.fault) now) × (length made.closed.fates.items ≡ workers) × ((i : ℕ) (f : _) (g : _) (c : Crew) → slice_get fates.items i ≡ Some f → slice_get made.closed.fates.items i ≡ Some g → slice_get now i ≡ Some c → HasPosted c (state f) (state g))) }
 {
@@ -140,7 +141,7 @@ pub fn run<R: Threads + Wait + Sync, G: Gate + Sync>(
     gate: &G,
 ) -> Result<Ran, Memory>
     requires script { IsScript script.now }
-    requires workers { (1 ≤ workers) × (workers ≤ 16) × (workers ≤ length fates.items) }
+    requires workers { (1 ≤ workers) × (workers ≤ MOST_DRIVERS) × (workers ≤ length fates.items) }
     requires capacity { 1 ≤ capacity }
     ensures ran { IfOk result (λ ran. IsRan script.now workers ran.trace ran.seat ran.totals.items ran.ports.items ran.worn) }
     ensures met { IfOk result (λ ran. HaveMetWorn script.now workers ran.seat.clock ran.trace ran.totals.items ran.ports.items ran.met_worn.items) }
