@@ -229,6 +229,10 @@ fn next(clause: Clause) -> Option<Clause>
 /// clause that is broken anywhere, and the lowest line at which it is. Lines are counted from 1 on
 /// over all blocks. Nothing is said of calls that the report leaves out, of the versions that items
 /// have, nor of a call that ended before it began.
+///
+/// # Errors
+///
+/// [`Memory`] alone.
 pub fn audit(alloc: Global, report: &Report) -> Result<Verdict, Memory>
     ensures { IfOk result (IsVerdict report.now) }
 {

@@ -28,6 +28,10 @@ use std::alloc::Global;
 /// Where a place's region is lost, it changes nothing instead: it keeps the latest object, goes
 /// through the key region alone, and is answered `Refused` with the first lost region in the order
 /// of places and the configuration's epoch.
+///
+/// # Errors
+///
+/// [`Memory`] alone.
 pub fn decide(
     alloc: Global,
     space: &Space,

@@ -23,6 +23,10 @@ use std::alloc::Global;
 /// A place's `after` is the slot's last version with a place in that region (0 for none), in the
 /// key region its top; `keeps` is whether the new object is there and lies in the region. The order
 /// of the places, `after` and `keeps` are this project's choice.
+///
+/// # Errors
+///
+/// [`Memory`] alone.
 pub fn places(
     alloc: Global,
     map: &RegionMap,

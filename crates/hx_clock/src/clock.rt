@@ -42,7 +42,8 @@ impl Model for Clock {
 }
 
 impl Clock {
-    /// A clock with no actor, and its counting seat, which alone enrols.
+    /// A clock with no actor, and its counting seat, which alone enrols. It fails with [`Memory`]
+    /// alone.
     pub fn new(alloc: Global) -> Result<(Clock, Seat), Memory>
         ensures clock { IfOk result (λ made. made.1.clock ≡ made.0) }
         ensures seat { IfOk result (λ made. made.1.view ≡ counting) }

@@ -22,7 +22,8 @@ pub fn is_few(items: usize, more: usize) -> bool
     }
 }
 
-/// Makes room for so many items more. Lists of 4,294,967,296 items have none.
+/// Makes room for so many items more. Lists of 4,294,967,296 items have none. It fails with
+/// [`Memory`] alone, and the items stay, whatever comes.
 #[inline]
 pub fn make_room<T: Drop>(list: &mut Vec<T>, more: usize) -> Result<(), Memory>
     ensures items { list.new.items ≡ list.old.items }

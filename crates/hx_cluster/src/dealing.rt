@@ -89,7 +89,8 @@ fn give_fates(
 }
 
 /// The drivers of a script before the first turn, each with its actors, its ports and its fate:
-/// driver i has the i-th fate, and those that no driver has are dropped.
+/// driver i has the i-th fate, and those that no driver has are dropped. It fails with [`Memory`]
+/// alone.
 pub fn deal(
     alloc: Global,
     script: &Script,

@@ -7,7 +7,7 @@ use hx_clock::{Clock, Seat};
 use hx_types::Memory;
 use std::alloc::Global;
 
-/// So many seats of a new clock, of the numbers from 0.
+/// So many seats of a new clock, of the numbers from 0. It fails with [`Memory`] alone.
 pub fn enrol_all(
     alloc: Global,
     clock: &mut Clock,

@@ -71,7 +71,8 @@ fn open_box<'a, R: Wait>(
     Ok((mailbox, BoxPorts { first, others }))
 }
 
-/// A box for each actor of the script, in order, with its ports for so many drivers.
+/// A box for each actor of the script, in order, with its ports for so many drivers. It fails with
+/// [`Memory`] alone.
 pub fn open_boxes<'a, R: Wait>(
     rt: &R,
     alloc: Global,

@@ -44,7 +44,7 @@ impl Model for Coordinator {
 
 impl Coordinator {
     /// The coordinator of a space and a number of sessions at the start: in the configuration of
-    /// epoch 1, with nothing to be done.
+    /// epoch 1, with nothing to be done. It fails with [`Memory`] alone.
     pub fn start(alloc: Global, space: &Space, sessions: u32) -> Result<Coordinator, Memory>
         requires { IsSpace space.now }
         ensures state { IfOk result (λ coordinator. coordinator ≡ coordinator_at_start space.now sessions) }
@@ -60,7 +60,8 @@ impl Coordinator {
     /// Computes the step that this input makes, and takes all memory that it needs. Nothing
     /// changes. The posts of its entry are of each space of which the coordinator and the input
     /// are, name only the coordinator and actors that it or the input names, and have epochs at
-    /// most 1 above the greatest that it keeps. On an error the input is dropped.
+    /// most 1 above the greatest that it keeps. On an error, which is [`Memory`] alone, the input
+    /// is dropped.
     #[inline(never)]
     pub fn prepare(&mut self, alloc: Global, input: Input) -> Result<Plan, Memory>
         requires { CanTake self.old input }

@@ -42,7 +42,8 @@ pub struct Gathered {
 /// that it has. Whatever the threads did, the laws over all runs hold of it.
 ///
 /// The entries stay where they lie in their parts: beside these there is memory for the heads of
-/// the trace, for a number for each entry, and for one for each part.
+/// the trace, for a number for each entry, and for one for each part. It fails with [`Memory`]
+/// alone.
 pub fn gather(
     alloc: Global,
     clock: Clock,

@@ -52,7 +52,7 @@ fn events_at<'a>(alloc: Global, events: &[Event<'a>], key: &Text) -> Result<Vec<
     Ok(found)
 }
 
-/// The history of a key.
+/// The history of a key. It fails with [`Memory`] alone.
 #[tactic(auto, using(crate::proofs::ByEvents::history_found))]
 pub fn history(alloc: Global, script: &Script, trace: &Trace, key: &Text) -> Result<Items, Memory>
     ensures { IfOk result (λ items. items ≡ reverse (history_of script.now key.now (reverse trace.now))) }
@@ -140,7 +140,7 @@ pub fn histories_from(
     Ok(copies)
 }
 
-/// The histories of all keys that have one with items.
+/// The histories of all keys that have one with items. It fails with [`Memory`] alone.
 pub fn histories(alloc: Global, script: &Script, trace: &Trace) -> Result<Histories, Memory>
     ensures { IfOk result (λ listed. AreHistories script.now (reverse trace.now) listed) }
 {

@@ -59,7 +59,8 @@ pub fn records_from(alloc: Global, table: &[SessionNotes<'_>]) -> Result<Records
 }
 
 /// When each begun call of a script began and ended, by session and number, with the version that
-/// its end names and its answer. A call that is answered Doubt has no end.
+/// its end names and its answer. A call that is answered Doubt has no end. It fails with [`Memory`]
+/// alone.
 pub fn records(alloc: Global, script: &Script, trace: &Trace) -> Result<Records, Memory>
     ensures { IfOk result (λ records. records ≡ records_of script.now (reverse trace.now)) }
 {

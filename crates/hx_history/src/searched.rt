@@ -49,7 +49,7 @@ fn push_searches(
 }
 
 /// The finished searches of a script, by session and number: those that ended with rows, and so
-/// not those that were refused.
+/// not those that were refused. It fails with [`Memory`] alone.
 pub fn searches(alloc: Global, script: &Script, trace: &Trace) -> Result<Searches, Memory>
     ensures { IfOk result (λ searches. searches ≡ searches_of script.now (reverse trace.now)) }
 {

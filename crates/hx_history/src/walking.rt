@@ -96,7 +96,8 @@ fn gather<'a>(alloc: Global, script: &'a Script, trace: &'a Trace) -> Result<Gat
 }
 
 /// The records of [`records`](crate::records) and the histories of [`histories`](crate::histories),
-/// after one walk over the trace: it is long, and most of its entries have no notes.
+/// after one walk over the trace: it is long, and most of its entries have no notes. It fails with
+/// [`Memory`] alone.
 pub fn records_and_histories(
     alloc: Global,
     script: &Script,
@@ -112,7 +113,7 @@ pub fn records_and_histories(
 }
 
 /// The records and histories of a trace, of which the histories are no copies, and whether a
-/// configuration was issued.
+/// configuration was issued. It fails with [`Memory`] alone.
 pub fn records_and_items<'a>(
     alloc: Global,
     script: &'a Script,

@@ -45,7 +45,7 @@ impl Model for Index {
 
 impl Index {
     /// The index of no rows, with an order for the key and for each of the attributes. It has no
-    /// room.
+    /// room. It fails with [`Memory`] alone.
     pub fn new(alloc: Global, attributes: u32) -> Result<Index, Memory>
         ensures orders { IfOk result (λ index. index.orders ≡ repeat (attributes + 1) ([] ∷ [])) }
         ensures empty { IfOk result (IsIndexOf no_rows) }
@@ -55,7 +55,8 @@ impl Index {
         Ok(Index { orders, room: 0 })
     }
 
-    /// Makes room for n numbers in all in each order. The orders stay, whatever comes.
+    /// Makes room for n numbers in all in each order. The orders stay, whatever comes. It fails
+    /// with [`Memory`] alone.
     pub fn reserve(&mut self, _alloc: Global, n: u32) -> Result<(), Memory>
         ensures orders { self.new.orders ≡ self.old.orders }
         ensures room { OnOk result (n ≤ self.new.room) }
@@ -128,7 +129,8 @@ impl Index {
 
     /// The numbers of the rows of which every term holds, each once, in any order. It goes through
     /// the shortest run of a term, or through all where no term is on an attribute above 0, and
-    /// looks at each row there once; a run is found by 2 * d looks at most.
+    /// looks at each row there once; a run is found by 2 * d looks at most. It fails with
+    /// [`Memory`] alone.
     pub fn find<L: Look>(&self, alloc: Global, look: &mut L, terms: &Terms) -> Result<Ids, Memory>
         requires { IsIndexOf (L.rows look.old) self.now }
         ensures matching { IfOk result (λ ids. (i : ℕ) → stands_in ids.items i ≡ matches_at (L.rows look.old) terms.now i) }

@@ -33,7 +33,7 @@ impl Drop for Machine {
 }
 
 impl Machine {
-    /// An actor of a script before its first entry.
+    /// An actor of a script before its first entry. It fails with [`Memory`] alone.
     pub fn start(alloc: Global, script: &Script, actor: Actor) -> Result<Machine, Memory>
         requires script { IsScript script.now }
         requires actor { is_actor script.now actor ≡ true }
@@ -59,7 +59,7 @@ impl Machine {
 
     /// Computes the step that this input makes: what it posts and notes goes behind what the lists
     /// hold, and what it changes is given, for [`Machine::make`]. The actor stays as it was. After
-    /// an error the lists may hold anything.
+    /// an error, which is [`Memory`] alone, the lists may hold anything.
     #[inline]
     pub fn step(
         &mut self,

@@ -53,7 +53,7 @@ pub struct Full(pub Envelope);
 
 impl<'a> Mailbox<'a> {
     /// An empty box of as many places, and its first port. All memory that the box ever needs is
-    /// taken here.
+    /// taken here. It fails with [`Memory`] alone.
     pub fn new(
         alloc: Global,
         clock: &'a Clock,
@@ -183,7 +183,7 @@ impl<'a> Mailbox<'a> {
     }
 
     /// A port with a new name, of the first port: the number of ports that were split off it
-    /// before, and 1 more.
+    /// before, and 1 more. Where it fails, with [`Memory`] alone, the first port is as it was.
     pub fn split<R: Wait>(&self, rt: &R, port: &mut Port) -> Result<Port, Memory>
         requires port { IsPortOf self.now port.old }
         requires first { (n : ℕ) × (port.old.view.splits ≡ Some n) × (n < 4294967295) }

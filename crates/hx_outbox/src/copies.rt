@@ -30,7 +30,7 @@ impl Copies {
     }
 
     /// Copies of these posts, in place of what the lists held. Where each is copied once, what the
-    /// second list holds counts for nothing.
+    /// second list holds counts for nothing. It fails with [`Memory`] alone.
     pub fn fill(&mut self, alloc: Global, posts: &[Post], twice: bool) -> Result<(), Memory>
         ensures firsts { OnOk result (self.new.firsts.items ≡ posts.now) }
         ensures seconds { OnOk result (IsTrue twice → self.new.seconds.items ≡ posts.now) }

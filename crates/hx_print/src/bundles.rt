@@ -296,7 +296,7 @@ fn put_spaces(out: &mut Vec<u8>, spaces: &[Script]) -> Result<(), Memory>
 
 /// The plain text of a bundle, as a script of several spaces, even where there is one. The line
 /// numbers of its steps aren't part of it, and where there are no steps the line `steps` is left
-/// out.
+/// out. It fails for want of memory alone.
 #[tactic(auto, unfolding(crate::specs::BundlePrinting::bundle_text))]
 pub fn print_bundle(alloc: Global, bundle: &Bundle) -> Result<Vec<u8>, Memory>
     requires { IsBundle bundle.now }

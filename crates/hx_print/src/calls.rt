@@ -139,7 +139,8 @@ pub(crate) fn put_edits(out: &mut Vec<u8>, space: &Space, edits: &Edits) -> Resu
     Ok(())
 }
 
-/// Appends a call without a newline.
+/// Appends a call without a newline. It fails for want of memory alone, and then what was there
+/// stays in front.
 #[tactic(auto, unfolding(crate::specs::Printing::op_text), using(crate::proofs::Prefixes::same, crate::proofs::Prefixes::further))]
 pub fn put_op(out: &mut Vec<u8>, space: &Space, op: &Op) -> Result<(), Memory>
     ensures appends { OnOk result (out.new.items ≡ out.old.items ++ op_text space.now op.now) }
@@ -177,7 +178,7 @@ pub fn put_op(out: &mut Vec<u8>, space: &Space, op: &Op) -> Result<(), Memory>
     }
 }
 
-/// The call as [`crate::print`] writes it, without a newline.
+/// The call as [`crate::print`] writes it, without a newline. It fails for want of memory alone.
 pub fn print_op(alloc: Global, space: &Space, op: &Op) -> Result<Vec<u8>, Memory>
     ensures { IfOk result (λ bytes. bytes.items ≡ op_text space.now op.now) }
 {

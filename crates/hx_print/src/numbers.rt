@@ -24,7 +24,7 @@ fn put_long(out: &mut Vec<u8>, number: u64) -> Result<(), Memory>
 }
 
 /// Appends a number in decimal. Most have few digits, which are pushed into room that is made
-/// first.
+/// first. It fails for want of memory alone, and then what was there stays in front.
 #[tactic(auto, using(crate::proofs::Prefixes::same, crate::proofs::Prefixes::further))]
 pub fn put_number(out: &mut Vec<u8>, number: u64) -> Result<(), Memory>
     ensures appends { OnOk result (out.new.items ≡ out.old.items ++ decimal number) }
@@ -97,7 +97,8 @@ fn put_next_numbers<T: Numbered>(out: &mut Vec<u8>, items: &[T]) -> Result<(), M
     Ok(())
 }
 
-/// Appends the numbers of a list with commas between them, or `-` where there is none.
+/// Appends the numbers of a list with commas between them, or `-` where there is none. It fails for
+/// want of memory alone, and then what was there stays in front.
 #[tactic(auto, unfolding(crate::specs::Printing::numbers_text), using(crate::proofs::Prefixes::same, crate::proofs::Prefixes::further))]
 pub fn put_numbers<T: Numbered>(out: &mut Vec<u8>, items: &[T]) -> Result<(), Memory>
     ensures appends { OnOk result

@@ -50,7 +50,8 @@ fn put_sessions(out: &mut Vec<u8>, space: &Space, sessions: &Sessions) -> Result
     Ok(())
 }
 
-/// Appends `c`, or `s` or `u` with the number of the server or session.
+/// Appends `c`, or `s` or `u` with the number of the server or session. It fails for want of memory
+/// alone, and then what was there stays in front.
 #[tactic(auto, unfolding(crate::specs::Printing::actor_text), using(crate::proofs::Prefixes::same, crate::proofs::Prefixes::further))]
 pub fn put_actor(out: &mut Vec<u8>, actor: &Actor) -> Result<(), Memory>
     ensures appends { OnOk result (out.new.items ≡ out.old.items ++ actor_text actor.now) }
@@ -69,7 +70,8 @@ pub fn put_actor(out: &mut Vec<u8>, actor: &Actor) -> Result<(), Memory>
     }
 }
 
-/// Appends `u` with the number of the session, a dot, and the number of the call.
+/// Appends `u` with the number of the session, a dot, and the number of the call. It fails for want
+/// of memory alone, and then what was there stays in front.
 #[tactic(auto, unfolding(crate::specs::Printing::caller_text), using(crate::proofs::Prefixes::same, crate::proofs::Prefixes::further))]
 pub fn put_call_name(out: &mut Vec<u8>, session: u64, number: u64) -> Result<(), Memory>
     ensures appends { OnOk result (out.new.items ≡ out.old.items ++ caller_text (record { session = record { 0 = session }; number = number })) }
@@ -81,7 +83,8 @@ pub fn put_call_name(out: &mut Vec<u8>, session: u64, number: u64) -> Result<(),
     put_number(out, number)
 }
 
-/// Appends the name of a call by its caller, as [`put_call_name`] does.
+/// Appends the name of a call by its caller, as [`put_call_name`] does. It fails for want of memory
+/// alone, and then what was there stays in front.
 #[tactic(auto, using(crate::proofs::Prefixes::same, crate::proofs::Prefixes::further))]
 pub fn put_caller(out: &mut Vec<u8>, caller: &Caller) -> Result<(), Memory>
     ensures appends { OnOk result (out.new.items ≡ out.old.items ++ caller_text caller.now) }
@@ -90,7 +93,8 @@ pub fn put_caller(out: &mut Vec<u8>, caller: &Caller) -> Result<(), Memory>
     put_call_name(out, u64::from(caller.session.0), u64::from(caller.number))
 }
 
-/// Appends the entry and the place of a post with a dot between them.
+/// Appends the entry and the place of a post with a dot between them. It fails for want of memory
+/// alone, and then what was there stays in front.
 #[tactic(auto, unfolding(crate::specs::Printing::post_name), using(crate::proofs::Prefixes::same, crate::proofs::Prefixes::further))]
 pub fn put_post_name(out: &mut Vec<u8>, id: &PostId) -> Result<(), Memory>
     ensures appends { OnOk result (out.new.items ≡ out.old.items ++ post_name id.now) }
@@ -144,7 +148,7 @@ fn put_steps(out: &mut Vec<u8>, steps: &Steps) -> Result<(), Memory>
 }
 
 /// The plain text of a script. The line numbers of its steps aren't part of it, and where there
-/// are no steps the line `steps` is left out.
+/// are no steps the line `steps` is left out. It fails for want of memory alone.
 #[tactic(auto, unfolding(crate::specs::Printing::script_text))]
 pub fn print(alloc: Global, script: &Script) -> Result<Vec<u8>, Memory>
     ensures { IfOk result (λ bytes. bytes.items ≡ script_text script.now) }

@@ -167,7 +167,8 @@ pub(crate) fn put_tolerate_line(out: &mut Vec<u8>, tolerate: u32) -> Result<(), 
     put_bytes(out, b"\n")
 }
 
-/// Appends the lines from `space` to `tolerate`.
+/// Appends the lines from `space` to `tolerate`. It fails for want of memory alone, and then what
+/// was there stays in front.
 #[tactic(auto, unfolding(crate::specs::Printing::space_text), using(crate::proofs::Prefixes::same, crate::proofs::Prefixes::further))]
 pub fn put_space(out: &mut Vec<u8>, space: &Space) -> Result<(), Memory>
     ensures appends { OnOk result (out.new.items ≡ out.old.items ++ space_text space.now) }
@@ -181,7 +182,7 @@ pub fn put_space(out: &mut Vec<u8>, space: &Space) -> Result<(), Memory>
     put_tolerate_line(out, space.tolerate)
 }
 
-/// The lines from `space` to `tolerate`.
+/// The lines from `space` to `tolerate`. It fails for want of memory alone.
 pub fn print_space(alloc: Global, space: &Space) -> Result<Vec<u8>, Memory>
     ensures { IfOk result (λ bytes. bytes.items ≡ space_text space.now) }
 {

@@ -10,7 +10,8 @@ use crate::numbers::put_signed;
 use hx_types::{Memory, Text, Value};
 use std::alloc::Global;
 
-/// Appends bytes as they are.
+/// Appends bytes as they are. It fails for want of memory alone, and then what was there stays in
+/// front.
 #[tactic(auto, using(crate::proofs::Prefixes::same, crate::proofs::Prefixes::further))]
 pub fn put_bytes(out: &mut Vec<u8>, bytes: &[u8]) -> Result<(), Memory>
     ensures appends { OnOk result (out.new.items ≡ out.old.items ++ bytes.now) }
@@ -68,7 +69,8 @@ fn put_between(out: &mut Vec<u8>, bytes: &[u8]) -> Result<(), Memory>
     Ok(())
 }
 
-/// Appends a text in quotes.
+/// Appends a text in quotes. It fails for want of memory alone, and then what was there stays in
+/// front.
 #[tactic(auto, unfolding(crate::specs::Printing::quoted), using(crate::proofs::Prefixes::same, crate::proofs::Prefixes::further))]
 pub fn put_text(out: &mut Vec<u8>, text: &Text) -> Result<(), Memory>
     ensures appends { OnOk result (out.new.items ≡ out.old.items ++ quoted text.now) }
@@ -91,7 +93,8 @@ pub fn put_value(out: &mut Vec<u8>, value: &Value) -> Result<(), Memory>
     }
 }
 
-/// Appends a blank, the name, `=` and the value.
+/// Appends a blank, the name, `=` and the value. It fails for want of memory alone, and then what
+/// was there stays in front.
 #[tactic(auto, unfolding(crate::specs::Printing::named_text), using(crate::proofs::Prefixes::same, crate::proofs::Prefixes::further))]
 pub fn put_named(out: &mut Vec<u8>, name: &[u8], value: &Value) -> Result<(), Memory>
     ensures appends { OnOk result (out.new.items ≡ out.old.items ++ named_text name.now value.now) }
@@ -104,7 +107,7 @@ pub fn put_named(out: &mut Vec<u8>, name: &[u8], value: &Value) -> Result<(), Me
 }
 
 /// The text in quotes, with `\"`, `\\`, `\n` and `\t` for the quote, the backslash, the newline
-/// and the tab.
+/// and the tab. It fails for want of memory alone.
 pub fn print_text(alloc: Global, text: &Text) -> Result<Vec<u8>, Memory>
     ensures { IfOk result (λ bytes. bytes.items ≡ quoted text.now) }
 {

@@ -50,7 +50,8 @@ impl Model for RegionMap {
 }
 
 impl RegionMap {
-    /// The map of a space. It keeps a copy of the space and a table of its subspaces.
+    /// The map of a space. It keeps a copy of the space and a table of its subspaces. It fails with
+    /// [`Memory`] alone.
     pub fn new(alloc: Global, space: &Space) -> Result<RegionMap, Memory>
         requires { IsSpace space.now }
         ensures { IfOk result (λ map. map ≡ space.now) }
@@ -146,6 +147,10 @@ impl RegionMap {
     /// They are made of the cells that the terms allow on each axis, and no other region is looked
     /// at: beside a step for each axis and term it takes at most one for each cell of an axis, and
     /// one for each axis and region that is given.
+    ///
+    /// # Errors
+    ///
+    /// [`Memory`] alone.
     pub fn meeting(&self, alloc: Global, s: u32, terms: &Terms) -> Result<RegionList, Memory>
         requires { s < subspace_count self.now }
         ensures { IfOk result (λ regions. regions ≡ (query_regions self.now terms.now s).regions) }

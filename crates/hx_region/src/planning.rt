@@ -21,6 +21,10 @@ use std::alloc::Global;
 /// other region is looked at; only where one of them is lost are those of the next subspace made
 /// too, and where no subspace is left those of the key subspace once more. So a plan costs about
 /// as much as it names, however many regions the space has.
+///
+/// # Errors
+///
+/// [`Memory`] alone.
 pub fn plan(
     alloc: Global,
     map: &RegionMap,

@@ -27,7 +27,7 @@ pub fn replay(alloc: Global, script: &Script, with_trace: bool) -> Result<Ended,
     }
 }
 
-/// The traces of one space.
+/// The traces of one space. It fails with [`Memory`] alone.
 pub fn one_trace(alloc: Global, trace: Trace) -> Result<Traces, Memory>
     ensures { IfOk result (λ traces. traces ≡ trace ∷ []) }
 {

@@ -87,7 +87,8 @@ impl Model for Server {
 
 impl Server {
     /// The server of a number at the start: in the configuration of epoch 1, with an empty replica
-    /// of each of its regions. All that it holds is of the space and exists.
+    /// of each of its regions. All that it holds is of the space and exists. It fails with
+    /// [`Memory`] alone.
     pub fn start(alloc: Global, space: &Space, id: ServerId) -> Result<Server, Memory>
         requires space { IsSpace space.now }
         requires server { IsServerOf space.now id }
@@ -139,7 +140,8 @@ impl Server {
     /// coordinator and actors that its configuration, its slots or the input name. Where all that
     /// the server holds and the post that it gets are of the space, exist and have no epoch and no
     /// version above a bound, that is so of what it posts, and no epoch and no version of it is
-    /// above the bound by more than 1. On an error the input is dropped.
+    /// above the bound by more than 1. On an error, which is [`Memory`] alone, the input is
+    /// dropped.
     pub fn prepare(&mut self, alloc: Global, input: Input) -> Result<Plan, Memory>
         requires { CanTake self.old.space self.old.state input }
         ensures plan { IfOk result (IsPlanOn self.new) }
@@ -198,7 +200,7 @@ impl Server {
     /// its slots, the sender or the message name. Where all that the server holds and the post that
     /// it gets are of the space, exist and have no epoch and no version above a bound, that is so
     /// of what it posts, and no epoch and no version of it is above the bound by more than 1. On an
-    /// error the lists may hold anything.
+    /// error, which is [`Memory`] alone, the lists may hold anything.
     #[tactic(auto, using(crate::proofs::Roomy::all_same))]
     pub fn hear(
         &mut self,

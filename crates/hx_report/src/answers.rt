@@ -42,7 +42,7 @@ fn put_found(
     put_bytes(out, b"\n")
 }
 
-/// Appends the line of a row.
+/// Appends the line of a row. It fails for want of memory alone.
 #[tactic(auto, unfolding(crate::specs::Reporting::row_line, crate::specs::Reporting::version_text))]
 pub fn put_row(out: &mut Vec<u8>, space: &Space, row: &Row) -> Result<(), Memory>
     ensures { OnOk result (out.new.items ≡ out.old.items ++ row_line space.now row.now) }
@@ -134,7 +134,8 @@ fn put_answer(
     }
 }
 
-/// Appends what a call was answered, if anything, with the version that its end names.
+/// Appends what a call was answered, if anything, with the version that its end names. It fails for
+/// want of memory alone.
 #[tactic(auto, unfolding(crate::specs::Reporting::maybe_answer_lines))]
 pub fn put_maybe_answer(
     out: &mut Vec<u8>,

@@ -22,7 +22,7 @@ fn put_called(out: &mut Vec<u8>, script: &Script, caller: Caller) -> Result<(), 
     }
 }
 
-/// Appends when a call ended, or `-` where it has no end.
+/// Appends when a call ended, or `-` where it has no end. It fails for want of memory alone.
 #[tactic(auto, unfolding(crate::specs::Reporting::end_text))]
 pub fn put_end(out: &mut Vec<u8>, end: &Option<u64>) -> Result<(), Memory>
     ensures { OnOk result (out.new.items ≡ out.old.items ++ end_text end.now) }

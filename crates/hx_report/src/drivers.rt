@@ -18,7 +18,7 @@ fn put_totals(out: &mut Vec<u8>, totals: &Totals) -> Result<(), Memory>
     put_field(out, b"twice", totals.twice)
 }
 
-/// Appends the line of a driver.
+/// Appends the line of a driver. It fails for want of memory alone.
 #[tactic(auto, unfolding(crate::specs::Driving::driver_line))]
 pub fn put_driver(out: &mut Vec<u8>, number: u64, totals: &Totals) -> Result<(), Memory>
     ensures { OnOk result (out.new.items ≡ out.old.items ++ driver_line number totals.now) }

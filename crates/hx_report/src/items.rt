@@ -29,7 +29,7 @@ fn word_of(answer: &Answer) -> &'static [u8]
     }
 }
 
-/// Appends the object after a call, or that there is none.
+/// Appends the object after a call, or that there is none. It fails for want of memory alone.
 #[tactic(auto, unfolding(crate::specs::Reporting::state_text))]
 pub fn put_state(out: &mut Vec<u8>, space: &Space, object: &Option<Object>) -> Result<(), Memory>
     ensures { OnOk result (out.new.items ≡ out.old.items ++ state_text space.now object.now) }

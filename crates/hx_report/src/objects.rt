@@ -7,7 +7,8 @@ ghost use Rattle.hx_report.specs.Reporting.{object_text};
 use hx_print::put_named;
 use hx_types::{Attributes, Memory, Object};
 
-/// Appends each value of an object after the name of its attribute.
+/// Appends each value of an object after the name of its attribute. It fails for want of memory
+/// alone, and then what was there stays in front.
 #[tactic(auto, unfolding(crate::specs::Reporting::object_text), using(hx_print::proofs::Prefixes::begun, hx_print::proofs::Prefixes::longer, hx_print::proofs::Prefixes::longer_by))]
 pub fn put_object(out: &mut Vec<u8>, attributes: &Attributes, object: &Object) -> Result<(), Memory>
     ensures appends { OnOk result (out.new.items ≡ out.old.items ++ object_text attributes.now object.now) }

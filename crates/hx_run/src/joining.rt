@@ -20,7 +20,8 @@ pub struct OwnedPort {
     pub inbox: Port,
 }
 
-/// Brings actors into the order of their boxes.
+/// Brings actors into the order of their boxes. It fails with [`Memory`] alone, and then they may
+/// have any order.
 pub fn sort_by_place(script: &Script, owned_ports: &mut Vec<OwnedPort>) -> Result<(), Memory>
     ensures permutation { IsPermutation owned_ports.old.items owned_ports.new.items }
     ensures sorted { OnOk result (IsNonDecreasingBy (place_at script.now) owned_ports.new.items) }

@@ -165,7 +165,7 @@ pub fn read_bundle(alloc: Global, text: &[u8]) -> Result<Bundle, ScriptError>
     }
 }
 
-/// Whether the first line of a text with tokens is `hx 2`.
+/// Whether the first line of a text with tokens is `hx 2`. It fails with [`Memory`] alone.
 #[tactic(auto, using(crate::proofs::BundleLines::version_is_two, crate::proofs::BundleLines::version_refused))]
 pub fn is_of_version_2(alloc: Global, text: &[u8]) -> Result<bool, Memory>
     ensures { IfOk result (λ two. (two ≡ true) ↔ (version_of text.now ≡ Ok 2)) }

@@ -45,6 +45,10 @@ pub(crate) fn at(stop: Stop, line: u64) -> ScriptError
 }
 
 /// The script whose text it is, or the first faulty line.
+///
+/// # Errors
+///
+/// The first faulty line with its reason, or `Memory`, which may come instead of any answer.
 #[tactic(auto, using(crate::proofs::Lines::reads_stop, crate::proofs::Lines::reads_end, crate::proofs::SoundTexts::empty_sound, crate::proofs::SoundTexts::few_attributes, crate::proofs::SoundTexts::few_sessions))]
 pub fn read(alloc: Global, text: &[u8]) -> Result<Script, ScriptError>
     ensures { Answers result (script_of text.now) }

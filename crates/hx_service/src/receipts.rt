@@ -43,6 +43,10 @@ pub struct ReceiptRef<'a> {
 
 impl<'a> ReceiptRef<'a> {
     /// The receipt with an answer of its own.
+    ///
+    /// # Errors
+    ///
+    /// [`Memory`] alone.
     pub fn copied(&self, alloc: Global) -> Result<Receipt, Memory>
         ensures { IfOk result (λ receipt. receipt ≡ receipt_seen self.now) }
     {

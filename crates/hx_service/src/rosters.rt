@@ -126,6 +126,11 @@ impl<C: Charter> Roster<C> {
     }
 
     /// Makes entries until nothing is left to do, as [`Service::settle`] does.
+    ///
+    /// # Errors
+    ///
+    /// Those of [`Service::settle`]: want of memory, or an actor that makes no more. What was made
+    /// stays.
     pub fn settle(&mut self, alloc: Global) -> Result<(), DrainError>
         ensures script { self.new.script ≡ self.old.script }
         ensures quiet { OnOk result (IsQuiet self.new.script (newest self.new)) }

@@ -93,6 +93,7 @@ fn surroundings_of(alloc: Global, space: &Space) -> Result<Surroundings, Memory>
 
 impl Session {
     /// The session of a number at the start: in the configuration of epoch 1, with no call begun.
+    /// It fails with [`Memory`] alone.
     pub fn start(
         alloc: Global,
         space: &Space,
@@ -139,8 +140,8 @@ impl Session {
 
     /// Computes the step that this input makes, and takes all memory that it needs. Nothing
     /// changes. The posts of its entry are of the space, name only the coordinator and actors that
-    /// the session or the input names, and have no epoch above the greatest of theirs. On an error
-    /// the input is dropped.
+    /// the session or the input names, and have no epoch above the greatest of theirs. On an error,
+    /// which is [`Memory`] alone, the input is dropped.
     pub fn prepare(&mut self, alloc: Global, input: Input) -> Result<Plan, Memory>
         requires { CanTake self.old.space self.old.state input }
         ensures plan { IfOk result (IsPlanOn self.new) }
@@ -180,8 +181,8 @@ impl Session {
     /// Computes the step that a message of a sender makes. What it posts and notes goes behind
     /// what the lists have, and what it changes is given, for [`Session::make`]. Nothing changes
     /// yet. The posts are of the space, name only the coordinator, the sender and actors that the
-    /// session or the message names, and have no epoch above the greatest of theirs. On an error
-    /// the lists are as before.
+    /// session or the message names, and have no epoch above the greatest of theirs. On an error,
+    /// which is [`Memory`] alone, the lists are as before.
     #[inline]
     pub fn hear(
         &self,
@@ -211,7 +212,8 @@ impl Session {
         Ok(change)
     }
 
-    /// Computes the step of the session's own turn, as [`Session::hear`] that of a message.
+    /// Computes the step of the session's own turn, as [`Session::hear`] that of a message. It
+    /// fails with [`Memory`] alone, and then the lists are as before.
     #[inline]
     pub fn tick(
         &self,

@@ -206,7 +206,8 @@ impl Slot {
         row_over(self.base.object.as_ref(), &self.accepted[..self.committed])
     }
 
-    /// A copy of the committed state, or `None` where nothing is committed.
+    /// A copy of the committed state, or `None` where nothing is committed. It fails with
+    /// [`Memory`] alone.
     pub fn kept(&self, alloc: Global) -> Result<Option<Kept>, Memory>
         ensures kept { IfOk result (λ kept. kept ≡ committed_state self.now.region self.now.state) }
         ensures orderly { IfOk result (λ kept. IfSome kept IsOrderly) }
@@ -272,7 +273,7 @@ impl Slot {
     }
 
     /// A copy of the slot that has forgotten the acknowledgements of pending updates and all early
-    /// updates. It has no room.
+    /// updates. It has no room. It fails with [`Memory`] alone.
     pub fn renewed(&self, alloc: Global) -> Result<Slot, Memory>
         ensures state { IfOk result (λ slot. slot.state ≡ moved Forget self.now.state) }
         ensures region { IfOk result (λ slot. slot.region ≡ self.now.region) }

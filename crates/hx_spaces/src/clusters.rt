@@ -115,8 +115,8 @@ impl<'a> Cluster<'a> {
     /// Makes the one entry of a step in its space, as [`World::step`] does, under its condition.
     ///
     /// A tick that would begin a call is [`StepError::Idle`] also where a call of the session is
-    /// under way in another space, or its next call is to another space. After an error nothing has
-    /// changed.
+    /// under way in another space, or its next call is to another space. The other errors are those
+    /// of [`World::step`], [`StepError::Memory`] among them. After an error nothing has changed.
     pub fn step(&mut self, alloc: Global, space: u32, step: &Step) -> Result<(), StepError>
         requires { IsStepAt self.old.bundle space step.now }
         ensures bundle { self.new.bundle ≡ self.old.bundle }
@@ -150,6 +150,7 @@ impl<'a> Cluster<'a> {
     ///
     /// An actor makes at most 1,048,576 entries in each space: [`DrainError::Worn`] comes exactly
     /// where the next of the n entries is one more of an actor that has made so many in its space.
+    /// [`DrainError::Memory`] may come before each of them.
     ///
     /// After an error the entries that were made stay, and the cluster can go on from there. All
     /// spaces together have at most 276,824,064 entries, so a drain of more is never

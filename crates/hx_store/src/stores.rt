@@ -72,7 +72,8 @@ impl Model for Store {
 
 impl Store {
     /// The store of a region of a space, of which nothing was heard. Its slots keep marks and
-    /// touches where `keeps_marks` says so, as those of key regions do.
+    /// touches where `keeps_marks` says so, as those of key regions do. It fails with [`Memory`]
+    /// alone.
     pub fn new(
         alloc: Global,
         space: &Space,
@@ -158,6 +159,10 @@ impl Store {
     /// changed since the last search two binary searches in each order whose value is another one.
     /// What many slots match is put in order by a walk over the slots' order, which is not counted
     /// either.
+    ///
+    /// # Errors
+    ///
+    /// [`Memory`] alone.
     pub fn find(&mut self, alloc: Global, terms: &Terms, looks: &mut u64) -> Result<Rows, Memory>
         ensures rows { IfOk result (λ rows. rows ≡ found_in self.old.region terms.now self.old.states) }
         ensures ascend { KeysAscend self.old.states }
@@ -174,7 +179,8 @@ impl Store {
     }
 
     /// The committed state of each key of which something is committed, in byte order of keys. With
-    /// the pending updates it is all that a joiner needs; that is this project's choice.
+    /// the pending updates it is all that a joiner needs; that is this project's choice. It fails
+    /// with [`Memory`] alone.
     pub fn snapshot(&self, alloc: Global) -> Result<Snapshot, Memory>
         requires { self.now.ordered ≡ true }
         ensures states { IfOk result (λ snapshot. snapshot ≡ snapshot_of self.now.region self.now.states) }
@@ -192,7 +198,8 @@ impl Store {
         Ok(snapshot)
     }
 
-    /// The pending updates: those of each key in byte order of keys, the lowest version first.
+    /// The pending updates: those of each key in byte order of keys, the lowest version first. It
+    /// fails with [`Memory`] alone.
     pub fn pending(&self, alloc: Global) -> Result<Updates, Memory>
         requires { self.now.ordered ≡ true }
         ensures { IfOk result (λ updates. updates ≡ pending_of_all self.now.states) }
@@ -209,7 +216,7 @@ impl Store {
     }
 
     /// Gives a key a place, and makes room for n more updates there. The slots stay, whatever
-    /// comes.
+    /// comes. It fails with [`Memory`] alone.
     pub fn reserve(&mut self, alloc: Global, key: &Text, n: u32) -> Result<usize, Memory>
         ensures region { self.new.region ≡ self.old.region }
         ensures marks { self.new.keeps_marks ≡ self.old.keeps_marks }
@@ -225,7 +232,8 @@ impl Store {
         Ok(place)
     }
 
-    /// Gives a key a slot, which is empty where it had none, and tells its place.
+    /// Gives a key a slot, which is empty where it had none, and tells its place. It fails with
+    /// [`Memory`] alone, and then the slots stay.
     pub fn ensure(&mut self, alloc: Global, key: &Text) -> Result<usize, Memory>
         ensures region { self.new.region ≡ self.old.region }
         ensures marks { self.new.keeps_marks ≡ self.old.keeps_marks }
@@ -403,7 +411,8 @@ impl Store {
         self.slots.settle_at(place);
     }
 
-    /// Puts a slot at its key, in place of the one that is there.
+    /// Puts a slot at its key, in place of the one that is there. It fails with [`Memory`] alone,
+    /// and then the slots stay.
     pub fn put_slot(&mut self, alloc: Global, slot: Slot) -> Result<(), Memory>
         requires region { slot.region ≡ self.old.region }
         requires marks { slot.state.marks ≡ self.old.keeps_marks }

@@ -48,7 +48,8 @@ impl Trace {
         }
     }
 
-    /// The trace without entries, with room for the heads of so many.
+    /// The trace without entries, with room for the heads of so many. It fails with [`Memory`]
+    /// alone.
     pub fn with_capacity(alloc: Global, entries: usize) -> Result<Trace, Memory>
         ensures { IfOk result (λ made. made ≡ []) }
     {

@@ -173,7 +173,8 @@ impl World {
     /// idle session.
     ///
     /// An actor makes at most 1,048,576 entries: [`DrainError::Worn`] comes exactly where the next
-    /// of the n entries is one more of an actor that has made so many.
+    /// of the n entries is one more of an actor that has made so many. [`DrainError::Memory`] may
+    /// come before each of them.
     ///
     /// After an error the entries that were made stay, and the world can go on from there.
     #[tactic(auto, using(crate::proofs::Spending::scheduled_more))]
@@ -201,8 +202,8 @@ impl World {
     /// receiver hasn't halted, as a drain does first, and tells whether there was one. So several
     /// worlds can be run by one schedule.
     ///
-    /// [`DrainError::Worn`] comes exactly where the receiver has made 1,048,576 entries. After an
-    /// error nothing has changed.
+    /// [`DrainError::Worn`] comes exactly where the receiver has made 1,048,576 entries;
+    /// [`DrainError::Memory`] may come too. After an error nothing has changed.
     pub fn deliver_next(&mut self, alloc: Global) -> Result<bool, DrainError>
         ensures script { self.new.script ≡ self.old.script }
         ensures delivers { IfOk result (DeliversNext self.old.script (reverse self.old.trace) (reverse self.new.trace)) }
@@ -225,8 +226,8 @@ impl World {
 
     /// Makes the one entry with which an idle session begins its next call.
     ///
-    /// [`DrainError::Worn`] comes exactly where the session has made 1,048,576 entries. After an
-    /// error nothing has changed.
+    /// [`DrainError::Worn`] comes exactly where the session has made 1,048,576 entries;
+    /// [`DrainError::Memory`] may come too. After an error nothing has changed.
     pub fn begin(&mut self, alloc: Global, session: SessionId) -> Result<(), DrainError>
         requires session { is_actor self.old.script (an_actor.Session session) ≡ true }
         requires idle { is_idle (session_of self.old.script session (reverse self.old.trace)) ≡ true }
