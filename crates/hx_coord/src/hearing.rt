@@ -18,7 +18,7 @@ use hx_types::{
 };
 use std::alloc::Global;
 
-/// What a message makes.
+/// Hears a poll, a server's halt or readiness, a session's stop or add; all else makes nothing.
 pub fn hear(
     alloc: Global,
     config: &Shared<Config>,

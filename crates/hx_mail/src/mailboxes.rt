@@ -190,6 +190,7 @@ impl<'a> Mailbox<'a> {
         ensures port { IsPortOf self.now port.new }
         ensures made { MatchResult result (λ made. IsPortOf self.now made × (made.view ≡ split_off port.old.view) × (port.new.view ≡ splitting port.old.view)) (λ _. port.new.view ≡ port.old.view) }
     {
+        // Taken as in `put` and `take`, which may wait: a split waits for nobody.
         let _ = rt;
         let pass = self.queue.another::<SplitOff>(&mut port.pass);
         port.splits += 1;
@@ -211,6 +212,7 @@ impl<'a> Mailbox<'a> {
         ensures order { IsInOrder port.new.view }
         ensures once { IsOnce port.new.view }
     {
+        // Taken as in `put` and `take`, which may wait: a join waits for nobody.
         let _ = rt;
         let pass = other.into_pass();
         self.queue.absorb::<TakeIn>(&mut port.pass, pass);

@@ -376,7 +376,7 @@ impl Session {
         Ok(change.afresh(alloc))
     }
 
-    /// What a message makes.
+    /// Takes an answer or a part found for the call under way, or a configuration; else nothing.
     fn hear_message(
         &self,
         alloc: Global,

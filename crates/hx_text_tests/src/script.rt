@@ -124,7 +124,7 @@ const NO_CALLS: [Row; 38] = [
     ("session", 11, Reason::Order),
 ];
 
-/// Behind the same.
+/// Faulty `atomic` calls, behind the head of a session of books.
 const NO_EDITS: [Row; 22] = [
     ("atomic", 11, Reason::Order),
     ("atomic a add year=1", 11, Reason::Order),
@@ -150,7 +150,7 @@ const NO_EDITS: [Row; 22] = [
     ("atomic \"a\" append year=1", 11, Reason::TypeOf),
 ];
 
-/// Behind the same.
+/// Lines with a faulty token, behind the head of a session of books.
 const NO_TOKENS: [Row; 11] = [
     ("get \"a\u{1}\"", 11, Reason::Token),
     ("get \"a\\r\"", 11, Reason::Token),
