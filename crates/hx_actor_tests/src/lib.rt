@@ -1,5 +1,8 @@
 //! Tests of slots, of the places and neighbours of their updates, of indexes and stores, of
 //! servers, of the coordinator and of sessions: a module for each crate that they are of.
+//!
+//! Chains are chain replication's, and regions by values HyperDex's; which cases are tried is this
+//! project's choice.
 #![tactic(auto)]
 
 #[cfg(test)]

@@ -14,6 +14,9 @@
 //! text with a control character other than newline and tab is printed as it is, and no line of the
 //! language has it; nor has one a step of an actor that isn't there, or a post of an entry past the
 //! numbers of 64 bits. A script or a bundle that was read has none of these.
+//!
+//! That reading undoes printing is the usual round trip of a printer and a parser; the language is
+//! this project's own.
 #![tactic(auto)]
 
 mod laws;

@@ -2,6 +2,9 @@
 //! is answered and every history legal; each post that may be lost is chosen about once, and a fate
 //! is dropped once; drivers overlap; actors are dealt to drivers; a session that asks in vain is
 //! worn; and what a load adds up to.
+//!
+//! Legal histories are Herlihy's and Wing's, and posts that are lost on purpose are fault
+//! injection; which runs are tried is this project's choice.
 #![tactic(auto)]
 
 #[cfg(test)]

@@ -1,5 +1,7 @@
 //! Tests of services: calls and their receipts, refusals, limits, groups, a report, and a roster;
 //! and that a lock on a service may cross threads.
+//!
+//! Receipts and groups, and the form of the tests, are this project's choice.
 #![tactic(auto)]
 
 #[cfg(test)]

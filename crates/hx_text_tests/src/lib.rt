@@ -1,5 +1,8 @@
 //! Tests of scripts, reports, bytes, words, drawn scripts and summaries: a module for each crate
 //! that they are of.
+//!
+//! The texts are in this project's own languages of scripts and reports, and the form of the tests
+//! is its choice.
 #![tactic(auto)]
 
 #[cfg(test)]

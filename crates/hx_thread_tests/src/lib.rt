@@ -1,6 +1,9 @@
 //! Tests of fates, of mailboxes, of what drivers put into them and of what is gathered from several
 //! threads: a module for each crate that they are of, and a run that is gathered from parts made by
 //! hand.
+//!
+//! Posts that are lost and repeated on purpose are fault injection; the form of the tests is this
+//! project's choice.
 #![tactic(auto)]
 
 #[cfg(test)]

@@ -3,6 +3,8 @@
 //!
 //! `hx_command::run` says of any source and sinks what the status tells; that the words are those
 //! of the process, and the streams its standard ones, is what `main` adds.
+//!
+//! That `main` does no more than this is this project's choice.
 #![tactic(auto)]
 
 use hx_command::run;

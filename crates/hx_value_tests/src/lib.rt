@@ -1,5 +1,7 @@
 //! Tests of values, histories, regions, matches and plans: a module for each crate that they are
 //! of.
+//!
+//! The hash is tested by published vectors of FNV-1a; all other cases are this project's choice.
 #![tactic(auto)]
 
 #[cfg(test)]
