@@ -1,6 +1,7 @@
 //! Scripts of the tests, and what a run of one comes to.
 ghost use Rattle.std.specs.Prelude.{◌≤◌, length, IfOk};
 ghost use Rattle.hx_types.specs.Fitting.{IsScript};
+ghost use Rattle.hx_types.specs.declared.limits.TheConstants.{MOST_DRIVERS};
 
 use hx_driver::Gate;
 use hx_fate::Fate;
@@ -67,7 +68,7 @@ pub fn answers<R: Abort + AllocGlobal + Threads + Wait + Sync, G: Gate + Sync>(
     fates: Vec<Box<dyn Fate + Send>>,
     gate: &G,
 ) -> Option<usize>
-    requires workers { (1 ≤ workers) × (workers ≤ 16) × (workers ≤ length fates.items) }
+    requires workers { (1 ≤ workers) × (workers ≤ MOST_DRIVERS) × (workers ≤ length fates.items) }
     requires capacity { 1 ≤ capacity }
 {
     let script = script_of(rt, text);

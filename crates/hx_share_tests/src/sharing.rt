@@ -1,6 +1,7 @@
 //! Scripts of the tests, and what callers make of one.
 ghost use Rattle.std.specs.Prelude.{◌≤◌, IfOk};
 ghost use Rattle.hx_types.specs.Fitting.{IsScript};
+ghost use Rattle.hx_types.specs.declared.limits.TheConstants.{MOST_DRIVERS};
 
 use hx_driver::{Gate, Open};
 use hx_history::{histories, records};
@@ -52,7 +53,7 @@ pub fn answers<R: Abort + AllocGlobal + Threads + Wait + Sync, G: Gate + Sync>(
     workers: u32,
     gate: &G,
 ) -> Option<usize>
-    requires { (1 ≤ workers) × (workers ≤ 16) }
+    requires { (1 ≤ workers) × (workers ≤ MOST_DRIVERS) }
 {
     let script = read_script(rt.alloc(), text).expect(rt, "a script");
     let shared = share(rt, rt.alloc(), &script, workers, gate).expect(rt, "memory");
