@@ -19,7 +19,7 @@ stop() {
 
 # failed WHAT LOG: tells in one line what was not done and why, and where the log is
 failed() {
-  local reason='error(\[|:)|refused|not proved|no proof|failed:|No space|not found'
+  local reason='error(\[|:)|refused|not proved|NOT PROVED|no proof|failed:|No space|not found'
   say "$1: $(grep -m1 -E "$reason" "$2" || tail -n 1 "$2"); the log is $2"
   stop 1
 }
