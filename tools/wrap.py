@@ -16,7 +16,8 @@ TEXT = re.compile(r'"(\\.|[^"\\])*"')
 LONG_TEXT = re.compile(r'"(\\.|[^"\\]){60,}"')
 OPENS, CLOSES = "([{", ")]}"
 # What a line is broken before and behind, each with its cost: the lower, the looser it binds.
-BEFORE = {"|": 0, "→": 1, "×": 1, "⊎": 1, "∙": 2} | dict.fromkeys("≡ ≢ ≤ < ++ && ||".split(), 3) | dict.fromkeys("∷ + *".split(), 5)
+BEFORE = {"|": 0, "→": 1, "×": 1, "⊎": 1, "∙": 2}
+BEFORE |= dict.fromkeys("≡ ≢ ≤ < ++ && ||".split(), 3) | dict.fromkeys("∷ + *".split(), 5)
 BEHIND = {"in": 0, "=": 1, "↦": 2}
 BEHIND_SIGN = {";": 0, ",": 1}
 NEVER_BEHIND = {"λ", "let", "|", "pub", "record"}
@@ -143,11 +144,16 @@ def wrapped(line):
     return kind(len(line) - len(line.lstrip()), bare)
 
 
+def listed():
+    """Returns the files of definitions and proofs that git lists."""
+    ran = subprocess.run(["git", "ls-files", "*.antt"], capture_output=True, text=True, check=True)
+    return ran.stdout.split()
+
+
 def main(words):
     only_tells = "--check" in words
-    listed = subprocess.run(["git", "ls-files", "*.antt"], capture_output=True, text=True, check=True).stdout.split()
     long = 0
-    for name in [it for it in words if it != "--check"] or listed:
+    for name in [it for it in words if it != "--check"] or listed():
         with open(name, encoding="utf-8") as file:
             text = file.read()
         new = text if only_tells else "\n".join(it for line in text.split("\n") for it in wrapped(line))
