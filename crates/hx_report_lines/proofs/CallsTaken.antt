@@ -77,20 +77,8 @@ pub answer_printed : (space : Space) (version : Version) (answer : Option Answer
     → head_lines space version (bare_answer answer) (rows_after answer) ≡ answer_line space version answer ++ 10 ∷ []
 unfolding answer_line answer_lines maybe_answer_lines version_line found_line region_line in_epoch_line
 answer_printed space version None = refl
-answer_printed space version (Some an_answer.Done) = refl
-answer_printed space version (Some an_answer.NotFound) = refl
-answer_printed space version (Some an_answer.CmpFail) = refl
-answer_printed space version (Some an_answer.Overflow) = refl
-answer_printed space version (Some an_answer.TooLong) = refl
-answer_printed space version (Some (an_answer.Found object)) = refl
 answer_printed space version (Some (an_answer.Rows rows)) = refl
-answer_printed space version (Some (an_answer.Refused region epoch)) = refl
-answer_printed space version (Some (an_answer.Doubt region epoch)) = refl
-answer_printed space version (Some (an_answer.Issued epoch)) = refl
-answer_printed space version (Some (an_answer.Stopped epoch)) = refl
-answer_printed space version (Some (an_answer.Member epoch)) = refl
-answer_printed space version (Some (an_answer.Joining epoch)) = refl
-answer_printed space version (Some (an_answer.Lost epoch)) = refl
+answer_printed space version (Some other) = refl
 
 -- a blank, a label, a blank and a number
 labeled_takes : (label : List ℕ) (n : ℕ) (rest : List ℕ) → list_all (λ b. not (eqb b 32)) label ≡ true → Is64 n

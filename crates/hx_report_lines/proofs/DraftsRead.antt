@@ -295,20 +295,8 @@ call_good d e line is h =
     by : (x : CallHead) → IsHead d.block.space x → follows_caller d x.call.caller ≡ true → no_histories d ≡ true
         → (o : Option Answer) → x.call.answer ≡ o → Some (begun d x o) ≡ Some e → IsGood e
     by x v f none None q g = plain x v f g
-    by x v f none (Some an_answer.Done) q g = plain x v f g
-    by x v f none (Some an_answer.NotFound) q g = plain x v f g
-    by x v f none (Some an_answer.CmpFail) q g = plain x v f g
-    by x v f none (Some (an_answer.Found object)) q g = plain x v f g
     by x v f none (Some (an_answer.Rows rows)) q g = waiting x v f none (q ∙ ap (λ (rs : List Row). Some (an_answer.Rows rs)) (v.bare rows q)) g
-    by x v f none (Some (an_answer.Refused region epoch)) q g = plain x v f g
-    by x v f none (Some (an_answer.Doubt region epoch)) q g = plain x v f g
-    by x v f none (Some (an_answer.Issued epoch)) q g = plain x v f g
-    by x v f none (Some (an_answer.Stopped epoch)) q g = plain x v f g
-    by x v f none (Some (an_answer.Member epoch)) q g = plain x v f g
-    by x v f none (Some (an_answer.Joining epoch)) q g = plain x v f g
-    by x v f none (Some (an_answer.Lost epoch)) q g = plain x v f g
-    by x v f none (Some an_answer.Overflow) q g = plain x v f g
-    by x v f none (Some an_answer.TooLong) q g = plain x v f g
+    by x v f none (Some other) q g = plain x v f g
 
 pub not_none : (n : ℕ) → eqb n 0 ≡ false → 0 < n
 not_none zero q = absurd cc

@@ -196,20 +196,8 @@ module _ (old : ServiceState) (u : SessionId) (sets : List Assign) where
 
 -- no other answer has rows
 pub no-rows : (a : Answer) → ((rows : List Row) → a ≡ an_answer.Rows rows → ⊥) → rows_in a ≡ None
-no-rows an_answer.Done n = refl
-no-rows an_answer.NotFound n = refl
-no-rows an_answer.CmpFail n = refl
-no-rows (an_answer.Found object) n = refl
 no-rows (an_answer.Rows rows) n = absurd (n rows refl)
-no-rows (an_answer.Refused region epoch) n = refl
-no-rows (an_answer.Doubt region epoch) n = refl
-no-rows (an_answer.Issued epoch) n = refl
-no-rows (an_answer.Stopped epoch) n = refl
-no-rows (an_answer.Member epoch) n = refl
-no-rows (an_answer.Joining epoch) n = refl
-no-rows (an_answer.Lost epoch) n = refl
-no-rows an_answer.Overflow n = refl
-no-rows an_answer.TooLong n = refl
+no-rows other n = refl
 
 -- the rows that a search was answered are of the space
 pub rows-here : (old new : ServiceState) (u : SessionId) (terms : List Term) (r : Receipt) (rows : List Row)
