@@ -10,10 +10,13 @@ use Rattle.std.proofs.lemmas.List.Sums.{sum_by-append}
 use Rattle.hx_lex.specs.Letters.{IsWord}
 use Rattle.hx_lex.specs.Numbers.{value as value_of}
 use Rattle.hx_bundle.specs.declared.bundles.BundleStep.{BundleStep}
+use Rattle.hx_bundle.specs.declared.limits.TheConstants.{MOST_SPACES}
 use Rattle.hx_bundle.specs.Bundles.{AreDealt}
 use Rattle.hx_types.specs.declared.calls.Op.{Op}
 use Rattle.hx_types.specs.declared.ids.Actor.{Actor}
 use Rattle.hx_types.specs.declared.ids.Actor.TheVariants.{Coordinator, Server, Session}
+use Rattle.hx_types.specs.declared.limits.TheConstants.{LONGEST_NAME, MOST_ATTRIBUTES, MOST_CALLS, MOST_FAILURES, MOST_PARTS, MOST_SERVERS, MOST_SESSIONS}
+use Rattle.hx_types.specs.declared.limits.TheConstants.{MOST_STEPS, MOST_SUBSPACES}
 use Rattle.hx_types.specs.declared.spaces.Attribute.{Attribute}
 use Rattle.hx_types.specs.declared.spaces.Space.{Space}
 use Rattle.hx_types.specs.declared.traces.Step.TheVariants.{Deliver, Tick, Halt}
@@ -79,7 +82,7 @@ record KeepsHead (d e : Draft) : Type 0 where
 key_keeps : (d : Draft) (sec : Section) → Yields (heading_line d sec headings.Key) (KeepsHead d)
 unfolding key_line
 key_keeps d sections.Keying = yields_then IsName yields_name
-    (λ w k. yields_then (λ n. (1 ≤ n) × (n ≤ 256)) (yields_number_in 1 256)
+    (λ w k. yields_then (λ n. (1 ≤ n) × (n ≤ MOST_PARTS)) (yields_number_in 1 MOST_PARTS)
     (λ n h. yields_then Any yields_end (λ u t. yields_give
     (record d { section = sections.Attributes; regions = n; space = record d.space { key_name = w; key_parts = n } })
     (record { name = refl; servers = refl; tolerate = refl; steps = refl; head = tt }))))
@@ -88,8 +91,8 @@ key_keeps d sec = yields_refuse Order
 attribute_keeps : (d : Draft) (attribute : Space → Reader Attribute) → IsHead d.section
     → Yields (attribute d.space) (IsNextAttribute d.space) → Yields (attribute_line d attribute) (KeepsHead d)
 unfolding attribute_line
-attribute_keeps d attribute h y = yields_then (λ u. nat_lt (length d.space.attributes) 16 ≡ true)
-    (yields_check (nat_lt (length d.space.attributes) 16) Limit)
+attribute_keeps d attribute h y = yields_then (λ u. nat_lt (length d.space.attributes) MOST_ATTRIBUTES ≡ true)
+    (yields_check (nat_lt (length d.space.attributes) MOST_ATTRIBUTES) Limit)
     (λ u room. yields_then (IsNextAttribute d.space) y
     (λ a n. yields_give (record d { space = record d.space { attributes = d.space.attributes ++ a ∷ [] } })
     (record { name = refl; servers = refl; tolerate = refl; steps = refl; head = h })))
@@ -104,8 +107,8 @@ int_keeps d sec e = yields_refuse Order
 
 cut_keeps : (d : Draft) → Yields (subspace_line d) (KeepsHead d)
 unfolding subspace_line
-cut_keeps d = yields_then (λ u. nat_lt (length d.space.subspaces) 8 ≡ true)
-    (yields_check (nat_lt (length d.space.subspaces) 8) Limit)
+cut_keeps d = yields_then (λ u. nat_lt (length d.space.subspaces) MOST_SUBSPACES ≡ true)
+    (yields_check (nat_lt (length d.space.subspaces) MOST_SUBSPACES) Limit)
     (λ u room. yields_then (DraftFits d.space d.regions) (yields_subspace d.space d.regions)
     (λ x f. yields_give (record d {
       section = sections.Subspaces;
@@ -133,7 +136,7 @@ call_keeps : (d : Draft) (w : CallWord) → d.section ≡ sections.Calls → Sou
 unfolding call_line
 call_keeps d w e so =
     let st : Complete d = rw e at so.stage in
-    yields_then (λ u. nat_lt d.calls 16384 ≡ true) (yields_check (nat_lt d.calls 16384) Limit)
+    yields_then (λ u. nat_lt d.calls MOST_CALLS ≡ true) (yields_check (nat_lt d.calls MOST_CALLS) Limit)
     (λ u room. yields_then (Fits d.space) (yields_call d.space d.regions w so.space.count
     (some_regions d so.space st.0.2)) (λ op f. yields_give
     (record d { sessions = push_to_last d.sessions op; calls = d.calls + 1 })
@@ -192,7 +195,7 @@ unfolding new_space_name
 yields_new_space spaces = yields_then MayName yields_named
     (λ w m. yields_then (λ u. not (list_any (is_space w) spaces) ≡ true)
     (yields_check (not (list_any (is_space w) spaces)) Twice)
-    (λ u n. yields_then (λ u. nat_le (length w) 32 ≡ true) (yields_check (nat_le (length w) 32) Limit)
+    (λ u n. yields_then (λ u. nat_le (length w) LONGEST_NAME ≡ true) (yields_check (nat_le (length w) LONGEST_NAME) Limit)
     (λ u h. yields_give w (record { name = is_name w m h; new = not_true (list_any (is_space w) spaces) n }))))
 
 -- ---- actors and steps
@@ -274,7 +277,7 @@ yields_second_hx b so em = yields_then (λ n. (2 ≤ n) × (n ≤ 2)) (yields_nu
 
 yields_all_servers : (b : BundleDraft) → BundleSound b → Empty b → Yields (all_servers_line b) BundleSound
 unfolding all_servers_line
-yields_all_servers b so em = yields_then (λ n. (1 ≤ n) × (n ≤ 16)) (yields_number_in 1 16)
+yields_all_servers b so em = yields_then (λ n. (1 ≤ n) × (n ≤ MOST_SERVERS)) (yields_number_in 1 MOST_SERVERS)
     (λ n h. yields_then Any yields_end (λ u t. yields_give (record b { section = stages.Tolerance; servers = n }) (record {
       few = so.few;
       spaces = all_none (SpaceFits n b.tolerate) b.spaces em.0;
@@ -291,8 +294,8 @@ yields_all_servers b so em = yields_then (λ n. (1 ≤ n) × (n ≤ 16)) (yields
 
 yields_all_tolerate : (b : BundleDraft) → BundleSound b → Empty b → Served b → Yields (all_tolerate_line b) BundleSound
 unfolding all_tolerate_line
-yields_all_tolerate b so em s = yields_then (λ n. (0 ≤ n) × (n ≤ min (b.servers - 1) 4))
-    (yields_number_in 0 (min (b.servers - 1) 4)) (λ n h. yields_then Any yields_end
+yields_all_tolerate b so em s = yields_then (λ n. (0 ≤ n) × (n ≤ min (b.servers - 1) MOST_FAILURES))
+    (yields_number_in 0 (min (b.servers - 1) MOST_FAILURES)) (λ n h. yields_then Any yields_end
     (λ u t. yields_give (record b { section = stages.Naming; tolerate = n }) (record {
       few = so.few;
       spaces = all_none (SpaceFits b.servers n) b.spaces em.0;
@@ -344,15 +347,15 @@ new_names spaces servers tolerate w d e = rw (map-append (λ (x : Draft). x.spac
 yields_next_space : (b : BundleDraft) → BundleSound b → All (λ (d : Draft). IsHead d.section) b.spaces → b.turns ≡ []
     → b.steps ≡ [] → Tolerated b → Yields (next_space_line b) BundleSound
 unfolding next_space_line
-yields_next_space b so heads none none_yet s = yields_then (λ u. nat_lt (length b.spaces) 8 ≡ true)
-    (yields_check (nat_lt (length b.spaces) 8) Limit)
+yields_next_space b so heads none none_yet s = yields_then (λ u. nat_lt (length b.spaces) MOST_SPACES ≡ true)
+    (yields_check (nat_lt (length b.spaces) MOST_SPACES) Limit)
     (λ u room. yields_then (IsNewSpace b.spaces) (yields_new_space b.spaces) (λ w is. yields_then Any yields_end (λ v t.
     let d : Draft = named_draft b.servers b.tolerate w in
     let fits : All (SpaceFits b.servers b.tolerate) (b.spaces ++ d ∷ []) =
     All-push (SpaceFits b.servers b.tolerate) b.spaces d so.spaces (named_fits b.servers b.tolerate w is.name) in
     let all_heads : All (λ (x : Draft). IsHead x.section) (b.spaces ++ d ∷ []) = All-push (λ (x : Draft). IsHead x.section) b.spaces d heads tt in
     yields_give (record b { section = stages.Spaces; spaces = b.spaces ++ d ∷ [] }) (record {
-      few = shorter b.spaces d 8 (ltb-true (length b.spaces) 8 room);
+      few = shorter b.spaces d MOST_SPACES (ltb-true (length b.spaces) MOST_SPACES room);
       spaces = fits;
       names = new_names b.spaces b.servers b.tolerate w so.names is.new;
       dealt = alone_dealt (b.spaces ++ d ∷ []) b.turns (heads_alone b.servers b.tolerate (b.spaces ++ d ∷ []) fits all_heads) none;
@@ -430,7 +433,7 @@ yields_last_space b h i so at st =
 
 -- a space with its key is whole
 head_whole : (servers tolerate : ℕ) (d : Draft) (sec : Section) → d.section ≡ sec → is_keyed sec ≡ true → IsHead sec
-    → SpaceFits servers tolerate d → (0 < servers) × (servers ≤ 16) → (tolerate ≤ 4) × (tolerate < servers) → Complete d
+    → SpaceFits servers tolerate d → (0 < servers) × (servers ≤ MOST_SERVERS) → (tolerate ≤ MOST_FAILURES) × (tolerate < servers) → Complete d
 head_whole servers tolerate d sections.Attributes e k h f s t =
     let st : BySection sections.Attributes d = rw e at f.sound.stage in
     (st.0, rw f.servers_are s, rw (f.servers_are, f.tolerate_is) t, all_none (λ (ops : List Op). All (Fits d.space) ops) d.sessions st.2)
@@ -453,7 +456,7 @@ heads_whole b so heads s keys i d lt = head_whole b.servers b.tolerate (slice_in
 calls_whole : (d : Draft) → d.section ≡ sections.Calls → Sound d → Complete d
 calls_whole d e so = rw e at so.stage
 
-session_fits : (servers tolerate : ℕ) (d : Draft) → SpaceFits servers tolerate d → Complete d → length d.sessions < 16
+session_fits : (servers tolerate : ℕ) (d : Draft) → SpaceFits servers tolerate d → Complete d → length d.sessions < MOST_SESSIONS
     → SpaceFits servers tolerate (with_session d)
 session_fits servers tolerate d f st room = record {
   sound = record {
@@ -475,15 +478,16 @@ as_long spaces turns dealt = placed_all (λ k d. AllZip (AreDealt k) d.sessions 
 yields_next_session : (b : BundleDraft) → BundleSound b → 0 < length b.spaces → All Complete b.spaces → b.steps ≡ []
     → Tolerated b → Yields (next_session_line b) BundleSound
 unfolding next_session_line
-yields_next_session b so some whole none s = yields_then (λ u. nat_lt (length b.turns) 16 ≡ true)
-    (yields_check (nat_lt (length b.turns) 16) Limit)
+yields_next_session b so some whole none s = yields_then (λ u. nat_lt (length b.turns) MOST_SESSIONS ≡ true)
+    (yields_check (nat_lt (length b.turns) MOST_SESSIONS) Limit)
     (λ u room. yields_then (λ n. (length b.turns + 1 ≤ n) × (n ≤ length b.turns + 1))
     (yields_number_in (length b.turns + 1) (length b.turns + 1)) (λ n h. yields_then Any yields_end (λ v t.
     let spaces : List Draft = map with_session b.spaces in
     let turns : List (List ℕ) = b.turns ++ [] ∷ [] in
     let long : length spaces ≡ length b.spaces = length-map b.spaces with_session in
-    let few : length b.turns < 16 = ltb-true (length b.turns) 16 room in
-    let short : All (λ (d : Draft). length d.sessions < 16) b.spaces = λ i d lt. subst (λ m. m < 16) (sym (as_long b.spaces b.turns so.dealt i d lt)) few in
+    let few : length b.turns < MOST_SESSIONS = ltb-true (length b.turns) MOST_SESSIONS room in
+    let short : All (λ (d : Draft). length d.sessions < MOST_SESSIONS) b.spaces =
+    λ i d lt. subst (λ m. m < MOST_SESSIONS) (sym (as_long b.spaces b.turns so.dealt i d lt)) few in
     yields_give (record b { section = stages.Calls; spaces = spaces; turns = turns }) (record {
       few = omega (arith, long, so.few);
       spaces = All-map (SpaceFits b.servers b.tolerate) with_session b.spaces
@@ -495,7 +499,7 @@ yields_next_session b so some whole none s = yields_then (λ u. nat_lt (length b
       turns = All-push (λ (l : List ℕ). All (λ (k : ℕ). k < length spaces) l) b.turns []
           (subst (λ m. All (λ (l : List ℕ). All (λ (k : ℕ). k < m) l) b.turns) (sym long) so.turns)
           (All-nil (λ (k : ℕ). k < length spaces));
-      few_sessions = shorter b.turns [] 16 few;
+      few_sessions = shorter b.turns [] MOST_SESSIONS few;
       counted = omega (arith, so.counted, sum_by-append (λ (l : List ℕ). length l) b.turns ([] ∷ []));
       few_calls = so.few_calls;
       few_steps = so.few_steps;
@@ -526,7 +530,7 @@ CallChanged d e = Sound e × KeepsCalls d e
 
 call_changed : (b : BundleDraft) (k : ℕ) (after : List Draft) → BundleSound b → 0 < length b.spaces
     → All (λ (d : Draft). d.section ≡ sections.Calls) b.spaces → b.steps ≡ [] → Tolerated b → b.section ≡ stages.Calls
-    → b.calls < 16384 → k < length b.spaces → Changed CallChanged b.spaces k after
+    → b.calls < MOST_CALLS → k < length b.spaces → Changed CallChanged b.spaces k after
     → BundleSound (record b { spaces = after; turns = push_to_last b.turns k; calls = b.calls + 1 })
 call_changed b k after so some calling none s at room within ch =
     let e : Draft = ch.now in
@@ -577,22 +581,22 @@ yields_call_in d w e so = yields_both Sound (KeepsCalls d) (yields_call_line d w
 yields_space_call : (b : BundleDraft) (w : CallWord) → BundleSound b → b.section ≡ stages.Calls
     → ByStage stages.Calls b → Yields (space_call_line b w) BundleSound
 unfolding space_call_line
-yields_space_call b w so at st = yields_then (λ u. nat_lt b.calls 16384 ≡ true)
-    (yields_check (nat_lt b.calls 16384) Limit) (λ u room. yields_then (λ k. k < length b.spaces)
+yields_space_call b w so at st = yields_then (λ u. nat_lt b.calls MOST_CALLS ≡ true)
+    (yields_check (nat_lt b.calls MOST_CALLS) Limit) (λ u room. yields_then (λ k. k < length b.spaces)
     (yields_space_named b.spaces) (λ k within.
     yields_then (Changed CallChanged b.spaces k) (yields_in_space CallChanged b.spaces k (λ d. call_line d w)
     (λ d e. yields_call_in d w (all_at (λ (x : Draft). x.section ≡ sections.Calls) b.spaces k d st.1 e)
     (all_at (SpaceFits b.servers b.tolerate) b.spaces k d so.spaces e).sound))
     (λ after ch. yields_give (record b { spaces = after; turns = push_to_last b.turns k; calls = b.calls + 1 })
-    (call_changed b k after so st.0 st.1 st.2 st.3 at (ltb-true b.calls 16384 room) within ch))))
+    (call_changed b k after so st.0 st.1 st.2 st.3 at (ltb-true b.calls MOST_CALLS room) within ch))))
 
 -- ---- steps
 
 yields_space_step : (n : ℕ) (b : BundleDraft) (w : StepWord) → BundleSound b → b.section ≡ stages.Steps
     → ByStage stages.Steps b → Yields (space_step_line n b w) BundleSound
 unfolding space_step_line
-yields_space_step n b w so at st = yields_then (λ u. nat_lt (length b.steps) 65536 ≡ true)
-    (yields_check (nat_lt (length b.steps) 65536) Limit)
+yields_space_step n b w so at st = yields_then (λ u. nat_lt (length b.steps) MOST_STEPS ≡ true)
+    (yields_check (nat_lt (length b.steps) MOST_STEPS) Limit)
     (λ u room. yields_then (λ k. k < length b.spaces) (yields_space_named b.spaces)
     (λ k within. yields_then (IsStepBy b.servers (length b.turns)) (yields_step_by b.servers (length b.turns) w) (λ x is.
     let one : BundleStep = record { line = n; space = k; step = x } in
@@ -605,7 +609,7 @@ yields_space_step n b w so at st = yields_then (λ u. nat_lt (length b.steps) 65
       few_sessions = so.few_sessions;
       counted = so.counted;
       few_calls = so.few_calls;
-      few_steps = shorter b.steps one 65536 (ltb-true (length b.steps) 65536 room);
+      few_steps = shorter b.steps one MOST_STEPS (ltb-true (length b.steps) MOST_STEPS room);
       steps = All-push (IsStepAmong (length b.spaces) b.servers (length b.turns)) b.steps one so.steps (within, is);
       stage = rw at st;
     }))))

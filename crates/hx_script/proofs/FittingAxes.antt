@@ -4,6 +4,7 @@ use Rattle.std.specs.Prelude.{codes, not, nat_le, nat_lt}
 use Rattle.std.proofs.lemmas.Bool.{leb-true, ltb-true}
 use Rattle.std.proofs.lemmas.List.{length-append}
 use Rattle.std.proofs.lemmas.List.Elements.{All-nil, All-push}
+use Rattle.hx_types.specs.declared.limits.TheConstants.{MOST_AXES, MOST_PARTS, MOST_REGIONS}
 use Rattle.hx_types.specs.declared.spaces.Axis.{Axis}
 use Rattle.hx_types.specs.declared.spaces.Space.{Space}
 use Rattle.hx_types.specs.Spaces.{ArePart}
@@ -29,30 +30,30 @@ sizes_push (x ∷ rest) axes = omega (arith, sizes_push rest axes)
 record IsFreeAxis (space : Space) (axes : List Axis) (a : ℕ) : Type 0 where
   pub is : (0 < a) × (a ≤ length space.attributes)
   pub new : has_axis axes a ≡ false
-  pub room : length axes < 4
+  pub room : length axes < MOST_AXES
 
 yields_free_axis : (space : Space) (axes : List Axis) → Yields (free_axis space axes) (IsFreeAxis space axes)
 unfolding free_axis
 yields_free_axis space axes = yields_then MayName yields_named
     (λ w m. yields_then (λ a. declared_number space w ≡ Ok a) (yields_judged (declared_number space w))
     (λ a d. yields_then (λ u. not (has_axis axes a) ≡ true) (yields_check (not (has_axis axes a)) Twice)
-    (λ u n. yields_then (λ u. nat_lt (length axes) 4 ≡ true) (yields_check (nat_lt (length axes) 4) Limit)
+    (λ u n. yields_then (λ u. nat_lt (length axes) MOST_AXES ≡ true) (yields_check (nat_lt (length axes) MOST_AXES) Limit)
     (λ u r. yields_give a (record {
       is = declared_is space w a d;
       new = not_true (has_axis axes a) n;
-      room = ltb-true (length axes) 4 r;
+      room = ltb-true (length axes) MOST_AXES r;
     })))))
 
 record AreParts (regions size n : ℕ) : Type 0 where
   pub is : ArePart n
-  pub room : regions + size * n ≤ 4096
+  pub room : regions + size * n ≤ MOST_REGIONS
 
 yields_parts : (regions size : ℕ) → Yields (parts regions size) (AreParts regions size)
 unfolding parts
-yields_parts regions size = yields_then (λ n. (1 ≤ n) × (n ≤ 256)) (yields_number_in 1 256)
-    (λ n h. yields_then (λ u. nat_le (regions + size * n) 4096 ≡ true)
-    (yields_check (nat_le (regions + size * n) 4096) Limit)
-    (λ u r. yields_give n (record { is = h; room = leb-true (regions + size * n) 4096 r })))
+yields_parts regions size = yields_then (λ n. (1 ≤ n) × (n ≤ MOST_PARTS)) (yields_number_in 1 MOST_PARTS)
+    (λ n h. yields_then (λ u. nat_le (regions + size * n) MOST_REGIONS ≡ true)
+    (yields_check (nat_le (regions + size * n) MOST_REGIONS) Limit)
+    (λ u r. yields_give n (record { is = h; room = leb-true (regions + size * n) MOST_REGIONS r })))
 
 -- axes, perhaps none
 record IsAxesDraft (space : Space) (c : AxesDraft) : Type 0 where
@@ -63,9 +64,9 @@ record IsAxesDraft (space : Space) (c : AxesDraft) : Type 0 where
 pub record DraftFits (space : Space) (regions : ℕ) (c : AxesDraft) : Type 0 where
   pub axes : AreAxes (length space.attributes) c.axes
   pub size : c.size ≡ size_of c.axes
-  pub room : regions + c.size ≤ 4096
+  pub room : regions + c.size ≤ MOST_REGIONS
 
-longer : (axes : List Axis) (a : Axis) → length axes < 4 → (0 < length (axes ++ a ∷ [])) × (length (axes ++ a ∷ []) ≤ 4)
+longer : (axes : List Axis) (a : Axis) → length axes < MOST_AXES → (0 < length (axes ++ a ∷ [])) × (length (axes ++ a ∷ []) ≤ MOST_AXES)
 longer axes a lt = (omega (arith, length-append axes (a ∷ [])), omega (arith, lt, length-append axes (a ∷ [])))
 
 axis_fits : (space : Space) (regions : ℕ) (c : AxesDraft) (a n : ℕ) → IsAxesDraft space c → IsFreeAxis space c.axes a

@@ -7,6 +7,7 @@ use Rattle.std.proofs.lemmas.Float.{T_from_true}
 use Rattle.std.proofs.lemmas.List.Elements.{All-nil, All-push}
 use Rattle.hx_lex.specs.Letters.{IsWord}
 use Rattle.hx_types.specs.declared.calls.Op.TheVariants as ops
+use Rattle.hx_types.specs.declared.limits.TheConstants.{LONGEST_TEXT}
 use Rattle.hx_types.specs.declared.spaces.Kind.{Kind}
 use Rattle.hx_types.specs.declared.spaces.Kind.TheVariants as kinds
 use Rattle.hx_types.specs.declared.spaces.Space.{Space}
@@ -42,8 +43,8 @@ use Rattle.hx_script.proofs.Yields.{yields_number_from, yields_repeat, and_left,
 
 pub yields_short_text : Yields short_text KeyFits
 unfolding short_text
-yields_short_text = yields_then Any yields_text (λ t u. yields_then (λ u. nat_le (length t) 1024 ≡ true)
-    (yields_check (nat_le (length t) 1024) Limit) (λ u h. yields_give t (leb-true (length t) 1024 h)))
+yields_short_text = yields_then Any yields_text (λ t u. yields_then (λ u. nat_le (length t) LONGEST_TEXT ≡ true)
+    (yields_check (nat_le (length t) LONGEST_TEXT) Limit) (λ u h. yields_give t (leb-true (length t) LONGEST_TEXT h)))
 
 any_value_at : (ts : List Tok) (x : Value × List Tok) → AllToks ts → any_value ts ≡ Ok x → Unit {0} × AllToks x.1
 any_value_at [] x all e = absurd cc
@@ -68,7 +69,7 @@ yields_value kind = yields_then Any yields_any_value
     (λ u s. yields_give v (record { fits = k; short = s }))))
 
 value_fits : (kind : Kind) (v : Value) → is_of kind v ≡ true → is_short v ≡ true → IsOfKind kind v
-value_fits kinds.Text (values.Text t) k s = leb-true (length t) 1024 s
+value_fits kinds.Text (values.Text t) k s = leb-true (length t) LONGEST_TEXT s
 value_fits kinds.Text (values.Int n) k s = absurd cc
 value_fits (kinds.Int lo hi) (values.Text t) k s = absurd cc
 value_fits (kinds.Int lo hi) (values.Int n) k s = tt

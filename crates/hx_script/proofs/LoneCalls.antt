@@ -6,6 +6,7 @@ use Rattle.std.proofs.lemmas.Bool.{lt-ltb}
 use Rattle.hx_lex.specs.Letters.{IsWord}
 use Rattle.hx_lex.specs.Lines.{tokens_of}
 use Rattle.hx_types.specs.declared.calls.Op.{Op}
+use Rattle.hx_types.specs.declared.limits.TheConstants.{MOST_CALLS, MOST_SESSIONS}
 use Rattle.hx_types.specs.declared.spaces.Space.{Space}
 use Rattle.hx_types.specs.Spaces.{ArePart, Fits, IsSpace}
 use Rattle.hx_types.specs.Subspaces.{region_count, sizes_sum}
@@ -58,7 +59,7 @@ lone_fits space line op is e =
 line_takes : (n : ℕ) (d : Draft) (k : Option Keyword) (ts : List Tok) (x : Op × List Tok) → TakesCalls d
     → call_by d.space k ts ≡ Ok x → line_for n d sections.Calls k ts ≡ Ok (with_call d x.0, x.1)
 unfolding call_line
-line_takes n d (Some (keywords.Call w)) ts x t e = rw (lt-ltb d.calls 16384 t.room, t.regions, e) refl
+line_takes n d (Some (keywords.Call w)) ts x t e = rw (lt-ltb d.calls MOST_CALLS t.room, t.regions, e) refl
 line_takes n d (Some (keywords.Heading h)) ts x t e = absurd cc
 line_takes n d (Some (keywords.Step w)) ts x t e = absurd cc
 line_takes n d None ts x t e = absurd cc
@@ -101,7 +102,7 @@ err_of (Err q) f r e = ap (λ (p : Reason). failed p) (same_fault q r e)
 line_fails : (n : ℕ) (d : Draft) (k : Option Keyword) (ts : List Tok) (r : Reason) → TakesCalls d → r ≢ Order
     → call_by d.space k ts ≡ Err r → line_for n d sections.Calls k ts ≡ Err r
 unfolding call_line
-line_fails n d (Some (keywords.Call w)) ts r t other e = rw (lt-ltb d.calls 16384 t.room, t.regions, e) refl
+line_fails n d (Some (keywords.Call w)) ts r t other e = rw (lt-ltb d.calls MOST_CALLS t.room, t.regions, e) refl
 line_fails n d (Some (keywords.Heading h)) ts r t other e = absurd (other (sym (same_fault {A = Op × List Tok} Order r e)))
 line_fails n d (Some (keywords.Step w)) ts r t other e = absurd (other (sym (same_fault {A = Op × List Tok} Order r e)))
 line_fails n d None ts r t other e = absurd (other (sym (same_fault {A = Op × List Tok} Order r e)))
@@ -133,8 +134,8 @@ KeepsCount calls d = d.calls ≡ calls
 
 yields_session : (d : Draft) → Yields (session_line d) (KeepsCount d.calls)
 unfolding session_line
-yields_session d = yields_then (λ u. nat_lt (length d.sessions) 16 ≡ true)
-    (yields_check (nat_lt (length d.sessions) 16) Limit)
+yields_session d = yields_then (λ u. nat_lt (length d.sessions) MOST_SESSIONS ≡ true)
+    (yields_check (nat_lt (length d.sessions) MOST_SESSIONS) Limit)
     (λ u room. yields_then (λ n. (length d.sessions + 1 ≤ n) × (n ≤ length d.sessions + 1))
     (yields_number_in (length d.sessions + 1) (length d.sessions + 1))
     (λ n h. yields_then Any yields_end (λ u t. yields_give
@@ -190,7 +191,7 @@ line_adds : (n : ℕ) (d : Draft) (k : Option Keyword) (ts : List Tok) (op : Op)
     → 0 < length d.sessions → AllToks ts → line_for n d sections.Calls k ts ≡ Ok x → x.0 ≡ with_call d op → Added d op k ts
 unfolding call_line
 line_adds n d (Some (keywords.Call w)) ts op x t some all e f =
-    let g : on_ok (call d.space d.regions w ts) (λ (y : Op × List Tok). gave (with_call d y.0, y.1)) ≡ Ok x = rw (lt-ltb d.calls 16384 t.room) at e in
+    let g : on_ok (call d.space d.regions w ts) (λ (y : Op × List Tok). gave (with_call d y.0, y.1)) ≡ Ok x = rw (lt-ltb d.calls MOST_CALLS t.room) at e in
     let o = on_ok_ok (call d.space d.regions w ts) (λ (y : Op × List Tok). gave (with_call d y.0, y.1)) x g in
     let made : with_call d o.0.0 ≡ with_call d op = ap (λ (y : Draft × List Tok). y.0) (ok_is (with_call d o.0.0, o.0.1) x o.2) ∙ f in
     let same : o.0.0 ≡ op = one_call d o.0.0 op some made in

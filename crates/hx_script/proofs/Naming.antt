@@ -5,6 +5,7 @@ use Rattle.std.specs.List.{list_all, position_or_len}
 use Rattle.std.specs.Str.{bytes_eq}
 use Rattle.std.proofs.lemmas.Bool.{leb-true, ltb-true, false≢true}
 use Rattle.hx_lex.specs.Letters.{IsWord, is_word_part}
+use Rattle.hx_types.specs.declared.limits.TheConstants.{LONGEST_NAME}
 use Rattle.hx_types.specs.declared.spaces.Attribute.{Attribute}
 use Rattle.hx_types.specs.declared.spaces.Space.{Space}
 use Rattle.hx_types.specs.Spaces.{is_word, is_letter, is_word_byte, IsName}
@@ -32,18 +33,18 @@ unfolding named
 yields_named = yields_then IsWord yields_word (λ w i. yields_then (λ u. may_name w ≡ true)
     (yields_check (may_name w) Order) (λ u h. yields_give w (record { word = i; free = h })))
 
-pub is_name : (w : List ℕ) → MayName w → nat_le (length w) 32 ≡ true → IsName w
+pub is_name : (w : List ℕ) → MayName w → nat_le (length w) LONGEST_NAME ≡ true → IsName w
 is_name w m short = record {
   word = word_is w m.word;
-  short = leb-true (length w) 32 short;
+  short = leb-true (length w) LONGEST_NAME short;
   not_if = λ e. false≢true (subst (λ v. may_name v ≡ true) e m.free);
   not_set = λ e. false≢true (subst (λ v. may_name v ≡ true) e m.free);
 }
 
 pub yields_name : Yields name IsName
 unfolding name
-yields_name = yields_then MayName yields_named (λ w m. yields_then (λ u. nat_le (length w) 32 ≡ true)
-    (yields_check (nat_le (length w) 32) Limit) (λ u h. yields_give w (is_name w m h)))
+yields_name = yields_then MayName yields_named (λ w m. yields_then (λ u. nat_le (length w) LONGEST_NAME ≡ true)
+    (yields_check (nat_le (length w) LONGEST_NAME) Limit) (λ u h. yields_give w (is_name w m h)))
 
 pub record IsNew (space : Space) (w : List ℕ) : Type 0 where
   pub name : IsName w
@@ -53,7 +54,7 @@ pub yields_new_name : (space : Space) → Yields (new_name space) (IsNew space)
 unfolding new_name
 yields_new_name space = yields_then MayName yields_named
     (λ w m. yields_then (λ u. not (is_declared space w) ≡ true) (yields_check (not (is_declared space w)) Twice)
-    (λ u n. yields_then (λ u. nat_le (length w) 32 ≡ true) (yields_check (nat_le (length w) 32) Limit)
+    (λ u n. yields_then (λ u. nat_le (length w) LONGEST_NAME ≡ true) (yields_check (nat_le (length w) LONGEST_NAME) Limit)
     (λ u h. yields_give w (record { name = is_name w m h; new = not_true (is_declared space w) n }))))
 
 abbrev number : ℕ → Result ℕ Reason

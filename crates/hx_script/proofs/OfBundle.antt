@@ -4,6 +4,7 @@ use Rattle.std.specs.Prelude.{◌+◌, ◌==◌, length, nat_le, not, position, 
 use Rattle.std.specs.List.{list_any}
 use Rattle.hx_lex.specs.Lines.{tokens_of}
 use Rattle.hx_bundle.specs.declared.bundles.Bundle.{Bundle}
+use Rattle.hx_types.specs.declared.limits.TheConstants.{LONGEST_NAME}
 use Rattle.hx_types.specs.declared.traces.Script.{Script}
 use Rattle.hx_script.specs.declared.bundle_draft.BundleDraft.{BundleDraft}
 use Rattle.hx_script.specs.declared.bundle_draft.BundleSection.{BundleSection}
@@ -50,7 +51,7 @@ tells_new_space : (spaces : List Draft) → Tells (new_space_name spaces)
 unfolding new_space_name
 tells_new_space spaces = tells_then tells_named (λ w. tells_then
     (tells_check (not (list_any (is_space w) spaces)) reasons.Twice tt)
-    (λ u. tells_then (tells_check (nat_le (length w) 32) reasons.Limit tt) (λ v. tells_give w)))
+    (λ u. tells_then (tells_check (nat_le (length w) LONGEST_NAME) reasons.Limit tt) (λ v. tells_give w)))
 
 tells_in_space : (spaces : List Draft) (k : ℕ) (line : Draft → Reader Draft) → ((d : Draft) → Tells (line d)) → Tells (in_space spaces k line)
 tells_in_space spaces k line h = by (slice_get spaces k)

@@ -7,6 +7,7 @@ use Rattle.hx_lex.specs.declared.token.Token.{Token}
 use Rattle.hx_lex.specs.Lines.{tokens_of}
 use Rattle.hx_lex.specs.Numbers.{value as value_of}
 use Rattle.hx_types.specs.declared.ids.Actor.{Actor}
+use Rattle.hx_types.specs.declared.limits.TheConstants.{LONGEST_NAME}
 use Rattle.hx_types.specs.declared.spaces.Attribute.{Attribute}
 use Rattle.hx_types.specs.declared.spaces.Axis.{Axis}
 use Rattle.hx_types.specs.declared.spaces.Kind.{Kind}
@@ -191,7 +192,7 @@ tells_new_name : (space : Space) → Tells (new_name space)
 unfolding new_name
 tells_new_name space = tells_then tells_named (λ w. tells_then
     (tells_check (not (is_declared space w)) reasons.Twice tt)
-    (λ u. tells_then (tells_check (nat_le (length w) 32) reasons.Limit tt) (λ v. tells_give w)))
+    (λ u. tells_then (tells_check (nat_le (length w) LONGEST_NAME) reasons.Limit tt) (λ v. tells_give w)))
 
 told_numbered : (o : Option ℕ) → Told (numbered o)
 told_numbered None = tt

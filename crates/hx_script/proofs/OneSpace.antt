@@ -12,6 +12,8 @@ use Rattle.hx_bundle.specs.declared.bundles.Bundle.{Bundle}
 use Rattle.hx_bundle.specs.Bundles.{AreAlike, AreDealt, HasStep, IsBundle, IsStepIn, times}
 use Rattle.hx_types.specs.declared.calls.Op.{Op}
 use Rattle.hx_types.specs.declared.ids.Actor.TheVariants.{Coordinator, Server, Session}
+use Rattle.hx_types.specs.declared.limits.TheConstants.{MOST_ATTRIBUTES, MOST_CALLS, MOST_FAILURES, MOST_PARTS, MOST_SERVERS, MOST_SESSIONS, MOST_STEPS}
+use Rattle.hx_types.specs.declared.limits.TheConstants.{MOST_SUBSPACES}
 use Rattle.hx_types.specs.declared.spaces.Attribute.{Attribute}
 use Rattle.hx_types.specs.declared.spaces.Space.{Space}
 use Rattle.hx_types.specs.declared.traces.Script.{Script}
@@ -61,15 +63,15 @@ None_yet d = d.steps ≡ []
 attribute_none : (d : Draft) (attribute : Space → Reader Attribute) → None_yet d
     → Yields (attribute d.space) (IsNextAttribute d.space) → Yields (attribute_line d attribute) None_yet
 unfolding attribute_line
-attribute_none d attribute e y = yields_then (λ u. nat_lt (length d.space.attributes) 16 ≡ true)
-    (yields_check (nat_lt (length d.space.attributes) 16) Limit)
+attribute_none d attribute e y = yields_then (λ u. nat_lt (length d.space.attributes) MOST_ATTRIBUTES ≡ true)
+    (yields_check (nat_lt (length d.space.attributes) MOST_ATTRIBUTES) Limit)
     (λ u room. yields_then (IsNextAttribute d.space) y
     (λ a n. yields_give (record d { space = record d.space { attributes = d.space.attributes ++ a ∷ [] } }) e))
 
 subspace_none : (d : Draft) → None_yet d → Yields (subspace_line d) None_yet
 unfolding subspace_line
-subspace_none d e = yields_then (λ u. nat_lt (length d.space.subspaces) 8 ≡ true)
-    (yields_check (nat_lt (length d.space.subspaces) 8) Limit)
+subspace_none d e = yields_then (λ u. nat_lt (length d.space.subspaces) MOST_SUBSPACES ≡ true)
+    (yields_check (nat_lt (length d.space.subspaces) MOST_SUBSPACES) Limit)
     (λ u room. yields_then (DraftFits d.space d.regions) (yields_subspace d.space d.regions)
     (λ x f. yields_give (record d {
       section = sections.Subspaces;
@@ -79,14 +81,14 @@ subspace_none d e = yields_then (λ u. nat_lt (length d.space.subspaces) 8 ≡ t
 
 servers_none : (d : Draft) → None_yet d → Yields (servers_line d) None_yet
 unfolding servers_line
-servers_none d e = yields_then (λ n. (1 ≤ n) × (n ≤ 16)) (yields_number_in 1 16)
+servers_none d e = yields_then (λ n. (1 ≤ n) × (n ≤ MOST_SERVERS)) (yields_number_in 1 MOST_SERVERS)
     (λ n h. yields_then Any yields_end (λ u t. yields_give
     (record d { section = sections.Tolerance; space = record d.space { servers = n } }) e))
 
 session_none : (d : Draft) → None_yet d → Yields (session_line d) None_yet
 unfolding session_line
-session_none d e = yields_then (λ u. nat_lt (length d.sessions) 16 ≡ true)
-    (yields_check (nat_lt (length d.sessions) 16) Limit)
+session_none d e = yields_then (λ u. nat_lt (length d.sessions) MOST_SESSIONS ≡ true)
+    (yields_check (nat_lt (length d.sessions) MOST_SESSIONS) Limit)
     (λ u room. yields_then (λ n. (length d.sessions + 1 ≤ n) × (n ≤ length d.sessions + 1))
     (yields_number_in (length d.sessions + 1) (length d.sessions + 1))
     (λ n h. yields_then Any yields_end (λ v t. yields_give
@@ -104,7 +106,7 @@ heading_none d sections.Naming headings.Space e =
     yields_then IsName yields_name (λ w i. yields_then Any yields_end
     (λ u t. yields_give (record d { section = sections.Keying; space = record d.space { name = w } }) e))
 heading_none d sections.Keying headings.Key e = yields_then IsName yields_name
-    (λ w k. yields_then (λ n. (1 ≤ n) × (n ≤ 256)) (yields_number_in 1 256)
+    (λ w k. yields_then (λ n. (1 ≤ n) × (n ≤ MOST_PARTS)) (yields_number_in 1 MOST_PARTS)
     (λ n h. yields_then Any yields_end (λ u t. yields_give
     (record d { section = sections.Attributes; regions = n; space = record d.space { key_name = w; key_parts = n } }) e)))
 heading_none d sections.Attributes headings.String e = attribute_none d string_attribute e (yields_string d.space)
@@ -114,7 +116,7 @@ heading_none d sections.Subspaces headings.Subspace e = subspace_none d e
 heading_none d sections.Attributes headings.Servers e = servers_none d e
 heading_none d sections.Subspaces headings.Servers e = servers_none d e
 heading_none d sections.Tolerance headings.Tolerate e =
-    yields_then (λ n. (0 ≤ n) × (n ≤ min (d.space.servers - 1) 4)) (yields_number_in 0 (min (d.space.servers - 1) 4))
+    yields_then (λ n. (0 ≤ n) × (n ≤ min (d.space.servers - 1) MOST_FAILURES)) (yields_number_in 0 (min (d.space.servers - 1) MOST_FAILURES))
     (λ n h. yields_then Any yields_end (λ u t. yields_give
     (record d { section = sections.Sessions; space = record d.space { tolerate = n } }) e))
 heading_none d sections.Sessions headings.Session e = session_none d e
@@ -147,15 +149,15 @@ call_none : (d : Draft) (w : CallWord) → d.section ≡ sections.Calls → Soun
 unfolding call_line
 call_none d w e so none =
     let st : Complete d = rw e at so.stage in
-    yields_then (λ u. nat_lt d.calls 16384 ≡ true) (yields_check (nat_lt d.calls 16384) Limit)
+    yields_then (λ u. nat_lt d.calls MOST_CALLS ≡ true) (yields_check (nat_lt d.calls MOST_CALLS) Limit)
     (λ u room. yields_then (Fits d.space) (yields_call d.space d.regions w so.space.count
     (some_regions d so.space st.0.2)) (λ op f. yields_give
     (record d { sessions = push_to_last d.sessions op; calls = d.calls + 1 }) none))
 
 step_more : (n : ℕ) (d : Draft) (w : StepWord) → d.section ≡ sections.Steps → ByPart sections.Steps d → Yields (step_line n d w) Stepped
 unfolding step_line
-step_more n d w e all = yields_then (λ u. nat_lt (length d.steps) 65536 ≡ true)
-    (yields_check (nat_lt (length d.steps) 65536) Limit)
+step_more n d w e all = yields_then (λ u. nat_lt (length d.steps) MOST_STEPS ≡ true)
+    (yields_check (nat_lt (length d.steps) MOST_STEPS) Limit)
     (λ u room. yields_then (IsStepBy d.space.servers (length d.sessions))
     (yields_step_by d.space.servers (length d.sessions) w) (λ x is. yields_give (record d { steps = d.steps ++ (n, x) ∷ [] })
     (record { steps = rw e (All-push (λ (y : ℕ × Step). IsStepBy d.space.servers (length d.sessions) y.1) d.steps (n, x) all is) })))

@@ -3,6 +3,8 @@ use Rattle.std.proofs.Common.{◌≡◌, ℕ, ◌<◌, ◌≤◌, List, [], ◌�
 use Rattle.std.specs.Prelude.{sum_by}
 use Rattle.std.specs.List.{All}
 use Rattle.hx_types.specs.declared.calls.Op.{Op}
+use Rattle.hx_types.specs.declared.limits.TheConstants.{MOST_ATTRIBUTES, MOST_AXES, MOST_CALLS, MOST_FAILURES, MOST_REGIONS, MOST_SERVERS, MOST_SESSIONS}
+use Rattle.hx_types.specs.declared.limits.TheConstants.{MOST_STEPS, MOST_SUBSPACES}
 use Rattle.hx_types.specs.declared.spaces.Attribute.{Attribute}
 use Rattle.hx_types.specs.declared.spaces.Axis.{Axis}
 use Rattle.hx_types.specs.declared.traces.Step.{Step}
@@ -19,7 +21,7 @@ IsAxisOf n a = (0 < a.attribute) × (a.attribute ≤ n) × ArePart a.parts
 pub record AxesFit (n : ℕ) (axes : List Axis) : Type 0 where
   pub each : All (IsAxisOf n) axes
   pub once : AllDiffer (map (λ (a : Axis). a.attribute) axes)
-  pub few : length axes ≤ 4
+  pub few : length axes ≤ MOST_AXES
 
 pub record AreAxes (n : ℕ) (axes : List Axis) : Type 0 where
   pub fit : AxesFit n axes
@@ -29,21 +31,21 @@ pub record AreAxes (n : ℕ) (axes : List Axis) : Type 0 where
 pub record Spaced (key_name : List ℕ) (key_parts : ℕ) (attributes : List Attribute) (subspaces : List (List Axis)) (regions : ℕ) : Type 0 where
   pub names : All (λ (a : Attribute). IsName a.name × IsKind a.kind) attributes
   pub differ : NamesDiffer (key_name ∷ map (λ (a : Attribute). a.name) attributes)
-  pub few : length attributes ≤ 16
+  pub few : length attributes ≤ MOST_ATTRIBUTES
   pub axes : All (AreAxes (length attributes)) subspaces
-  pub few_subspaces : length subspaces ≤ 8
+  pub few_subspaces : length subspaces ≤ MOST_SUBSPACES
   pub count : regions ≡ sizes_sum ((record { attribute = 0; parts = key_parts } ∷ []) ∷ subspaces)
-  pub few_regions : regions ≤ 4096
+  pub few_regions : regions ≤ MOST_REGIONS
 
 abbrev pub SpaceSoFar : Draft → Type 0
 SpaceSoFar d = Spaced d.space.key_name d.space.key_parts d.space.attributes d.space.subspaces d.regions
 
 -- the sessions and steps so far
 pub record Called (sessions : List (List Op)) (calls : ℕ) (steps : List (ℕ × Step)) : Type 0 where
-  pub few_sessions : length sessions ≤ 16
+  pub few_sessions : length sessions ≤ MOST_SESSIONS
   pub counted : sum_by (λ (ops : List Op). length ops) sessions ≤ calls
-  pub few_calls : calls ≤ 16384
-  pub few_steps : length steps ≤ 65536
+  pub few_calls : calls ≤ MOST_CALLS
+  pub few_steps : length steps ≤ MOST_STEPS
 
 abbrev pub CallsSoFar : Draft → Type 0
 CallsSoFar d = Called d.sessions d.calls d.steps
@@ -55,13 +57,13 @@ abbrev pub Headed : Draft → Type 0
 Headed d = IsName d.space.name × IsName d.space.key_name × ArePart d.space.key_parts
 
 abbrev pub HasServers : Draft → Type 0
-HasServers d = (0 < d.space.servers) × (d.space.servers ≤ 16)
+HasServers d = (0 < d.space.servers) × (d.space.servers ≤ MOST_SERVERS)
 
 abbrev pub AllFit : Draft → Type 0
 AllFit d = All (λ (ops : List Op). All (Fits d.space) ops) d.sessions
 
 abbrev pub Complete : Draft → Type 0
-Complete d = Headed d × HasServers d × ((d.space.tolerate ≤ 4) × (d.space.tolerate < d.space.servers)) × AllFit d
+Complete d = Headed d × HasServers d × ((d.space.tolerate ≤ MOST_FAILURES) × (d.space.tolerate < d.space.servers)) × AllFit d
 
 -- what the section adds
 abbrev pub BySection : Section → Draft → Type 0

@@ -4,9 +4,11 @@ use Rattle.std.specs.Prelude.{IfSome, slice_get, sum_by}
 use Rattle.std.specs.List.{All, AllZip}
 use Rattle.std.proofs.lemmas.List.Elements.{All-nil}
 use Rattle.hx_bundle.specs.declared.bundles.BundleStep.{BundleStep}
+use Rattle.hx_bundle.specs.declared.limits.TheConstants.{MOST_SPACES}
 use Rattle.hx_bundle.specs.Bundles.{AreDealt}
 use Rattle.hx_types.specs.declared.ids.Actor.{Actor}
 use Rattle.hx_types.specs.declared.ids.Actor.TheVariants.{Coordinator, Server, Session}
+use Rattle.hx_types.specs.declared.limits.TheConstants.{MOST_ATTRIBUTES, MOST_CALLS, MOST_FAILURES, MOST_SERVERS, MOST_SESSIONS, MOST_STEPS}
 use Rattle.hx_types.specs.declared.traces.Step.{Step}
 use Rattle.hx_types.specs.declared.traces.Step.TheVariants.{Deliver, Tick, Halt}
 use Rattle.hx_types.specs.Spaces.{NamesDiffer}
@@ -56,10 +58,10 @@ pub record SpaceFits (servers tolerate : ℕ) (d : Draft) : Type 0 where
   pub no_steps : d.steps ≡ []
 
 abbrev pub Served : BundleDraft → Type 0
-Served b = (0 < b.servers) × (b.servers ≤ 16)
+Served b = (0 < b.servers) × (b.servers ≤ MOST_SERVERS)
 
 abbrev pub Tolerated : BundleDraft → Type 0
-Tolerated b = Served b × ((b.tolerate ≤ 4) × (b.tolerate < b.servers))
+Tolerated b = Served b × ((b.tolerate ≤ MOST_FAILURES) × (b.tolerate < b.servers))
 
 abbrev pub Empty : BundleDraft → Type 0
 Empty b = (b.spaces ≡ []) × (b.turns ≡ []) × (b.steps ≡ [])
@@ -75,15 +77,15 @@ ByStage stages.Calls b = (0 < length b.spaces) × All (λ (d : Draft). d.section
 ByStage stages.Steps b = (0 < length b.spaces) × All Complete b.spaces × Tolerated b
 
 pub record BundleSound (b : BundleDraft) : Type 0 where
-  pub few : length b.spaces ≤ 8
+  pub few : length b.spaces ≤ MOST_SPACES
   pub spaces : All (SpaceFits b.servers b.tolerate) b.spaces
   pub names : NamesDiffer (map (λ (d : Draft). d.space.name) b.spaces)
   pub dealt : (k : ℕ) → IfSome (slice_get b.spaces k) (λ (d : Draft). AllZip (AreDealt k) d.sessions b.turns)
   pub turns : All (λ (spaces : List ℕ). All (λ (k : ℕ). k < length b.spaces) spaces) b.turns
-  pub few_sessions : length b.turns ≤ 16
+  pub few_sessions : length b.turns ≤ MOST_SESSIONS
   pub counted : sum_by (λ (spaces : List ℕ). length spaces) b.turns ≤ b.calls
-  pub few_calls : b.calls ≤ 16384
-  pub few_steps : length b.steps ≤ 65536
+  pub few_calls : b.calls ≤ MOST_CALLS
+  pub few_steps : length b.steps ≤ MOST_STEPS
   pub steps : All (IsStepAmong (length b.spaces) b.servers (length b.turns)) b.steps
   pub stage : ByStage b.section b
 
@@ -106,11 +108,11 @@ empty_bundle_sound = record {
   stage = (refl, refl, refl);
 }
 
-pub few_spaces : (b : BundleDraft) → BundleSound b → length b.spaces ≤ 8
+pub few_spaces : (b : BundleDraft) → BundleSound b → length b.spaces ≤ MOST_SPACES
 few_spaces b so = so.few
 
-pub few_sessions : (b : BundleDraft) → BundleSound b → length b.turns ≤ 16
+pub few_sessions : (b : BundleDraft) → BundleSound b → length b.turns ≤ MOST_SESSIONS
 few_sessions b so = so.few_sessions
 
-pub few_attributes : (b : BundleDraft) → BundleSound b → All (λ (d : Draft). length d.space.attributes ≤ 16) b.spaces
+pub few_attributes : (b : BundleDraft) → BundleSound b → All (λ (d : Draft). length d.space.attributes ≤ MOST_ATTRIBUTES) b.spaces
 few_attributes b so = λ i d lt. (so.spaces i d lt).sound.space.few

@@ -11,6 +11,8 @@ use Rattle.std.proofs.lemmas.List.Elements.{All-nil, All-cons, All-head, All-tai
 use Rattle.std.proofs.lemmas.List.Sums.{sum_by-append}
 use Rattle.hx_lex.specs.Letters.{IsWord}
 use Rattle.hx_types.specs.declared.calls.Op.{Op}
+use Rattle.hx_types.specs.declared.limits.TheConstants.{MOST_ATTRIBUTES, MOST_CALLS, MOST_FAILURES, MOST_PARTS, MOST_SERVERS, MOST_SESSIONS, MOST_STEPS}
+use Rattle.hx_types.specs.declared.limits.TheConstants.{MOST_SUBSPACES}
 use Rattle.hx_types.specs.declared.spaces.Attribute.{Attribute}
 use Rattle.hx_types.specs.declared.spaces.Axis.{Axis}
 use Rattle.hx_types.specs.declared.spaces.Kind.TheVariants as kinds
@@ -85,7 +87,7 @@ key_alone w parts (x ∷ xs) ys p ea es = absurd cc
 yields_key : (d : Draft) → CallsSoFar d → Fresh d → IsName d.space.name → Yields (key_line d) Sound
 unfolding key_line
 yields_key d c f i = yields_then IsName yields_name
-    (λ w k. yields_then (λ n. (1 ≤ n) × (n ≤ 256)) (yields_number_in 1 256)
+    (λ w k. yields_then (λ n. (1 ≤ n) × (n ≤ MOST_PARTS)) (yields_number_in 1 MOST_PARTS)
     (λ n h. yields_then Any yields_end (λ u t. yields_give
     (record d { section = sections.Attributes; regions = n; space = record d.space { key_name = w; key_parts = n } })
     (record { space = key_alone w n d.space.attributes d.space.subspaces h f.0 f.1; calls = c; stage = ((i, k, h), f.1, f.2) }))))
@@ -109,14 +111,14 @@ yields_int space = yields_then (IsNew space) (yields_new_name space)
     (record { name = n.name; new = n.new; kind = le_z_yes (T_from_true (int_le lo hi) h) })))))
 
 one_attribute_more : (d : Draft) (a : Attribute) → SpaceSoFar d → d.space.subspaces ≡ []
-    → length d.space.attributes < 16 → IsNextAttribute d.space a
+    → length d.space.attributes < MOST_ATTRIBUTES → IsNextAttribute d.space a
     → Spaced d.space.key_name d.space.key_parts (d.space.attributes ++ a ∷ []) d.space.subspaces d.regions
 one_attribute_more d a s none room next = record {
   names = All-push (λ (x : Attribute). IsName x.name × IsKind x.kind) d.space.attributes a s.names (next.name, next.kind);
   differ = named_once (λ (x : Attribute). x.name) d.space.key_name d.space.attributes a s.differ
       (or_left (bytes_eq d.space.key_name a.name) (has_attribute d.space a.name) next.new)
       (or_right (bytes_eq d.space.key_name a.name) (has_attribute d.space a.name) next.new);
-  few = shorter d.space.attributes a 16 room;
+  few = shorter d.space.attributes a MOST_ATTRIBUTES room;
   axes = all_none (AreAxes (length (d.space.attributes ++ a ∷ []))) d.space.subspaces none;
   few_subspaces = s.few_subspaces;
   count = s.count;
@@ -127,17 +129,17 @@ yields_attribute : (d : Draft) (attribute : Space → Reader Attribute) → d.se
     → CallsSoFar d → Headed d × (d.space.subspaces ≡ []) × (d.sessions ≡ [])
     → Yields (attribute d.space) (IsNextAttribute d.space) → Yields (attribute_line d attribute) Sound
 unfolding attribute_line
-yields_attribute d attribute e s c st y = yields_then (λ u. nat_lt (length d.space.attributes) 16 ≡ true)
-    (yields_check (nat_lt (length d.space.attributes) 16) Limit)
+yields_attribute d attribute e s c st y = yields_then (λ u. nat_lt (length d.space.attributes) MOST_ATTRIBUTES ≡ true)
+    (yields_check (nat_lt (length d.space.attributes) MOST_ATTRIBUTES) Limit)
     (λ u room. yields_then (IsNextAttribute d.space) y
     (λ a n. yields_give (record d { space = record d.space { attributes = d.space.attributes ++ a ∷ [] } })
     (record {
-      space = one_attribute_more d a s st.1 (ltb-true (length d.space.attributes) 16 room) n;
+      space = one_attribute_more d a s st.1 (ltb-true (length d.space.attributes) MOST_ATTRIBUTES room) n;
       calls = c;
       stage = rw e st;
     })))
 
-one_subspace_more : (d : Draft) (axes_draft : AxesDraft) → SpaceSoFar d → length d.space.subspaces < 8
+one_subspace_more : (d : Draft) (axes_draft : AxesDraft) → SpaceSoFar d → length d.space.subspaces < MOST_SUBSPACES
     → DraftFits d.space d.regions axes_draft → Spaced d.space.key_name d.space.key_parts d.space.attributes
     (d.space.subspaces ++ axes_draft.axes ∷ []) (d.regions + axes_draft.size)
 one_subspace_more d axes_draft s room fits =
@@ -150,37 +152,37 @@ one_subspace_more d axes_draft s room fits =
       differ = s.differ;
       few = s.few;
       axes = All-push (AreAxes (length d.space.attributes)) d.space.subspaces axes_draft.axes s.axes fits.axes;
-      few_subspaces = shorter d.space.subspaces axes_draft.axes 8 room;
+      few_subspaces = shorter d.space.subspaces axes_draft.axes MOST_SUBSPACES room;
       count = omega (arith, sum, count, size);
       few_regions = fits.room;
     }
 
 yields_subspace_line : (d : Draft) → SpaceSoFar d → CallsSoFar d → Headed d × (d.sessions ≡ []) → Yields (subspace_line d) Sound
 unfolding subspace_line
-yields_subspace_line d s c st = yields_then (λ u. nat_lt (length d.space.subspaces) 8 ≡ true)
-    (yields_check (nat_lt (length d.space.subspaces) 8) Limit)
+yields_subspace_line d s c st = yields_then (λ u. nat_lt (length d.space.subspaces) MOST_SUBSPACES ≡ true)
+    (yields_check (nat_lt (length d.space.subspaces) MOST_SUBSPACES) Limit)
     (λ u room. yields_then (DraftFits d.space d.regions) (yields_subspace d.space d.regions)
     (λ x f. yields_give (record d {
       section = sections.Subspaces;
       regions = d.regions + x.size;
       space = record d.space { subspaces = d.space.subspaces ++ x.axes ∷ [] };
     })
-    (record { space = one_subspace_more d x s (ltb-true (length d.space.subspaces) 8 room) f; calls = c; stage = st })))
+    (record { space = one_subspace_more d x s (ltb-true (length d.space.subspaces) MOST_SUBSPACES room) f; calls = c; stage = st })))
 
 yields_servers : (d : Draft) → SpaceSoFar d → CallsSoFar d → Headed d × (d.sessions ≡ []) → Yields (servers_line d) Sound
 unfolding servers_line
-yields_servers d s c st = yields_then (λ n. (1 ≤ n) × (n ≤ 16)) (yields_number_in 1 16)
+yields_servers d s c st = yields_then (λ n. (1 ≤ n) × (n ≤ MOST_SERVERS)) (yields_number_in 1 MOST_SERVERS)
     (λ n h. yields_then Any yields_end (λ u t. yields_give
     (record d { section = sections.Tolerance; space = record d.space { servers = n } })
     (record { space = s; calls = c; stage = (st.0, st.1, h) })))
 
-pub below_servers : (servers n : ℕ) → 0 < servers → n ≤ min (servers - 1) 4 → (n ≤ 4) × (n < servers)
+pub below_servers : (servers n : ℕ) → 0 < servers → n ≤ min (servers - 1) MOST_FAILURES → (n ≤ MOST_FAILURES) × (n < servers)
 below_servers servers n low h = (omega (arith, low, h), omega (arith, low, h))
 
 yields_tolerate : (d : Draft) → SpaceSoFar d → CallsSoFar d → Headed d × (d.sessions ≡ []) × HasServers d → Yields (tolerate_line d) Sound
 unfolding tolerate_line
-yields_tolerate d s c st = yields_then (λ n. (0 ≤ n) × (n ≤ min (d.space.servers - 1) 4))
-    (yields_number_in 0 (min (d.space.servers - 1) 4))
+yields_tolerate d s c st = yields_then (λ n. (0 ≤ n) × (n ≤ min (d.space.servers - 1) MOST_FAILURES))
+    (yields_number_in 0 (min (d.space.servers - 1) MOST_FAILURES))
     (λ n h. yields_then Any yields_end (λ u t. yields_give
     (record d { section = sections.Sessions; space = record d.space { tolerate = n } })
     (record {
@@ -194,10 +196,10 @@ yields_tolerate d s c st = yields_then (λ n. (0 ≤ n) × (n ≤ min (d.space.s
       );
     })))
 
-pub one_session_more : (sessions : List (List Op)) (calls : ℕ) (steps : List (ℕ × Step)) → length sessions < 16
+pub one_session_more : (sessions : List (List Op)) (calls : ℕ) (steps : List (ℕ × Step)) → length sessions < MOST_SESSIONS
     → Called sessions calls steps → Called (sessions ++ [] ∷ []) calls steps
 one_session_more sessions calls steps room c = record {
-  few_sessions = shorter sessions [] 16 room;
+  few_sessions = shorter sessions [] MOST_SESSIONS room;
   counted = omega (arith, c.counted, sum_by-append (λ (ops : List Op). length ops) sessions ([] ∷ []));
   few_calls = c.few_calls;
   few_steps = c.few_steps;
@@ -205,15 +207,15 @@ one_session_more sessions calls steps room c = record {
 
 yields_session : (d : Draft) → SpaceSoFar d → CallsSoFar d → Complete d → Yields (session_line d) Sound
 unfolding session_line
-yields_session d s c st = yields_then (λ u. nat_lt (length d.sessions) 16 ≡ true)
-    (yields_check (nat_lt (length d.sessions) 16) Limit)
+yields_session d s c st = yields_then (λ u. nat_lt (length d.sessions) MOST_SESSIONS ≡ true)
+    (yields_check (nat_lt (length d.sessions) MOST_SESSIONS) Limit)
     (λ u room. yields_then (λ n. (length d.sessions + 1 ≤ n) × (n ≤ length d.sessions + 1))
     (yields_number_in (length d.sessions + 1) (length d.sessions + 1))
     (λ n h. yields_then Any yields_end (λ v t. yields_give
     (record d { section = sections.Calls; sessions = d.sessions ++ [] ∷ [] })
     (record {
       space = s;
-      calls = one_session_more d.sessions d.calls d.steps (ltb-true (length d.sessions) 16 room) c;
+      calls = one_session_more d.sessions d.calls d.steps (ltb-true (length d.sessions) MOST_SESSIONS room) c;
       stage = (
         st.0,
         st.1,
@@ -252,7 +254,7 @@ one_counted [] x = omega arith
 one_counted (xs ∷ []) x = omega (arith, sum_cons (xs ++ x ∷ []) [], sum_cons xs [], length_push xs x)
 one_counted (xs ∷ ys ∷ rest) x = omega (arith, sum_cons xs (push_to_last (ys ∷ rest) x), sum_cons xs (ys ∷ rest), one_counted (ys ∷ rest) x)
 
-one_call_more : (sessions : List (List Op)) (calls : ℕ) (steps : List (ℕ × Step)) (op : Op) → calls < 16384
+one_call_more : (sessions : List (List Op)) (calls : ℕ) (steps : List (ℕ × Step)) (op : Op) → calls < MOST_CALLS
     → Called sessions calls steps → Called (push_to_last sessions op) (calls + 1) steps
 one_call_more sessions calls steps op room c = record {
   few_sessions = rw (same_count sessions op) c.few_sessions;
@@ -268,13 +270,13 @@ some_regions d s p =
 
 pub yields_call_line : (d : Draft) (w : CallWord) → d.section ≡ sections.Calls → SpaceSoFar d → CallsSoFar d → Complete d → Yields (call_line d w) Sound
 unfolding call_line
-yields_call_line d w e s c st = yields_then (λ u. nat_lt d.calls 16384 ≡ true)
-    (yields_check (nat_lt d.calls 16384) Limit) (λ u room. yields_then (Fits d.space)
+yields_call_line d w e s c st = yields_then (λ u. nat_lt d.calls MOST_CALLS ≡ true)
+    (yields_check (nat_lt d.calls MOST_CALLS) Limit) (λ u room. yields_then (Fits d.space)
     (yields_call d.space d.regions w s.count (some_regions d s st.0.2))
     (λ op f. yields_give (record d { sessions = push_to_last d.sessions op; calls = d.calls + 1 })
     (record {
       space = s;
-      calls = one_call_more d.sessions d.calls d.steps op (ltb-true d.calls 16384 room) c;
+      calls = one_call_more d.sessions d.calls d.steps op (ltb-true d.calls MOST_CALLS room) c;
       stage = rw e (st.0, st.1, st.2, all_last (Fits d.space) d.sessions op st.3 f);
     })))
 
@@ -293,24 +295,24 @@ yields_step servers sessions step_words.Tick = yields_then Any (yields_actor ser
 yields_step servers sessions step_words.Halt = yields_then Any (yields_actor servers sessions) (λ a u. yields_then Any yields_end (λ x y. yields_give _ tt))
 
 one_step_more : (sessions : List (List Op)) (calls : ℕ) (steps : List (ℕ × Step)) (x : ℕ × Step)
-    → length steps < 65536 → Called sessions calls steps → Called sessions calls (steps ++ x ∷ [])
+    → length steps < MOST_STEPS → Called sessions calls steps → Called sessions calls (steps ++ x ∷ [])
 one_step_more sessions calls steps x room c = record {
   few_sessions = c.few_sessions;
   counted = c.counted;
   few_calls = c.few_calls;
-  few_steps = shorter steps x 65536 room;
+  few_steps = shorter steps x MOST_STEPS room;
 }
 
 yields_step_line : (n : ℕ) (d : Draft) (w : StepWord) → d.section ≡ sections.Steps → SpaceSoFar d → CallsSoFar d → Complete d → Yields (step_line n d w) Sound
 unfolding step_line
-yields_step_line n d w e s c st = yields_then (λ u. nat_lt (length d.steps) 65536 ≡ true)
-    (yields_check (nat_lt (length d.steps) 65536) Limit)
+yields_step_line n d w e s c st = yields_then (λ u. nat_lt (length d.steps) MOST_STEPS ≡ true)
+    (yields_check (nat_lt (length d.steps) MOST_STEPS) Limit)
     (λ u room. yields_then Any (yields_step d.space.servers (length d.sessions) w)
     (λ x f. yields_give (record d { steps = d.steps ++ (n, x) ∷ [] })
     (record {
       space = s;
       calls = one_step_more d.sessions d.calls d.steps (n, x)
-          (ltb-true (length d.steps) 65536 room) c;
+          (ltb-true (length d.steps) MOST_STEPS room) c;
       stage = rw e st;
     })))
 

@@ -10,6 +10,7 @@ use Rattle.hx_lex.specs.declared.token.TokenKind.TheVariants as token_kinds
 use Rattle.hx_lex.specs.Lines.{tokens_of}
 use Rattle.hx_lex.specs.Spelling.{IsSpelled, IsTokenOf}
 use Rattle.hx_lex.proofs.Lemmas.{tokens_spelled}
+use Rattle.hx_types.specs.declared.limits.TheConstants.{MOST_ATTRIBUTES, MOST_REGIONS, MOST_SESSIONS}
 use Rattle.hx_types.specs.declared.spaces.Attribute.{Attribute}
 use Rattle.hx_types.specs.declared.traces.Script.{Script}
 use Rattle.hx_types.specs.Fitting.{IsScript}
@@ -66,7 +67,7 @@ a_script d s c st = record {
     subspaces = All-weaker (AreAxes (length d.space.attributes)) (IsSubspaceOf d.space)
         (λ axes a. record { some = a.some; few = a.fit.few; declared = a.fit.each; once = a.fit.once }) d.space.subspaces s.axes;
     few_subspaces = s.few_subspaces;
-    regions = subst (λ r. r ≤ 4096) s.count s.few_regions;
+    regions = subst (λ r. r ≤ MOST_REGIONS) s.count s.few_regions;
     servers = st.1;
     tolerate = st.2;
   };
@@ -126,8 +127,8 @@ empty_sound = record {
 pub text_sound : (text : List ℕ) (s : Script) → script_of text ≡ Ok s → IsScript s
 text_sound text s e = lines_sound (lines_of text) 0 empty_draft s empty_sound e
 
-pub few_attributes : (d : Draft) → Sound d → length d.space.attributes ≤ 16
+pub few_attributes : (d : Draft) → Sound d → length d.space.attributes ≤ MOST_ATTRIBUTES
 few_attributes d so = so.space.few
 
-pub few_sessions : (d : Draft) → Sound d → length d.sessions ≤ 16
+pub few_sessions : (d : Draft) → Sound d → length d.sessions ≤ MOST_SESSIONS
 few_sessions d so = so.calls.few_sessions

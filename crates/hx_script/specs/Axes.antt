@@ -1,6 +1,7 @@
 -- How a subspace cuts the values of some attributes.
 use Rattle.std.specs.Prelude.{ℕ, ◌+◌, ◌*◌, Bool, not, List, [], ◌∷◌, ◌++◌, length, codes, nat_le, nat_lt, ◌==◌}
 use Rattle.std.specs.List.{list_any}
+use Rattle.hx_types.specs.declared.limits.TheConstants.{MOST_AXES, MOST_PARTS, MOST_REGIONS}
 use Rattle.hx_types.specs.declared.spaces.Axis.{Axis}
 use Rattle.hx_types.specs.declared.spaces.Space.{Space}
 use Rattle.hx_script.specs.declared.axes.AxesDraft.{AxesDraft}
@@ -18,14 +19,14 @@ free_axis space axes = do
   w ← named
   a ← judged (declared_number space w)
   new ← check (not (has_axis axes a)) Twice
-  room ← check (nat_lt (length axes) 4) Limit
+  room ← check (nat_lt (length axes) MOST_AXES) Limit
   give a
 
 -- into how many parts, where the other axes make that many regions and all before the subspace that many
 unfoldable pub parts : ℕ → ℕ → Reader ℕ
 parts regions size = do
-  n ← number_in 1 256
-  few ← check (nat_le (regions + size * n) 4096) Limit
+  n ← number_in 1 MOST_PARTS
+  few ← check (nat_le (regions + size * n) MOST_REGIONS) Limit
   give n
 
 -- N I

@@ -5,6 +5,8 @@ use Rattle.std.specs.Prelude.{min, position, slice_get, slice_set, Option, Some,
 use Rattle.std.specs.List.{list_all, list_any}
 use Rattle.std.specs.Str.{bytes_eq}
 use Rattle.hx_lex.specs.Lines.{tokens_of}
+use Rattle.hx_bundle.specs.declared.limits.TheConstants.{MOST_SPACES}
+use Rattle.hx_types.specs.declared.limits.TheConstants.{LONGEST_NAME, MOST_CALLS, MOST_FAILURES, MOST_SERVERS, MOST_SESSIONS, MOST_STEPS}
 use Rattle.hx_script.specs.declared.bundle_draft.BundleDraft.{BundleDraft}
 use Rattle.hx_script.specs.declared.bundle_draft.BundleSection.{BundleSection}
 use Rattle.hx_script.specs.declared.bundle_draft.BundleSection.TheVariants as stages
@@ -51,7 +53,7 @@ unfoldable pub new_space_name : List Draft → Reader (List ℕ)
 new_space_name spaces = do
   w ← named
   new ← check (not (list_any (is_space w) spaces)) Twice
-  short ← check (nat_le (length w) 32) Limit
+  short ← check (nat_le (length w) LONGEST_NAME) Limit
   give w
 
 -- ---- lines of one space
@@ -102,21 +104,21 @@ second_hx_line b = do
 -- servers I
 unfoldable pub all_servers_line : BundleDraft → Reader BundleDraft
 all_servers_line b = do
-  n ← number_in 1 16
+  n ← number_in 1 MOST_SERVERS
   ended ← end
   give (record b { section = stages.Tolerance; servers = n })
 
 -- tolerate I
 unfoldable pub all_tolerate_line : BundleDraft → Reader BundleDraft
 all_tolerate_line b = do
-  n ← number_in 0 (min (b.servers - 1) 4)
+  n ← number_in 0 (min (b.servers - 1) MOST_FAILURES)
   ended ← end
   give (record b { section = stages.Naming; tolerate = n })
 
 -- space N
 unfoldable pub next_space_line : BundleDraft → Reader BundleDraft
 next_space_line b = do
-  room ← check (nat_lt (length b.spaces) 8) Limit
+  room ← check (nat_lt (length b.spaces) MOST_SPACES) Limit
   w ← new_space_name b.spaces
   ended ← end
   give (record b { section = stages.Spaces; spaces = b.spaces ++ named_draft b.servers b.tolerate w ∷ [] })
@@ -130,7 +132,7 @@ last_space_line b h = do
 -- session I
 unfoldable pub next_session_line : BundleDraft → Reader BundleDraft
 next_session_line b = do
-  room ← check (nat_lt (length b.turns) 16) Limit
+  room ← check (nat_lt (length b.turns) MOST_SESSIONS) Limit
   n ← number_in (length b.turns + 1) (length b.turns + 1)
   ended ← end
   give (record b { section = stages.Calls; spaces = map with_session b.spaces; turns = b.turns ++ [] ∷ [] })
@@ -144,7 +146,7 @@ all_steps_line b = do
 -- one more call of the last session, in the space that is named behind the first word
 unfoldable pub space_call_line : BundleDraft → CallWord → Reader BundleDraft
 space_call_line b c = do
-  room ← check (nat_lt b.calls 16384) Limit
+  room ← check (nat_lt b.calls MOST_CALLS) Limit
   k ← space_named b.spaces
   spaces ← in_space b.spaces k (λ d. call_line d c)
   give (record b { spaces = spaces; turns = push_to_last b.turns k; calls = b.calls + 1 })
@@ -152,7 +154,7 @@ space_call_line b c = do
 -- one more step in the space that is named behind the first word, on the line of that number
 unfoldable pub space_step_line : ℕ → BundleDraft → StepWord → Reader BundleDraft
 space_step_line n b w = do
-  room ← check (nat_lt (length b.steps) 65536) Limit
+  room ← check (nat_lt (length b.steps) MOST_STEPS) Limit
   k ← space_named b.spaces
   s ← step b.servers (length b.turns) w
   give (record b { steps = b.steps ++ record { line = n; space = k; step = s } ∷ [] })

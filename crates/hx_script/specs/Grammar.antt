@@ -3,6 +3,8 @@ use Rattle.std.specs.Prelude.{ℕ, ◌+◌, ◌-◌, List, [], ◌∷◌, ◌++�
 use Rattle.hx_lex.specs.declared.errors.LexError.{LexError}
 use Rattle.hx_lex.specs.declared.token.Token.{Token}
 use Rattle.hx_lex.specs.Lines.{tokens_of}
+use Rattle.hx_types.specs.declared.limits.TheConstants.{MOST_ATTRIBUTES, MOST_CALLS, MOST_FAILURES, MOST_PARTS, MOST_SERVERS, MOST_SESSIONS, MOST_STEPS}
+use Rattle.hx_types.specs.declared.limits.TheConstants.{MOST_SUBSPACES}
 use Rattle.hx_types.specs.declared.spaces.Attribute.{Attribute}
 use Rattle.hx_types.specs.declared.spaces.Kind.TheVariants as kinds
 use Rattle.hx_types.specs.declared.spaces.Space.{Space}
@@ -42,7 +44,7 @@ space_line d = do
 unfoldable pub key_line : Draft → Reader Draft
 key_line d = do
   w ← name
-  parts ← number_in 1 256
+  parts ← number_in 1 MOST_PARTS
   ended ← end
   give (record d { section = sections.Attributes; regions = parts; space = record d.space { key_name = w; key_parts = parts } })
 
@@ -65,35 +67,35 @@ int_attribute space = do
 -- one more attribute, where there is room
 unfoldable pub attribute_line : Draft → (Space → Reader Attribute) → Reader Draft
 attribute_line d attribute = do
-  room ← check (nat_lt (length d.space.attributes) 16) Limit
+  room ← check (nat_lt (length d.space.attributes) MOST_ATTRIBUTES) Limit
   a ← attribute d.space
   give (record d { space = record d.space { attributes = d.space.attributes ++ a ∷ [] } })
 
 -- subspace N I, N I, ..
 unfoldable pub subspace_line : Draft → Reader Draft
 subspace_line d = do
-  room ← check (nat_lt (length d.space.subspaces) 8) Limit
+  room ← check (nat_lt (length d.space.subspaces) MOST_SUBSPACES) Limit
   c ← subspace d.space d.regions
   give (record d { section = sections.Subspaces; regions = d.regions + c.size; space = record d.space { subspaces = d.space.subspaces ++ c.axes ∷ [] } })
 
 -- servers I
 unfoldable pub servers_line : Draft → Reader Draft
 servers_line d = do
-  n ← number_in 1 16
+  n ← number_in 1 MOST_SERVERS
   ended ← end
   give (record d { section = sections.Tolerance; space = record d.space { servers = n } })
 
 -- tolerate I
 unfoldable pub tolerate_line : Draft → Reader Draft
 tolerate_line d = do
-  n ← number_in 0 (min (d.space.servers - 1) 4)
+  n ← number_in 0 (min (d.space.servers - 1) MOST_FAILURES)
   ended ← end
   give (record d { section = sections.Sessions; space = record d.space { tolerate = n } })
 
 -- session I
 unfoldable pub session_line : Draft → Reader Draft
 session_line d = do
-  room ← check (nat_lt (length d.sessions) 16) Limit
+  room ← check (nat_lt (length d.sessions) MOST_SESSIONS) Limit
   n ← number_in (length d.sessions + 1) (length d.sessions + 1)
   ended ← end
   give (record d { section = sections.Calls; sessions = d.sessions ++ [] ∷ [] })
@@ -113,14 +115,14 @@ push_to_last (xs ∷ ys ∷ rest) x = xs ∷ push_to_last (ys ∷ rest) x
 -- one more call of the last session
 unfoldable pub call_line : Draft → CallWord → Reader Draft
 call_line d w = do
-  room ← check (nat_lt d.calls 16384) Limit
+  room ← check (nat_lt d.calls MOST_CALLS) Limit
   op ← call d.space d.regions w
   give (record d { sessions = push_to_last d.sessions op; calls = d.calls + 1 })
 
 -- one more step, which stands on the line of that number
 unfoldable pub step_line : ℕ → Draft → StepWord → Reader Draft
 step_line n d w = do
-  room ← check (nat_lt (length d.steps) 65536) Limit
+  room ← check (nat_lt (length d.steps) MOST_STEPS) Limit
   s ← step d.space.servers (length d.sessions) w
   give (record d { steps = d.steps ++ (n, s) ∷ [] })
 

@@ -2,6 +2,7 @@
 use Rattle.std.specs.Prelude.{◌≡◌, ◌<◌, ℕ, ◌+◌, List, Option, Some, Result, Ok, Err}
 use Rattle.hx_lex.specs.Lines.{tokens_of}
 use Rattle.hx_types.specs.declared.calls.Op.{Op}
+use Rattle.hx_types.specs.declared.limits.TheConstants.{MOST_CALLS}
 use Rattle.hx_types.specs.declared.spaces.Space.{Space}
 use Rattle.hx_types.specs.Subspaces.{region_count}
 use Rattle.hx_script.specs.declared.draft.Draft.{Draft}
@@ -39,7 +40,7 @@ op_of_line space line = on_ok (toks_from line (tokens_of line)) (op_of_toks spac
 pub record TakesCalls (d : Draft) : Type 0 where
   pub section : d.section ≡ sections.Calls
   pub regions : d.regions ≡ region_count d.space
-  pub room : d.calls < 16384
+  pub room : d.calls < MOST_CALLS
 
 -- a draft with one more call of its last session
 abbrev pub with_call : Draft → Op → Draft

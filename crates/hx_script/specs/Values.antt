@@ -2,6 +2,7 @@
 use Rattle.std.specs.Prelude.{ℕ, ℤ, Bool, true, false, not, List, [], ◌∷◌, ◌++◌, length, codes, nat_le, ◌==◌, Ok, Err}
 use Rattle.std.specs.List.{list_any}
 use Rattle.std.specs.Str.{bytes_eq}
+use Rattle.hx_types.specs.declared.limits.TheConstants.{LONGEST_TEXT}
 use Rattle.hx_types.specs.declared.spaces.Kind.{Kind}
 use Rattle.hx_types.specs.declared.spaces.Kind.TheVariants as kinds
 use Rattle.hx_types.specs.declared.spaces.Space.{Space}
@@ -22,7 +23,7 @@ use Rattle.hx_script.specs.Words.{named, declared_number, known_number}
 unfoldable pub short_text : Reader (List ℕ)
 short_text = do
   t ← text
-  short ← check (nat_le (length t) 1024) Limit
+  short ← check (nat_le (length t) LONGEST_TEXT) Limit
   give t
 
 -- the value is of the kind
@@ -32,7 +33,7 @@ is_of (kinds.Int lo hi) (values.Int n) = true
 is_of _ _ = false
 
 abbrev pub is_short : Value → Bool
-is_short (values.Text t) = nat_le (length t) 1024
+is_short (values.Text t) = nat_le (length t) LONGEST_TEXT
 is_short (values.Int n) = true
 
 abbrev pub any_value : Reader Value

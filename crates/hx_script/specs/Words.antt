@@ -2,6 +2,7 @@
 use Rattle.std.specs.Prelude.{ℕ, ◌+◌, Bool, not, ◌||◌, List, length, codes, nat_le, Option, Some, None, Result, Ok, Err, position, if◌then◌else◌}
 use Rattle.std.specs.List.{list_any}
 use Rattle.std.specs.Str.{bytes_eq}
+use Rattle.hx_types.specs.declared.limits.TheConstants.{LONGEST_NAME}
 use Rattle.hx_types.specs.declared.spaces.Attribute.{Attribute}
 use Rattle.hx_types.specs.declared.spaces.Space.{Space}
 use Rattle.hx_script.specs.declared.errors.Reason.{Reason}
@@ -23,7 +24,7 @@ named = do
 unfoldable pub name : Reader (List ℕ)
 name = do
   w ← named
-  short ← check (nat_le (length w) 32) Limit
+  short ← check (nat_le (length w) LONGEST_NAME) Limit
   give w
 
 abbrev pub has_attribute : Space → List ℕ → Bool
@@ -38,7 +39,7 @@ unfoldable pub new_name : Space → Reader (List ℕ)
 new_name space = do
   w ← named
   new ← check (not (is_declared space w)) Twice
-  short ← check (nat_le (length w) 32) Limit
+  short ← check (nat_le (length w) LONGEST_NAME) Limit
   give w
 
 abbrev pub numbered : Option ℕ → Result ℕ Reason
