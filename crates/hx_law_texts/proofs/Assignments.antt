@@ -1,9 +1,9 @@
 -- Assignments and tests are read again.
 use Rattle.hx_law_texts.proofs.Vocabulary.{[], All, All-head, All-tail, AllDiffer, ap, append-nil, append_assoc, arith, Assign, assigns_text, AssignsFit}
 use Rattle.hx_law_texts.proofs.Vocabulary.{Attribute, begins_with, Bool, bytes_eq, codes, false, flat_map-cons, has_assign, is_at, is_digit, is_of, is_short}
-use Rattle.hx_law_texts.proofs.Vocabulary.{IsOfKind, IsSayable, IsSomeAnd, IsSpace, IsWord, Kind, kind_at, le-leb, length, List, map, name_of, None, not}
-use Rattle.hx_law_texts.proofs.Vocabulary.{Number, Ok, Option, refl, repeat, Sign, slice_get, Some, Space, subst, suc, sym, Text, Tok, true, Until, Value}
-use Rattle.hx_law_texts.proofs.Vocabulary.{ValuesAreSayable, Word, zero, ℕ, ◌++◌, ◌-◌, ◌<◌, ◌||◌, ◌∙◌, ◌∷◌, ◌≡◌}
+use Rattle.hx_law_texts.proofs.Vocabulary.{IsOfKind, IsSayable, IsSomeAnd, IsSpace, IsWord, Kind, kind_at, le-leb, length, List, LONGEST_TEXT, map, name_of}
+use Rattle.hx_law_texts.proofs.Vocabulary.{None, not, Number, Ok, Option, refl, repeat, Sign, slice_get, Some, Space, subst, suc, sym, Text, Tok, true, Until}
+use Rattle.hx_law_texts.proofs.Vocabulary.{Value, ValuesAreSayable, Word, zero, ℕ, ◌++◌, ◌-◌, ◌<◌, ◌||◌, ◌∙◌, ◌∷◌, ◌≡◌}
 use Rattle.hx_types.specs.declared.spaces.Kind.TheVariants as kinds
 use Rattle.hx_types.specs.declared.values.Value.TheVariants as values
 use Rattle.hx_types.specs.Spaces.{AssignFits}
@@ -73,7 +73,7 @@ record IsNext (s : Space) (made : List Assign) (a : Assign) : Type 0 where
   pub said : IsSayable a.value
 
 pub of_kind : (k : Kind) (v : Value) → IsOfKind k v → (is_of k v ≡ true) × (is_short v ≡ true)
-of_kind kinds.Text (values.Text t) is = (refl, le-leb (length t) 1024 is)
+of_kind kinds.Text (values.Text t) is = (refl, le-leb (length t) LONGEST_TEXT is)
 of_kind kinds.Text (values.Int n) is = absurd is
 of_kind (kinds.Int lo hi) (values.Text t) is = absurd is
 of_kind (kinds.Int lo hi) (values.Int n) is = (refl, refl)

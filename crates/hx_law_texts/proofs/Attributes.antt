@@ -1,8 +1,8 @@
 -- The lines of attributes are read again.
 use Rattle.hx_law_texts.proofs.Vocabulary.{[], All, ap, append-nil, append_assoc, arith, Attribute, Bool, BoundsAreSayable, bytes_eq, codes, false, FitsSigned}
 use Rattle.hx_law_texts.proofs.Vocabulary.{flat_map, flat_map-cons, int_le, is_declared, IsKind, IsName, IsSpace, Kind, kind_line, length, length-append}
-use Rattle.hx_law_texts.proofs.Vocabulary.{line_of_toks, List, list_any, lt-ltb, map, NamesDiffer, Number, Ok, refl, Script, signed_decimal, Space, subst, sym}
-use Rattle.hx_law_texts.proofs.Vocabulary.{true, w64, Word, ℕ, ℤ, ◌++◌, ◌+◌, ◌<◌, ◌∙◌, ◌∷◌, ◌≡◌, ◌≤◌}
+use Rattle.hx_law_texts.proofs.Vocabulary.{line_of_toks, List, list_any, lt-ltb, map, MOST_ATTRIBUTES, NamesDiffer, Number, Ok, refl, Script, signed_decimal}
+use Rattle.hx_law_texts.proofs.Vocabulary.{Space, subst, sym, true, w64, Word, ℕ, ℤ, ◌++◌, ◌+◌, ◌<◌, ◌∙◌, ◌∷◌, ◌≡◌, ◌≤◌}
 use Rattle.std.proofs.Common.{T}
 use Rattle.std.specs.Prelude.{◌≤ℤ◌}
 use Rattle.hx_types.specs.declared.spaces.Kind.TheVariants as kinds
@@ -28,7 +28,7 @@ in_order lo hi le = passes (int_le lo hi) le.le
 pub record IsNext (s : Space) (front : List Attribute) (w : List ℕ) (k : Kind) : Type 0 where
   pub name : IsNamed w
   pub new : is_declared (attributing s front).space w ≡ false
-  pub room : length front < 16
+  pub room : length front < MOST_ATTRIBUTES
   pub kind : IsKind k
   pub bounds : BoundsAreSayable k
 
@@ -38,13 +38,13 @@ with_one front w k = front ++ record { name = w; kind = k } ∷ []
 string_toks : (n : ℕ) (s : Space) (front : List Attribute) (w : List ℕ) → IsNext s front w kinds.Text
     → line_of_toks n (attributing s front) (Word (codes "string") ∷ Word w ∷ []) ≡ Ok (attributing s (with_one front w kinds.Text))
 unfolding command attribute_line string_attribute new_name named
-string_toks n s front w is = rw (lt-ltb (length front) 16 is.room, is.name.free, is.new, is.name.short) refl
+string_toks n s front w is = rw (lt-ltb (length front) MOST_ATTRIBUTES is.room, is.name.free, is.new, is.name.short) refl
 
 int_toks : (n : ℕ) (s : Space) (front : List Attribute) (w : List ℕ) (lo hi : ℤ) → IsNext s front w (kinds.Int lo hi)
     → line_of_toks n (attributing s front) (Word (codes "int") ∷ Word w ∷ Number lo ∷ Number hi ∷ [])
     ≡ Ok (attributing s (with_one front w (kinds.Int lo hi)))
 unfolding command attribute_line int_attribute new_name named number_from
-int_toks n s front w lo hi is = rw (lt-ltb (length front) 16 is.room, is.name.free, is.new, is.name.short, in_order lo hi is.kind) refl
+int_toks n s front w lo hi is = rw (lt-ltb (length front) MOST_ATTRIBUTES is.room, is.name.free, is.new, is.name.short, in_order lo hi is.kind) refl
 
 pub int_says : (w : List ℕ) (lo hi : ℤ) → IsNamed w → FitsSigned w64 lo → FitsSigned w64 hi
     → Says (Word (codes "int") ∷ Word w ∷ Number lo ∷ Number hi ∷ [])
@@ -89,7 +89,7 @@ may_follow s front a more is bounds split =
     let differ : NamesDiffer (s.key_name ∷ map (λ (x : Attribute). x.name) (front ++ a ∷ more)) =
     subst (λ (xs : List Attribute). NamesDiffer (s.key_name ∷ map (λ (x : Attribute). x.name) xs))
     (sym split) is.names_differ in
-    let few : length s.attributes ≤ 16 = is.attributes in
+    let few : length s.attributes ≤ MOST_ATTRIBUTES = is.attributes in
     let size : length front + length (a ∷ more) ≡ length s.attributes = sym (length-append front (a ∷ more)) ∙ ap length split in
     record {
       name = a_name a.name named.0;

@@ -1,8 +1,8 @@
 -- What stands behind the name of a space, in a call and in a step, is read again.
-use Rattle.hx_law_texts.proofs.Vocabulary.{[], Add, append_assoc, arith, Assign, assigns_text, AssignsFit, Atomic, call, CallIsSayable, CallWord}
-use Rattle.hx_law_texts.proofs.Vocabulary.{codes, Cput, decimal, Del, edits_text, Fits, Get, is_word_part, IsSpace, IsText, List, Number, Ok, Op}
-use Rattle.hx_law_texts.proofs.Vocabulary.{pos, Put, refl, region_count, Search, Space, Stop, subst, sym, Text, Tok, ValuesAreSayable}
-use Rattle.hx_law_texts.proofs.Vocabulary.{Word, ℕ, ◌++◌, ◌<◌, ◌∷◌, ◌≡◌, ◌≤◌}
+use Rattle.hx_law_texts.proofs.Vocabulary.{[], Add, append_assoc, arith, Assign, assigns_text, AssignsFit, Atomic, call, CallIsSayable, CallWord, codes, Cput}
+use Rattle.hx_law_texts.proofs.Vocabulary.{decimal, Del, edits_text, Fits, Get, is_word_part, IsSpace, IsText, List, MOST_REGIONS, MOST_SERVERS, Number, Ok, Op}
+use Rattle.hx_law_texts.proofs.Vocabulary.{pos, Put, refl, region_count, Search, Space, Stop, subst, sym, Text, Tok, ValuesAreSayable, Word, ℕ, ◌++◌, ◌<◌, ◌∷◌}
+use Rattle.hx_law_texts.proofs.Vocabulary.{◌≡◌, ◌≤◌}
 use Rattle.hx_print.specs.Printing.{quoted}
 use Rattle.hx_print.specs.BundlePrinting.{op_rest}
 use Rattle.hx_script.specs.declared.keyword.CallWord.TheVariants as calls
@@ -82,11 +82,11 @@ rest_says s (Del key) is fits said = key_says key [] [] said nil_says
 rest_says s (Cput key tests sets) is fits said = cput_rest_says s key tests sets is fits.1 fits.2 said.0 said.1 said.2
 rest_says s (Search terms) is fits said = terms_say s terms is fits said
 rest_says s (Stop server) is fits said =
-    let few : server.0 ≤ 16 = few_servers s server is fits in
+    let few : server.0 ≤ MOST_SERVERS = few_servers s server is fits in
     blank_says (Number (pos server.0) ∷ []) (decimal server.0 ++ []) (number_says server.0 [] [] (omega (arith, few)) refl nil_says)
 rest_says s (Add server region) is fits said =
-    let few : server.0 ≤ 16 = few_servers s server is fits.0 in
-    let below : region.0 < 4096 = few_regions s region is fits.1 in
+    let few : server.0 ≤ MOST_SERVERS = few_servers s server is fits.0 in
+    let below : region.0 < MOST_REGIONS = few_regions s region is fits.1 in
     let tail : List ℕ = decimal region.0 ++ [] in
     subst (λ (x : List ℕ). Says (rest_toks s (Add server region)) x) (sym (add_parts (decimal server.0) (codes " ") (decimal region.0)))
     (blank_says (Number (pos server.0) ∷ Number (pos region.0) ∷ []) (decimal server.0 ++ (32 ∷ tail))

@@ -1,8 +1,7 @@
 -- No bundle is read back but those within the limits that can be said.
 use Rattle.hx_law_texts.proofs.Vocabulary.{[], All, All-cons, All-head, All-nil, All-tail, ap, Bundle, bundle_of, bundle_sound, bundle_steps_from, BundleStep}
-use Rattle.hx_law_texts.proofs.Vocabulary.{first_bundle_step_line, IsBundle, IsSayableBundle, IsStepIn, length, List, Ok, on_printed_bundle_lines}
+use Rattle.hx_law_texts.proofs.Vocabulary.{first_bundle_step_line, IsBundle, IsSayableBundle, IsStepIn, length, List, MOST_STEPS, Ok, on_printed_bundle_lines}
 use Rattle.hx_law_texts.proofs.Vocabulary.{PostIsSayable, refl, subst, suc, ℕ, ◌+◌, ◌∷◌, ◌≡◌, ◌≤◌}
-use Rattle.hx_types.specs.declared.limits.TheConstants.{MOST_STEPS}
 use Rattle.hx_print.specs.BundlePrinting.{bundle_text}
 use Rattle.hx_law_texts.proofs.BundleTold.{bundle_told}
 

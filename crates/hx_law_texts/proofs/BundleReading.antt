@@ -1,6 +1,6 @@
 -- A text of several spaces, read a line at a time, and its first three lines.
 use Rattle.hx_law_texts.proofs.Vocabulary.{[], ap, arith, Bundle, bundle_line_of, bundle_line_of_toks, BundleDraft, BundleSection, codes, decimal}
-use Rattle.hx_law_texts.proofs.Vocabulary.{decimal_digit, Draft, empty_bundle_draft, le-leb, lines_of, List, lit<, min, Number, Ok}
+use Rattle.hx_law_texts.proofs.Vocabulary.{decimal_digit, Draft, empty_bundle_draft, le-leb, lines_of, List, lit<, min, MOST_FAILURES, MOST_SERVERS, Number, Ok}
 use Rattle.hx_law_texts.proofs.Vocabulary.{pos, refl, subst, sym, Tok, Word, ℕ, ◌++◌, ◌+◌, ◌-◌, ◌<◌, ◌∷◌, ◌≡◌, ◌≤◌}
 use Rattle.hx_print.specs.Printing.{servers_line as servers_text, tolerate_line as tolerate_text}
 use Rattle.hx_script.specs.declared.bundle_draft.BundleSection.TheVariants as stages
@@ -58,13 +58,13 @@ second_hx_reads n rest a next =
     all_line_reads n empty_bundle_draft (at_spaces stages.Serving 0 0 []) (codes "hx 2\n" ++ rest)
     (codes "hx" ++ (32 ∷ (decimal 2 ++ []))) rest (Word (codes "hx") ∷ Number (pos 2) ∷ []) a text says (hx_toks (n + 1)) next
 
-servers_toks : (n servers : ℕ) → 0 < servers → servers ≤ 16
+servers_toks : (n servers : ℕ) → 0 < servers → servers ≤ MOST_SERVERS
     → bundle_line_of_toks n (at_spaces stages.Serving 0 0 []) (Word (codes "servers") ∷ Number (pos servers) ∷ [])
     ≡ Ok (at_spaces stages.Tolerance servers 0 [])
 unfolding bundle_command all_servers_line number_in
-servers_toks n servers low high = rw (le-leb 1 servers low, le-leb servers 16 high) refl
+servers_toks n servers low high = rw (le-leb 1 servers low, le-leb servers MOST_SERVERS high) refl
 
-pub all_servers_read : (n servers : ℕ) (rest : List ℕ) (a : Bundle) → 0 < servers → servers ≤ 16
+pub all_servers_read : (n servers : ℕ) (rest : List ℕ) (a : Bundle) → 0 < servers → servers ≤ MOST_SERVERS
     → ReadsAll (n + 1) (at_spaces stages.Tolerance servers 0 []) rest a
     → ReadsAll n (at_spaces stages.Serving 0 0 []) (servers_text servers ++ rest) a
 unfolding servers_text
@@ -76,13 +76,13 @@ all_servers_read n servers rest a low high next =
     (word_number (codes "servers") servers (record { letter = refl; parts = refl }) (omega (arith, high)))
     (servers_toks (n + 1) servers low high) next
 
-tolerate_toks : (n servers tolerate : ℕ) → tolerate ≤ min (servers - 1) 4
+tolerate_toks : (n servers tolerate : ℕ) → tolerate ≤ min (servers - 1) MOST_FAILURES
     → bundle_line_of_toks n (at_spaces stages.Tolerance servers 0 [])
     (Word (codes "tolerate") ∷ Number (pos tolerate) ∷ []) ≡ Ok (at_spaces stages.Naming servers tolerate [])
 unfolding bundle_command all_tolerate_line number_in
-tolerate_toks n servers tolerate few = rw (le-leb 0 tolerate (omega arith), le-leb tolerate (min (servers - 1) 4) few) refl
+tolerate_toks n servers tolerate few = rw (le-leb 0 tolerate (omega arith), le-leb tolerate (min (servers - 1) MOST_FAILURES) few) refl
 
-pub all_tolerate_reads : (n servers tolerate : ℕ) (rest : List ℕ) (a : Bundle) → tolerate ≤ 4 → tolerate < servers
+pub all_tolerate_reads : (n servers tolerate : ℕ) (rest : List ℕ) (a : Bundle) → tolerate ≤ MOST_FAILURES → tolerate < servers
     → ReadsAll (n + 1) (at_spaces stages.Naming servers tolerate []) rest a
     → ReadsAll n (at_spaces stages.Tolerance servers 0 []) (tolerate_text tolerate ++ rest) a
 unfolding tolerate_text

@@ -1,10 +1,10 @@
 -- The sessions of a bundle are read again, and its steps behind them.
 use Rattle.hx_law_texts.proofs.Vocabulary.{[], All, All-cons, All-head, All-map, All-nil, All-tail, All-weaker, all_at, AllZip, ap, append-nil, append_assoc}
-use Rattle.hx_law_texts.proofs.Vocabulary.{AreDealt, arith, Bundle, bundle_line_of_toks, BundleDraft, BundleSection, CallIsSayable, codes, decimal, Draft}
-use Rattle.hx_law_texts.proofs.Vocabulary.{Fits, have_keys, IfSome, inl, inr, IsSpace, le-leb, length, length-append, length-map, List, lt-ltb}
-use Rattle.hx_law_texts.proofs.Vocabulary.{map, NamesDiffer, None, Number, Ok, Op, Option, placed_all, pos, refl, same_Some, Script, script_so_far, slice_get}
-use Rattle.hx_law_texts.proofs.Vocabulary.{Some, subst, suc, sum_by, sum_by-cons, sym, take, times, true, with_session, Word, zero, ℕ, ◌++◌, ◌+◌, ◌<◌}
-use Rattle.hx_law_texts.proofs.Vocabulary.{◌∙◌, ◌∷◌, ◌≡◌, ◌≤◌, ◌⊎◌}
+use Rattle.hx_law_texts.proofs.Vocabulary.{AreDealt, arith, Bundle, bundle_line_of_toks, BundleDraft, BundleSection, CallIsSayable, codes, decimal, Draft, Fits}
+use Rattle.hx_law_texts.proofs.Vocabulary.{have_keys, IfSome, inl, inr, IsSpace, le-leb, length, length-append, length-map, List, lt-ltb, map, MOST_CALLS}
+use Rattle.hx_law_texts.proofs.Vocabulary.{MOST_SESSIONS, NamesDiffer, None, Number, Ok, Op, Option, placed_all, pos, refl, same_Some, Script, script_so_far}
+use Rattle.hx_law_texts.proofs.Vocabulary.{slice_get, Some, subst, suc, sum_by, sum_by-cons, sym, take, times, true, with_session, Word, zero, ℕ, ◌++◌, ◌+◌}
+use Rattle.hx_law_texts.proofs.Vocabulary.{◌<◌, ◌∙◌, ◌∷◌, ◌≡◌, ◌≤◌, ◌⊎◌}
 use Rattle.std.proofs.Common.{add-one}
 use Rattle.hx_types.specs.Fitting.{calls_of}
 use Rattle.hx_types.specs.Words.{when_some}
@@ -37,18 +37,18 @@ abbrev pub MayBegin : BundleSection → List Draft → Type 0
 MayBegin at spaces = ((at ≡ stages.Spaces) × (have_keys spaces ≡ true)) ⊎ (at ≡ stages.Calls)
 
 session_toks : (n : ℕ) (at : BundleSection) (servers tolerate : ℕ) (spaces : List Draft) (turns : List (List ℕ))
-    (calls : ℕ) → MayBegin at spaces → length turns < 16
+    (calls : ℕ) → MayBegin at spaces → length turns < MOST_SESSIONS
     → bundle_line_of_toks n (at_calls at servers tolerate spaces turns calls)
     (Word (codes "session") ∷ Number (pos (length turns + 1)) ∷ [])
     ≡ Ok (at_calls stages.Calls servers tolerate (map with_session spaces) (turns ++ [] ∷ []) calls)
 unfolding bundle_command behind_keys next_session_line number_in
 session_toks n at servers tolerate spaces turns calls (inl e) room =
-    rw (e.0, e.1, lt-ltb (length turns) 16 room, le-leb (length turns + 1) (length turns + 1) (omega arith)) refl
+    rw (e.0, e.1, lt-ltb (length turns) MOST_SESSIONS room, le-leb (length turns + 1) (length turns + 1) (omega arith)) refl
 session_toks n at servers tolerate spaces turns calls (inr e) room =
-    rw (e, lt-ltb (length turns) 16 room, le-leb (length turns + 1) (length turns + 1) (omega arith)) refl
+    rw (e, lt-ltb (length turns) MOST_SESSIONS room, le-leb (length turns + 1) (length turns + 1) (omega arith)) refl
 
 session_reads : (n : ℕ) (at : BundleSection) (servers tolerate : ℕ) (scripts : List Script) (spaces : List Draft)
-    (before : List (List ℕ)) (turns : List ℕ) (calls : ℕ) (rest : List ℕ) (a : Bundle) → MayBegin at spaces → length before < 16
+    (before : List (List ℕ)) (turns : List ℕ) (calls : ℕ) (rest : List ℕ) (a : Bundle) → MayBegin at spaces → length before < MOST_SESSIONS
     → ReadsAll (n + 1) (at_calls stages.Calls servers tolerate (map with_session spaces) (before ++ [] ∷ []) calls)
     (turns_text scripts (hands_of scripts (length before + 1)) turns ++ rest) a
     → ReadsAll n (at_calls at servers tolerate spaces before calls) (bundle_session_text scripts (length before + 1) turns ++ rest) a
@@ -118,8 +118,8 @@ calls_in sessions = sum_by (λ (turns : List ℕ). length turns) sessions
 
 -- the sessions that are left, of these spaces, behind so many that were read
 pub record AreLeft (scripts : List Script) (before left : List (List ℕ)) (calls : ℕ) : Type 0 where
-  pub few : length before + length left ≤ 16
-  pub few_calls : calls + calls_in left ≤ 16384
+  pub few : length before + length left ≤ MOST_SESSIONS
+  pub few_calls : calls + calls_in left ≤ MOST_CALLS
   pub names : NamesDiffer (map (λ (s : Script). s.space.name) scripts)
   pub spaces : All (λ (s : Script). IsSpace s.space) scripts
   pub fits : All (λ (s : Script). All (λ (ops : List Op). All (Fits s.space) ops) s.sessions) scripts
@@ -130,8 +130,8 @@ pub record AreLeft (scripts : List Script) (before left : List (List ℕ)) (call
 left_after : (scripts : List Script) (before : List (List ℕ)) (turns : List ℕ) (left : List (List ℕ)) (calls : ℕ)
     → AreLeft scripts before (turns ∷ left) calls → AreLeft scripts (before ++ turns ∷ []) left (calls + length turns)
 left_after scripts before turns left calls are =
-    let few : length before + length (turns ∷ left) ≤ 16 = are.few in
-    let few_calls : calls + calls_in (turns ∷ left) ≤ 16384 = are.few_calls in
+    let few : length before + length (turns ∷ left) ≤ MOST_SESSIONS = are.few in
+    let few_calls : calls + calls_in (turns ∷ left) ≤ MOST_CALLS = are.few_calls in
     let moved : (before ++ turns ∷ []) ++ left ≡ before ++ turns ∷ left = append_assoc before (turns ∷ []) left in
     record {
       few = omega (arith, few, length-append before (turns ∷ []));
@@ -204,7 +204,7 @@ may_play : (scripts : List Script) (seats : List Seat) (before : List (List ℕ)
 may_play scripts seats before turns left calls are counts of =
     let u : ℕ = length before in
     let begin : Seat → Hand = hand_of (u + 1) in
-    let few_calls : calls + calls_in (turns ∷ left) ≤ 16384 = of.few_calls in
+    let few_calls : calls + calls_in (turns ∷ left) ≤ MOST_CALLS = of.few_calls in
     let long : length (map begin seats) ≡ length scripts =
     length-map seats begin ∙ sym (length-map seats (λ (s : Seat). s.script)) ∙ ap (λ (l : List Script). length l) are in
     let fits : All (λ (s : Seat). All (λ (ops : List Op). All (Fits s.script.space) ops) s.script.sessions) seats =
@@ -336,7 +336,7 @@ sessions_read [] n at servers tolerate scripts spaces seats before calls rest a 
     (at_calls at servers tolerate spaces l (calls + calls_in [])) rest a) all (next at spaces seats here are seated_now)))
 sessions_read (turns ∷ left) n at servers tolerate scripts spaces seats before calls rest a here are seated of next =
     let u : ℕ = length before in
-    let few : length before + length (turns ∷ left) ≤ 16 = of.few in
+    let few : length before + length (turns ∷ left) ≤ MOST_SESSIONS = of.few in
     let hands : List Hand = map (hand_of (u + 1)) seats in
     let number : length (before ++ turns ∷ []) + 1 ≡ u + 1 + 1 = omega (arith, length-append before (turns ∷ [])) in
     let later : List ℕ = bundle_sessions_text scripts (u + 1 + 1) left ++ rest in

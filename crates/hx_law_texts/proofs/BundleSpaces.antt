@@ -1,11 +1,11 @@
 -- The lines of each space are read again.
-use Rattle.hx_law_texts.proofs.Vocabulary.{[], All, All-head, All-tail, ap, append-nil, append_assoc, ArePart, arith, Attribute, Axis, BoundsAreSayable}
-use Rattle.hx_law_texts.proofs.Vocabulary.{Bundle, bundle_line_of_toks, BundleDraft, BundleSection, bytes_eq, codes, decimal, Draft, false, flat_map}
-use Rattle.hx_law_texts.proofs.Vocabulary.{flat_map-cons, have_keys, Heading, heading_line, in_last_space, inl, inr, is_space, IsSpace, keyword_of}
-use Rattle.hx_law_texts.proofs.Vocabulary.{Kind, kind_line, le-leb, length, length-append, length-map, lines_of_space, List, list_any, lt-ltb, map, named_draft}
-use Rattle.hx_law_texts.proofs.Vocabulary.{NamesDiffer, Number, Ok, own_lines, pos, refl, region_count, Script, Section, signed_decimal, size_of}
-use Rattle.hx_law_texts.proofs.Vocabulary.{sizes_sum, slice_get, slice_set, Some, Space, spaces_line, subst, sum_by, sum_by-cons, sym, Tok, true, Word}
-use Rattle.hx_law_texts.proofs.Vocabulary.{ℕ, ◌*◌, ◌++◌, ◌+◌, ◌-◌, ◌<◌, ◌∙◌, ◌∷◌, ◌≡◌, ◌≤◌, ◌⊎◌}
+use Rattle.hx_law_texts.proofs.Vocabulary.{[], All, All-head, All-tail, ap, append-nil, append_assoc, ArePart, arith, Attribute, Axis, BoundsAreSayable, Bundle}
+use Rattle.hx_law_texts.proofs.Vocabulary.{bundle_line_of_toks, BundleDraft, BundleSection, bytes_eq, codes, decimal, Draft, false, flat_map, flat_map-cons}
+use Rattle.hx_law_texts.proofs.Vocabulary.{have_keys, Heading, heading_line, in_last_space, inl, inr, is_space, IsSpace, keyword_of, Kind, kind_line, le-leb}
+use Rattle.hx_law_texts.proofs.Vocabulary.{length, length-append, length-map, lines_of_space, List, list_any, lt-ltb, map, MOST_ATTRIBUTES, MOST_PARTS}
+use Rattle.hx_law_texts.proofs.Vocabulary.{MOST_REGIONS, MOST_SPACES, MOST_SUBSPACES, named_draft, NamesDiffer, Number, Ok, own_lines, pos, refl, region_count}
+use Rattle.hx_law_texts.proofs.Vocabulary.{Script, Section, signed_decimal, size_of, sizes_sum, slice_get, slice_set, Some, Space, spaces_line, subst, sum_by}
+use Rattle.hx_law_texts.proofs.Vocabulary.{sum_by-cons, sym, Tok, true, Word, ℕ, ◌*◌, ◌++◌, ◌+◌, ◌-◌, ◌<◌, ◌∙◌, ◌∷◌, ◌≡◌, ◌≤◌, ◌⊎◌}
 use Rattle.std.proofs.lemmas.List.{map-append}
 use Rattle.hx_types.specs.declared.spaces.Kind.TheVariants as kinds
 use Rattle.hx_print.specs.Printing.{attribute_line as attribute_text, axes_text, axis_text, bounds_text, int_line, key_line as key_text, next_axis_text}
@@ -84,15 +84,15 @@ abbrev pub MayName : BundleSection → List Draft → Type 0
 MayName at spaces = ((at ≡ stages.Naming) × (spaces ≡ [])) ⊎ ((at ≡ stages.Spaces) × (have_keys spaces ≡ true))
 
 space_toks : (n : ℕ) (at : BundleSection) (s : Space) (spaces : List Draft) → MayName at spaces → IsNamed s.name
-    → length spaces < 8 → list_any (is_space s.name) spaces ≡ false
+    → length spaces < MOST_SPACES → list_any (is_space s.name) spaces ≡ false
     → bundle_line_of_toks n (at_spaces at s.servers s.tolerate spaces) (Word (codes "space") ∷ Word s.name ∷ [])
     ≡ Ok (at_spaces stages.Spaces s.servers s.tolerate (spaces ++ named_draft s.servers s.tolerate s.name ∷ []))
 unfolding bundle_command behind_keys next_space_line new_space_name named
-space_toks n at s spaces (inl e) is room new = rw (e.0, lt-ltb (length spaces) 8 room, is.free, new, is.short) refl
-space_toks n at s spaces (inr e) is room new = rw (e.0, e.1, lt-ltb (length spaces) 8 room, is.free, new, is.short) refl
+space_toks n at s spaces (inl e) is room new = rw (e.0, lt-ltb (length spaces) MOST_SPACES room, is.free, new, is.short) refl
+space_toks n at s spaces (inr e) is room new = rw (e.0, e.1, lt-ltb (length spaces) MOST_SPACES room, is.free, new, is.short) refl
 
 space_reads : (n : ℕ) (at : BundleSection) (s : Space) (spaces : List Draft) (rest : List ℕ) (a : Bundle)
-    → MayName at spaces → IsSpace s → length spaces < 8 → list_any (is_space s.name) spaces ≡ false
+    → MayName at spaces → IsSpace s → length spaces < MOST_SPACES → list_any (is_space s.name) spaces ≡ false
     → ReadsAll (n + 1) (at_spaces stages.Spaces s.servers s.tolerate
     (spaces ++ named_draft s.servers s.tolerate s.name ∷ [])) rest a
     → ReadsAll n (at_spaces at s.servers s.tolerate spaces) (space_text s.name ++ rest) a
@@ -112,7 +112,7 @@ key_again : (s : Space) → IsNamed s.key_name → ArePart s.key_parts
     → heading_line (named_draft s.servers s.tolerate s.name) sections.Keying headings.Key
     (Word s.key_name ∷ Number (pos s.key_parts) ∷ []) ≡ Ok (attr_draft s [], [])
 unfolding key_line named name number_in
-key_again s is part = rw (is.free, is.short, le-leb 1 s.key_parts part.0, le-leb s.key_parts 256 part.1) refl
+key_again s is part = rw (is.free, is.short, le-leb 1 s.key_parts part.0, le-leb s.key_parts MOST_PARTS part.1) refl
 
 key_reads : (n : ℕ) (s : Space) (front : List Draft) (rest : List ℕ) (a : Bundle) → IsSpace s
     → ReadsAll (n + 1) (at_spaces stages.Spaces s.servers s.tolerate (front ++ attr_draft s [] ∷ [])) rest a
@@ -121,7 +121,7 @@ key_reads : (n : ℕ) (s : Space) (front : List Draft) (rest : List ℕ) (a : Bu
 unfolding key_text
 key_reads n s front rest a is next =
     let named : IsNamed s.key_name = a_name s.key_name is.key_name in
-    let high : s.key_parts ≤ 256 = is.key_parts.1 in
+    let high : s.key_parts ≤ MOST_PARTS = is.key_parts.1 in
     let tail : List ℕ = decimal s.key_parts ++ [] in
     let b : BundleDraft = at_spaces stages.Spaces s.servers s.tolerate (front ++ named_draft s.servers s.tolerate s.name ∷ []) in
     all_line_reads n b (at_spaces stages.Spaces s.servers s.tolerate (front ++ attr_draft s [] ∷ []))
@@ -141,13 +141,13 @@ string_again : (s : Space) (front : List Attribute) (w : List ℕ) → IsNext s 
     → heading_line (attr_draft s front) sections.Attributes headings.String (Word w ∷ [])
     ≡ Ok (attr_draft s (with_one front w kinds.Text), [])
 unfolding attribute_line string_attribute new_name named
-string_again s front w is = rw (lt-ltb (length front) 16 is.room, is.name.free, is.new, is.name.short) refl
+string_again s front w is = rw (lt-ltb (length front) MOST_ATTRIBUTES is.room, is.name.free, is.new, is.name.short) refl
 
 int_again : (s : Space) (front : List Attribute) (w : List ℕ) (lo hi : _) → IsNext s front w (kinds.Int lo hi)
     → heading_line (attr_draft s front) sections.Attributes headings.Int (Word w ∷ Number lo ∷ Number hi ∷ [])
     ≡ Ok (attr_draft s (with_one front w (kinds.Int lo hi)), [])
 unfolding attribute_line int_attribute new_name named number_from
-int_again s front w lo hi is = rw (lt-ltb (length front) 16 is.room, is.name.free, is.new, is.name.short, in_order lo hi is.kind) refl
+int_again s front w lo hi is = rw (lt-ltb (length front) MOST_ATTRIBUTES is.room, is.name.free, is.new, is.name.short, in_order lo hi is.kind) refl
 
 attribute_reads : (n : ℕ) (s : Space) (spaces : List Draft) (front : List Attribute) (w : List ℕ) (k : Kind) (rest : List ℕ) (a : Bundle) → IsNext s front w k
     → ReadsAll (n + 1) (at_spaces stages.Spaces s.servers s.tolerate
@@ -205,14 +205,14 @@ unfolding subspace_line
 cut_again at s front regions x left (inl e) is =
     rw (
       e,
-      lt-ltb (length front) 8 is.room,
+      lt-ltb (length front) MOST_SUBSPACES is.room,
       subspace_again x left s
           (cut_draft at s front regions).space regions is.left is.finds,
     ) refl
 cut_again at s front regions x left (inr e) is =
     rw (
       e,
-      lt-ltb (length front) 8 is.room,
+      lt-ltb (length front) MOST_SUBSPACES is.room,
       subspace_again x left s
           (cut_draft at s front regions).space regions is.left is.finds,
     ) refl
@@ -238,7 +238,7 @@ cut_reads n at s spaces front regions (x ∷ left) rest a here is next =
 
 cuts_read : (more : List (List Axis)) (n : ℕ) (at : Section) (s : Space) (spaces : List Draft)
     (front : List (List Axis)) (regions : ℕ) (rest : List ℕ) (a : Bundle) → MayCut at → IsSpace s
-    → front ++ more ≡ s.subspaces → regions + sizes_sum more ≤ 4096
+    → front ++ more ≡ s.subspaces → regions + sizes_sum more ≤ MOST_REGIONS
     → ReadsAll (n + length more) (at_spaces stages.Spaces s.servers s.tolerate
     (spaces ++ cut_draft (cut_to at more) s s.subspaces (regions + sizes_sum more) ∷ [])) rest a
     → ReadsAll n (at_spaces stages.Spaces s.servers s.tolerate (spaces ++ cut_draft at s front regions ∷ []))
@@ -257,7 +257,7 @@ cuts_read (axes ∷ more) n at s spaces front regions rest a here is split room 
     ap (λ (x : List ℕ). x ++ rest) (flat_map-cons (subspace_text s) axes more)
     ∙ append_assoc (subspace_text s axes) (flat_map (subspace_text s) more) rest in
     let k : n + length (axes ∷ more) ≡ n + 1 + length more = omega arith in
-    let all_of : regions + (size_of axes + sizes_sum more) ≤ 4096 = room in
+    let all_of : regions + (size_of axes + sizes_sum more) ≤ MOST_REGIONS = room in
     let r : regions + (size_of axes + sizes_sum more) ≡ regions + size_of axes + sizes_sum more = omega arith in
     let moved : (front ++ axes ∷ []) ++ more ≡ s.subspaces = append_assoc front (axes ∷ []) more ∙ split in
     let here_on : cut_to sections.Subspaces more ≡ sections.Subspaces = stays more in
@@ -288,7 +288,7 @@ own_parts a b c d r = simp append_assoc
 
 own_reads : (n : ℕ) (at : BundleSection) (s : Space) (spaces : List Draft) (rest : List ℕ) (a : Bundle)
     → MayName at spaces → IsSpace s → All (λ (x : Attribute). BoundsAreSayable x.kind) s.attributes
-    → length spaces < 8 → list_any (is_space s.name) spaces ≡ false
+    → length spaces < MOST_SPACES → list_any (is_space s.name) spaces ≡ false
     → ReadsAll (n + (length s.attributes + length s.subspaces + 2))
     (at_spaces stages.Spaces s.servers s.tolerate
     (spaces ++ cut_draft (cut_to sections.Attributes s.subspaces) s s.subspaces
@@ -296,7 +296,7 @@ own_reads : (n : ℕ) (at : BundleSection) (s : Space) (spaces : List Draft) (re
     → ReadsAll n (at_spaces at s.servers s.tolerate spaces) (own_text s ++ rest) a
 unfolding own_text
 own_reads n at s spaces rest a here is bounds room new next =
-    let few : s.key_parts + sizes_sum s.subspaces ≤ 4096 = rw (all_regions s) is.regions in
+    let few : s.key_parts + sizes_sum s.subspaces ≤ MOST_REGIONS = rw (all_regions s) is.regions in
     let cuts : List ℕ = flat_map (subspace_text s) s.subspaces ++ rest in
     let attributes : List ℕ = flat_map attribute_text s.attributes ++ cuts in
     let k : n + (length s.attributes + length s.subspaces + 2) ≡ n + 1 + 1 + length s.attributes + length s.subspaces = omega arith in
@@ -337,7 +337,7 @@ name_in s = s.space.name
 
 -- the lines of one more space
 own_step : (n : ℕ) (at : BundleSection) (servers tolerate : ℕ) (front : List Script) (s : Script) (rest : List ℕ)
-    (a : Bundle) → MayName at (map whole front) → IsSaid servers tolerate s → length (map whole front) < 8
+    (a : Bundle) → MayName at (map whole front) → IsSaid servers tolerate s → length (map whole front) < MOST_SPACES
     → list_any (is_space s.space.name) (map whole front) ≡ false
     → ReadsAll (n + lines_of_space s) (at_spaces stages.Spaces servers tolerate (map whole (front ++ s ∷ []))) rest a
     → ReadsAll n (at_spaces at servers tolerate (map whole front)) (own_lines s ++ rest) a
@@ -360,7 +360,7 @@ own_step n at servers tolerate front s rest a here is room new next =
 
 -- those of the spaces that are left, behind a first one
 spaces_on : (more : List Script) (n servers tolerate : ℕ) (front : List Script) (rest : List ℕ) (a : Bundle)
-    → All (IsSaid servers tolerate) more → NamesDiffer (map name_in (front ++ more)) → length front + length more ≤ 8
+    → All (IsSaid servers tolerate) more → NamesDiffer (map name_in (front ++ more)) → length front + length more ≤ MOST_SPACES
     → ReadsAll (n + sum_by lines_of_space more) (at_spaces stages.Spaces servers tolerate (map whole (front ++ more)))
     rest a → ReadsAll n (at_spaces stages.Spaces servers tolerate (map whole front)) (flat_map own_lines more ++ rest) a
 spaces_on [] n servers tolerate front rest a said differ few next =
@@ -387,7 +387,7 @@ spaces_on (s ∷ more) n servers tolerate front rest a said differ few next =
 
 -- those of all spaces
 pub spaces_read : (s : Script) (more : List Script) (n servers tolerate : ℕ) (rest : List ℕ) (a : Bundle)
-    → All (IsSaid servers tolerate) (s ∷ more) → NamesDiffer (map name_in (s ∷ more)) → length (s ∷ more) ≤ 8
+    → All (IsSaid servers tolerate) (s ∷ more) → NamesDiffer (map name_in (s ∷ more)) → length (s ∷ more) ≤ MOST_SPACES
     → ReadsAll (n + sum_by lines_of_space (s ∷ more))
     (at_spaces stages.Spaces servers tolerate (map whole (s ∷ more))) rest a
     → ReadsAll n (at_spaces stages.Naming servers tolerate []) (flat_map own_lines (s ∷ more) ++ rest) a

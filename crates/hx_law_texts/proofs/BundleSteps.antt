@@ -1,10 +1,10 @@
 -- The steps of a bundle are read again, up to the end of the text.
-use Rattle.hx_law_texts.proofs.Vocabulary.{[], All, All-head, All-tail, ap, append-nil, append_assoc, arith, Bundle, bundle_line_of_toks}
-use Rattle.hx_law_texts.proofs.Vocabulary.{bundle_steps_from, BundleDraft, BundleSection, BundleStep, bytes_eq, codes, decimal, Deliver, Draft, false, flat_map}
-use Rattle.hx_law_texts.proofs.Vocabulary.{flat_map-cons, Halt, inl, inr, is_space, IsName, IsWord, keyword_of, length, length-append, List, lt-ltb}
-use Rattle.hx_law_texts.proofs.Vocabulary.{map, NamesDiffer, Number, Ok, pos, position_or_len, refl, same_Some, Script, script_so_far, Sign}
-use Rattle.hx_law_texts.proofs.Vocabulary.{slice_get, slice_get_within, Some, Step, step, StepIsSayable, StepWord, subst, suc, sym, Tick, Tok, true, Word, zero}
-use Rattle.hx_law_texts.proofs.Vocabulary.{ℕ, ◌++◌, ◌+◌, ◌<◌, ◌^◌, ◌∙◌, ◌∷◌, ◌≡◌, ◌≤◌}
+use Rattle.hx_law_texts.proofs.Vocabulary.{[], All, All-head, All-tail, ap, append-nil, append_assoc, arith, Bundle, bundle_line_of_toks, bundle_steps_from}
+use Rattle.hx_law_texts.proofs.Vocabulary.{BundleDraft, BundleSection, BundleStep, bytes_eq, codes, decimal, Deliver, Draft, false, flat_map, flat_map-cons}
+use Rattle.hx_law_texts.proofs.Vocabulary.{Halt, inl, inr, is_space, IsName, IsWord, keyword_of, length, length-append, List, lt-ltb, map, MOST_SERVERS}
+use Rattle.hx_law_texts.proofs.Vocabulary.{MOST_SESSIONS, MOST_STEPS, NamesDiffer, Number, Ok, pos, position_or_len, refl, same_Some, Script, script_so_far}
+use Rattle.hx_law_texts.proofs.Vocabulary.{Sign, slice_get, slice_get_within, Some, Step, step, StepIsSayable, StepWord, subst, suc, sym, Tick, Tok, true, Word}
+use Rattle.hx_law_texts.proofs.Vocabulary.{zero, ℕ, ◌++◌, ◌+◌, ◌<◌, ◌^◌, ◌∙◌, ◌∷◌, ◌≡◌, ◌≤◌}
 use Rattle.hx_print.specs.Printing.{actor_text, post_name}
 use Rattle.hx_print.specs.BundlePrinting.{bundle_steps_text, space_step_line as step_text, step_line_in, step_rest, step_word}
 use Rattle.hx_script.specs.declared.bundle_draft.BundleSection.TheVariants as stages
@@ -36,7 +36,8 @@ rest_toks (Halt a) = Word (actor_text a) ∷ []
 post_parts : (e d p : List ℕ) → (e ++ d ++ p) ++ [] ≡ e ++ (d ++ (p ++ []))
 post_parts e d p = simp append_assoc
 
-rest_says : (servers sessions : ℕ) (x : Step) → servers ≤ 16 → sessions ≤ 16 → StepIsSayable servers sessions x → Says (rest_toks x) (step_rest x ++ [])
+rest_says : (servers sessions : ℕ) (x : Step) → servers ≤ MOST_SERVERS → sessions ≤ MOST_SESSIONS
+    → StepIsSayable servers sessions x → Says (rest_toks x) (step_rest x ++ [])
 unfolding step_rest post_name
 rest_says servers sessions (Deliver id) f g is =
     let place : id.place < 2 ^ 63 = in_range id.place is.place in
@@ -51,7 +52,7 @@ rest_says servers sessions (Deliver id) f g is =
 rest_says servers sessions (Tick a) f g is = word_says (actor_text a) [] [] (actor_is_word servers sessions a f g is) refl nil_says
 rest_says servers sessions (Halt a) f g is = word_says (actor_text a) [] [] (actor_is_word servers sessions a f g is) refl nil_says
 
-rest_again : (servers sessions : ℕ) (x : Step) → servers ≤ 16 → sessions ≤ 16 → StepIsSayable servers sessions x
+rest_again : (servers sessions : ℕ) (x : Step) → servers ≤ MOST_SERVERS → sessions ≤ MOST_SESSIONS → StepIsSayable servers sessions x
     → step servers sessions (word_of x) (rest_toks x) ≡ Ok (x, [])
 rest_again servers sessions (Deliver id) f g is = deliver_again id is
 rest_again servers sessions (Tick a) f g is = tick_again servers sessions a f g is
@@ -111,7 +112,7 @@ pub record IsSaidStep (servers sessions : ℕ) (spaces : List Draft) (s : Bundle
 
 step_toks : (n servers tolerate : ℕ) (spaces : List Draft) (turns : List (List ℕ)) (calls : ℕ)
     (front : List BundleStep) (s : BundleStep) (is : IsSaidStep servers (length turns) spaces s)
-    → NamesDiffer (map name_of spaces) → servers ≤ 16 → length turns ≤ 16 → length front < 65536
+    → NamesDiffer (map name_of spaces) → servers ≤ MOST_SERVERS → length turns ≤ MOST_SESSIONS → length front < MOST_STEPS
     → bundle_line_of_toks n (stepping servers tolerate spaces turns calls front)
     (Word (step_word s.step) ∷ Word (name_of is.draft) ∷ rest_toks s.step)
     ≡ Ok (stepping servers tolerate spaces turns calls (front ++ record s { line = n } ∷ []))
@@ -119,7 +120,7 @@ unfolding bundle_command space_step_line
 step_toks n servers tolerate spaces turns calls front s is differ f g room =
     rw (
       keyword_is s.step,
-      lt-ltb (length front) 65536 room,
+      lt-ltb (length front) MOST_STEPS room,
       name_takes spaces s.space is.draft (rest_toks s.step) differ is.here (a_name (name_of is.draft) is.name),
       rest_again servers (length turns) s.step f g is.step,
     ) refl
@@ -129,8 +130,8 @@ step_parts w x r n t = simp (append_assoc, append-nil)
 
 step_reads : (n servers tolerate : ℕ) (spaces : List Draft) (turns : List (List ℕ)) (calls : ℕ)
     (front : List BundleStep) (s : BundleStep) (rest : List ℕ) (a : Bundle)
-    (is : IsSaidStep servers (length turns) spaces s) → NamesDiffer (map name_of spaces) → servers ≤ 16
-    → length turns ≤ 16 → length front < 65536
+    (is : IsSaidStep servers (length turns) spaces s) → NamesDiffer (map name_of spaces) → servers ≤ MOST_SERVERS
+    → length turns ≤ MOST_SESSIONS → length front < MOST_STEPS
     → ReadsAll (n + 1) (stepping servers tolerate spaces turns calls (front ++ record s { line = n + 1 } ∷ [])) rest a
     → ReadsAll n (stepping servers tolerate spaces turns calls front) (step_text (name_of is.draft) s.step ++ rest) a
 unfolding step_text
@@ -182,8 +183,8 @@ pub record IsToldStep (servers sessions : ℕ) (scripts : List Script) (spaces :
 
 steps_left : (left : List BundleStep) (n servers tolerate : ℕ) (scripts : List Script) (spaces : List Draft)
     (turns : List (List ℕ)) (calls : ℕ) (front : List BundleStep)
-    → All (IsToldStep servers (length turns) scripts spaces) left → NamesDiffer (map name_of spaces) → servers ≤ 16
-    → length turns ≤ 16 → length front + length left ≤ 65536
+    → All (IsToldStep servers (length turns) scripts spaces) left → NamesDiffer (map name_of spaces) → servers ≤ MOST_SERVERS
+    → length turns ≤ MOST_SESSIONS → length front + length left ≤ MOST_STEPS
     → ReadsAll n (stepping servers tolerate spaces turns calls front) (flat_map (step_line_in scripts) left)
     (ended spaces turns (front ++ bundle_steps_from (n + 1) left))
 steps_left [] n servers tolerate scripts spaces turns calls front told differ f g few =
@@ -211,8 +212,8 @@ steps_left (s ∷ left) n servers tolerate scripts spaces turns calls front told
 -- the last section, which is left out where there are no steps
 pub steps_read : (steps : List BundleStep) (n : ℕ) (at : BundleSection) (servers tolerate : ℕ) (scripts : List Script)
     (spaces : List Draft) (turns : List (List ℕ)) (calls : ℕ) → MayBegin at spaces
-    → All (IsToldStep servers (length turns) scripts spaces) steps → NamesDiffer (map name_of spaces) → servers ≤ 16
-    → length turns ≤ 16 → length steps ≤ 65536
+    → All (IsToldStep servers (length turns) scripts spaces) steps → NamesDiffer (map name_of spaces) → servers ≤ MOST_SERVERS
+    → length turns ≤ MOST_SESSIONS → length steps ≤ MOST_STEPS
     → ReadsAll n (at_calls at servers tolerate spaces turns calls) (bundle_steps_text scripts steps) (ended spaces turns (bundle_steps_from (n + 1 + 1) steps))
 unfolding bundle_steps_text
 steps_read [] n at servers tolerate scripts spaces turns calls here told differ f g few = nothing_left n at servers tolerate spaces turns calls here

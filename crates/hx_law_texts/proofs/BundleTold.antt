@@ -1,10 +1,11 @@
 -- A bundle that is read can be said.
 use Rattle.hx_law_texts.proofs.Vocabulary.{[], All, All-cons, All-map, All-nil, All-push, All-set, All-weaker, all_at, Attribute, Bool, BoundsAreSayable}
 use Rattle.hx_law_texts.proofs.Vocabulary.{Bundle, bundle_line_of, bundle_line_of_toks, bundle_of, BundleDraft, BundleSection, BundleStep, CallIsSayable}
-use Rattle.hx_law_texts.proofs.Vocabulary.{CallWord, cond, Deliver, Draft, empty_bundle_draft, Err, false, Halt, have_keys, Heading, heading_line}
-use Rattle.hx_law_texts.proofs.Vocabulary.{in_space, is_space, IsSayableBundle, IsSayableScript, Keyword, keyword_of, length, Limit, lines_of}
-use Rattle.hx_law_texts.proofs.Vocabulary.{List, list_any, map, min, named_draft, nat_le, nat_lt, None, not, Ok, ok_is, on_ok_ok, Op, Option, Order}
-use Rattle.hx_law_texts.proofs.Vocabulary.{PostIsSayable, push_to_last, Reader, refl, Result, Script, script_of, script_so_far, ScriptError, Section}
+use Rattle.hx_law_texts.proofs.Vocabulary.{CallWord, cond, Deliver, Draft, empty_bundle_draft, Err, false, Halt, have_keys, Heading, heading_line, in_space}
+use Rattle.hx_law_texts.proofs.Vocabulary.{is_space, IsSayableBundle, IsSayableScript, Keyword, keyword_of, length, Limit, lines_of, List, list_any}
+use Rattle.hx_law_texts.proofs.Vocabulary.{LONGEST_NAME, map, min, MOST_ATTRIBUTES, MOST_CALLS, MOST_FAILURES, MOST_PARTS, MOST_SERVERS, MOST_SESSIONS}
+use Rattle.hx_law_texts.proofs.Vocabulary.{MOST_SPACES, MOST_STEPS, MOST_SUBSPACES, named_draft, nat_le, nat_lt, None, not, Ok, ok_is, on_ok_ok, Op, Option}
+use Rattle.hx_law_texts.proofs.Vocabulary.{Order, PostIsSayable, push_to_last, Reader, refl, Result, Script, script_of, script_so_far, ScriptError, Section}
 use Rattle.hx_law_texts.proofs.Vocabulary.{slice_get, slice_set, Some, Space, spaces_line, Step, StepIsSayable, StepWord, subst, Tick, Tok, tokens_of}
 use Rattle.hx_law_texts.proofs.Vocabulary.{toks_from, true, Twice, version_of, with_session, ℕ, ◌++◌, ◌+◌, ◌-◌, ◌==◌, ◌∷◌, ◌≡◌, ◌≤◌}
 use Rattle.hx_script.specs.declared.bundle_draft.BundleSection.TheVariants as stages
@@ -33,7 +34,7 @@ pub record SpaceSaid (d : Draft) : Type 0 where
 
 tells_key : (d : Draft) → SpaceSaid d → Tells (key_line d) SpaceSaid
 unfolding key_line
-tells_key d so = tells_then Any tells_name (λ w i. tells_then (λ n. n ≤ 256) (tells_number_in 1 256)
+tells_key d so = tells_then Any tells_name (λ w i. tells_then (λ n. n ≤ MOST_PARTS) (tells_number_in 1 MOST_PARTS)
     (λ n h. tells_then Any tells_end (λ u t. tells_give
     (record d { section = sections.Attributes; regions = n; space = record d.space { key_name = w; key_parts = n } })
     (record { bounds = so.bounds; calls = so.calls }))))
@@ -41,14 +42,14 @@ tells_key d so = tells_then Any tells_name (λ w i. tells_then (λ n. n ≤ 256)
 tells_attribute : (d : Draft) (attribute : Space → Reader Attribute) → SpaceSaid d
     → Tells (attribute d.space) IsBounded → Tells (attribute_line d attribute) SpaceSaid
 unfolding attribute_line
-tells_attribute d attribute so y = tells_then Any (tells_check (nat_lt (length d.space.attributes) 16) Limit)
+tells_attribute d attribute so y = tells_then Any (tells_check (nat_lt (length d.space.attributes) MOST_ATTRIBUTES) Limit)
     (λ u room. tells_then IsBounded y (λ a n. tells_give
     (record d { space = record d.space { attributes = d.space.attributes ++ a ∷ [] } })
     (record { bounds = All-push IsBounded d.space.attributes a so.bounds n; calls = so.calls })))
 
 tells_subspace_line : (d : Draft) → SpaceSaid d → Tells (subspace_line d) SpaceSaid
 unfolding subspace_line
-tells_subspace_line d so = tells_then Any (tells_check (nat_lt (length d.space.subspaces) 8) Limit)
+tells_subspace_line d so = tells_then Any (tells_check (nat_lt (length d.space.subspaces) MOST_SUBSPACES) Limit)
     (λ u room. tells_then Any (tells_subspace d.space d.regions)
     (λ x f. tells_give (record d {
       section = sections.Subspaces;
@@ -59,7 +60,7 @@ tells_subspace_line d so = tells_then Any (tells_check (nat_lt (length d.space.s
 
 tells_call_line : (d : Draft) (w : CallWord) → SpaceSaid d → Tells (call_line d w) SpaceSaid
 unfolding call_line
-tells_call_line d w so = tells_then Any (tells_check (nat_lt d.calls 16384) Limit)
+tells_call_line d w so = tells_then Any (tells_check (nat_lt d.calls MOST_CALLS) Limit)
     (λ u room. tells_then CallIsSayable (tells_call d.space d.regions w)
     (λ op f. tells_give (record d { sessions = push_to_last d.sessions op; calls = d.calls + 1 })
     (record { bounds = so.bounds; calls = all_last CallIsSayable d.sessions op so.calls f })))
@@ -107,13 +108,13 @@ tells_second_hx b so = tells_then (λ n. n ≤ 2) (tells_number_in 2 2)
 
 tells_all_servers : (b : BundleDraft) → AllSaid b → Tells (all_servers_line b) AllSaid
 unfolding all_servers_line
-tells_all_servers b so = tells_then (λ n. n ≤ 16) (tells_number_in 1 16)
+tells_all_servers b so = tells_then (λ n. n ≤ MOST_SERVERS) (tells_number_in 1 MOST_SERVERS)
     (λ n h. tells_then Any tells_end (λ u t. tells_give (record b { section = stages.Tolerance; servers = n })
     (record { spaces = so.spaces; steps = so.steps })))
 
 tells_all_tolerate : (b : BundleDraft) → AllSaid b → Tells (all_tolerate_line b) AllSaid
 unfolding all_tolerate_line
-tells_all_tolerate b so = tells_then (λ n. n ≤ min (b.servers - 1) 4) (tells_number_in 0 (min (b.servers - 1) 4))
+tells_all_tolerate b so = tells_then (λ n. n ≤ min (b.servers - 1) MOST_FAILURES) (tells_number_in 0 (min (b.servers - 1) MOST_FAILURES))
     (λ n h. tells_then Any tells_end (λ u t. tells_give (record b { section = stages.Naming; tolerate = n })
     (record { spaces = so.spaces; steps = so.steps })))
 
@@ -121,14 +122,14 @@ tells_new_space : (spaces : List Draft) → Tells (new_space_name spaces) Any
 unfolding new_space_name
 tells_new_space spaces = tells_then Any tells_named
     (λ w m. tells_then Any (tells_check (not (list_any (is_space w) spaces)) Twice)
-    (λ u n. tells_then Any (tells_check (nat_le (length w) 32) Limit) (λ u h. tells_give w tt)))
+    (λ u n. tells_then Any (tells_check (nat_le (length w) LONGEST_NAME) Limit) (λ u h. tells_give w tt)))
 
 nothing_said : (servers tolerate : ℕ) (w : List ℕ) → SpaceSaid (named_draft servers tolerate w)
 nothing_said servers tolerate w = record { bounds = All-nil (λ (a : Attribute). BoundsAreSayable a.kind); calls = All-nil (All CallIsSayable) }
 
 tells_next_space : (b : BundleDraft) → AllSaid b → Tells (next_space_line b) AllSaid
 unfolding next_space_line
-tells_next_space b so = tells_then Any (tells_check (nat_lt (length b.spaces) 8) Limit)
+tells_next_space b so = tells_then Any (tells_check (nat_lt (length b.spaces) MOST_SPACES) Limit)
     (λ u room. tells_then Any (tells_new_space b.spaces)
     (λ w n. tells_then Any tells_end (λ u t. tells_give
     (record b { section = stages.Spaces; spaces = b.spaces ++ named_draft b.servers b.tolerate w ∷ [] })
@@ -146,7 +147,7 @@ session_said d so = record { bounds = so.bounds; calls = All-push (All CallIsSay
 
 tells_next_session : (b : BundleDraft) → AllSaid b → Tells (next_session_line b) AllSaid
 unfolding next_session_line
-tells_next_session b so = tells_then Any (tells_check (nat_lt (length b.turns) 16) Limit)
+tells_next_session b so = tells_then Any (tells_check (nat_lt (length b.turns) MOST_SESSIONS) Limit)
     (λ u room. tells_then (λ n. n ≤ length b.turns + 1) (tells_number_in (length b.turns + 1) (length b.turns + 1))
     (λ n h. tells_then Any tells_end (λ u t. tells_give
     (record b { section = stages.Calls; spaces = map with_session b.spaces; turns = b.turns ++ [] ∷ [] })
@@ -166,7 +167,7 @@ tells_space_named spaces = tells_then Any tells_named (λ w u. record { at = λ 
 
 tells_space_call : (b : BundleDraft) (c : CallWord) → AllSaid b → Tells (space_call_line b c) AllSaid
 unfolding space_call_line
-tells_space_call b c so = tells_then Any (tells_check (nat_lt b.calls 16384) Limit)
+tells_space_call b c so = tells_then Any (tells_check (nat_lt b.calls MOST_CALLS) Limit)
     (λ u room. tells_then Any (tells_space_named b.spaces)
     (λ k n. tells_then (All SpaceSaid) (tells_in_space b.spaces k (λ d. call_line d c) so.spaces
     (λ d said. tells_call_line d c said)) (λ spaces all. tells_give
@@ -180,7 +181,7 @@ post_said servers sessions (Halt a) h = tt
 
 tells_space_step : (n : ℕ) (b : BundleDraft) (w : StepWord) → AllSaid b → Tells (space_step_line n b w) AllSaid
 unfolding space_step_line
-tells_space_step n b w so = tells_then Any (tells_check (nat_lt (length b.steps) 65536) Limit)
+tells_space_step n b w so = tells_then Any (tells_check (nat_lt (length b.steps) MOST_STEPS) Limit)
     (λ u room. tells_then Any (tells_space_named b.spaces)
     (λ k m. tells_then (StepIsSayable b.servers (length b.turns)) (tells_step b.servers (length b.turns) w)
     (λ s h. tells_give (record b { steps = b.steps ++ record { line = n; space = k; step = s } ∷ [] })

@@ -2,7 +2,7 @@
 use Rattle.hx_law_texts.proofs.Vocabulary.{[], Add, All, All-head, All-set, All-tail, All-weaker, all_at, ap, append-nil, append_assoc, arith, Atomic}
 use Rattle.hx_law_texts.proofs.Vocabulary.{begins_with, Bool, Bundle, bundle_line_of_toks, BundleDraft, bytes_eq, bytes_eq-Decides, CallIsSayable, codes, Cput}
 use Rattle.hx_law_texts.proofs.Vocabulary.{Del, Draft, eqb, false, Fits, flat_map-cons, Get, if_some_at, IfSome, in_space, is_space, is_word_part, IsSpace}
-use Rattle.hx_law_texts.proofs.Vocabulary.{IsWord, keyword_of, length, length-map, List, lt-ltb, map, NamesDiffer, ne_eqb, Ok, Op, op_word}
+use Rattle.hx_law_texts.proofs.Vocabulary.{IsWord, keyword_of, length, length-map, List, lt-ltb, map, MOST_CALLS, NamesDiffer, ne_eqb, Ok, Op, op_word}
 use Rattle.hx_law_texts.proofs.Vocabulary.{option_map, placed_all, position_or_len, push_to_last_is, Put, refl, region_count, same_Some, Script, Search}
 use Rattle.hx_law_texts.proofs.Vocabulary.{slice_get, slice_get-map, slice_get_within, slice_set, Some, some_here, Space, Stop, subst, suc, sym, times, Tok}
 use Rattle.hx_law_texts.proofs.Vocabulary.{true, Word, zero, ℕ, ◌++◌, ◌+◌, ◌<◌, ◌∙◌, ◌∷◌, ◌≡◌, ◌≤◌}
@@ -118,13 +118,13 @@ rest_stops s (Add server region) = refl
 rest_stops s (Atomic key edits) = refl
 
 draft_takes : (h : Hand) (op : Op) (rest : List Op) → IsSpace h.script.space → Fits h.script.space op
-    → CallIsSayable op → h.count < 16384 → call_line (draft_of h) (word_of op) (rest_toks h.script.space op)
+    → CallIsSayable op → h.count < MOST_CALLS → call_line (draft_of h) (word_of op) (rest_toks h.script.space op)
     ≡ Ok (draft_of (with_call h op rest), [])
 unfolding call_line
-draft_takes h op rest is fits said room = rw (lt-ltb h.count 16384 room, rest_again h.script.space op is fits said, push_to_last_is h.front h.done op) refl
+draft_takes h op rest is fits said room = rw (lt-ltb h.count MOST_CALLS room, rest_again h.script.space op is fits said, push_to_last_is h.front h.done op) refl
 
 space_takes : (hands : List Hand) (k : ℕ) (h : Hand) (op : Op) (rest : List Op) → slice_get hands k ≡ Some h
-    → IsSpace h.script.space → Fits h.script.space op → CallIsSayable op → h.count < 16384
+    → IsSpace h.script.space → Fits h.script.space op → CallIsSayable op → h.count < MOST_CALLS
     → in_space (map draft_of hands) k (λ d. call_line d (word_of op)) (rest_toks h.script.space op)
     ≡ Ok (map draft_of (slice_set hands k (with_call h op rest)), [])
 space_takes hands k h op rest at is fits said room =
@@ -140,7 +140,7 @@ name_takes hands k h ts differ at is =
 
 call_toks : (n servers tolerate : ℕ) (hands : List Hand) (front : List (List ℕ)) (turns : List ℕ) (calls k : ℕ)
     (h : Hand) (op : Op) (rest : List Op) → slice_get hands k ≡ Some h → NamesDiffer (map hand_name hands)
-    → IsSpace h.script.space → Fits h.script.space op → CallIsSayable op → h.count < 16384 → calls < 16384
+    → IsSpace h.script.space → Fits h.script.space op → CallIsSayable op → h.count < MOST_CALLS → calls < MOST_CALLS
     → bundle_line_of_toks n (called servers tolerate hands front turns calls)
     (Word (op_word op) ∷ Word (hand_name h) ∷ rest_toks h.script.space op)
     ≡ Ok (called servers tolerate (slice_set hands k (with_call h op rest)) front (turns ++ k ∷ []) (calls + 1))
@@ -148,7 +148,7 @@ unfolding bundle_command space_call_line
 call_toks n servers tolerate hands front turns calls k h op rest at differ is fits said few room =
     rw (
       keyword_is op,
-      lt-ltb calls 16384 room,
+      lt-ltb calls MOST_CALLS room,
       name_takes hands k h (rest_toks h.script.space op) differ at
           (a_name (hand_name h) is.name),
       space_takes hands k h op rest at is fits said few,
@@ -169,7 +169,7 @@ call_says s op is fits said =
 pub call_reads : (n servers tolerate : ℕ) (hands : List Hand) (front : List (List ℕ)) (turns : List ℕ) (calls k : ℕ)
     (h : Hand) (op : Op) (rest : List Op) (text : List ℕ) (a : Bundle) → slice_get hands k ≡ Some h
     → NamesDiffer (map hand_name hands) → IsSpace h.script.space → Fits h.script.space op → CallIsSayable op
-    → h.count < 16384 → calls < 16384
+    → h.count < MOST_CALLS → calls < MOST_CALLS
     → ReadsAll (n + 1) (called servers tolerate (slice_set hands k (with_call h op rest)) front (turns ++ k ∷ [])
     (calls + 1)) text a → ReadsAll n (called servers tolerate hands front turns calls) (call_text h.script.space op ++ text) a
 unfolding call_text
@@ -193,7 +193,7 @@ script_of_hand h = h.script
 
 -- what may be played: each turn has a call left in its space, and there is room
 pub record MayPlay (hands : List Hand) (turns : List ℕ) (calls : ℕ) : Type 0 where
-  pub few : calls + length turns ≤ 16384
+  pub few : calls + length turns ≤ MOST_CALLS
   pub counts : All (λ (h : Hand). h.count ≤ calls) hands
   pub names : NamesDiffer (map hand_name hands)
   pub spaces : All (λ (h : Hand). IsSpace h.script.space) hands
@@ -237,7 +237,7 @@ may_go_on : (hands : List Hand) (k : ℕ) (turns : List ℕ) (calls : ℕ) (x : 
 may_go_on hands k turns calls x may =
     let h : Hand = x.hand in
     let next : Hand = with_call h x.op x.rest in
-    let few : calls + length (k ∷ turns) ≤ 16384 = may.few in
+    let few : calls + length (k ∷ turns) ≤ MOST_CALLS = may.few in
     let count : h.count ≤ calls = all_at (λ (y : Hand). y.count ≤ calls) hands k h may.counts x.here in
     let fits : All (Fits h.script.space) (x.op ∷ x.rest) =
     subst (All (Fits h.script.space)) x.left (all_at
@@ -324,7 +324,7 @@ turns_read (k ∷ turns) n servers tolerate spaces hands front made calls rest a
     (λ (y : Hand). All (Fits y.script.space) y.left) hands k h may.fits x.here) in
     let said : All CallIsSayable (x.op ∷ x.rest) =
     subst (All CallIsSayable) x.left (all_at (λ (y : Hand). All CallIsSayable y.left) hands k h may.said x.here) in
-    let few : calls + length (k ∷ turns) ≤ 16384 = may.few in
+    let few : calls + length (k ∷ turns) ≤ MOST_CALLS = may.few in
     let count : h.count ≤ calls = all_at (λ (y : Hand). y.count ≤ calls) hands k h may.counts x.here in
     let more : ReadsAll (n + 1) (called servers tolerate hands_now front (made ++ k ∷ []) (calls + 1)) later a =
     turns_read turns (n + 1) servers tolerate spaces hands_now front (made ++ k ∷ []) (calls + 1) rest a (may_go_on hands k turns calls x may) (scripts ∙ are)

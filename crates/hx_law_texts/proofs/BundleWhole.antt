@@ -1,12 +1,12 @@
 -- A whole bundle is read again.
 use Rattle.hx_law_texts.proofs.Vocabulary.{[], All, All-head, All-map, All-tail, All-weaker, all_at, AllZip, ap, append_assoc, AreDealt, arith, Bundle}
 use Rattle.hx_law_texts.proofs.Vocabulary.{bundle_of, bundle_steps_from, BundleStep, codes, Coordinator, decimal, decimal_digit, Deliver, Draft}
-use Rattle.hx_law_texts.proofs.Vocabulary.{empty_bundle_draft, first_bundle_step_line, Fits, flat_map, Halt, if_some_at, inl, IsBundle, IsName}
-use Rattle.hx_law_texts.proofs.Vocabulary.{IsSayableBundle, IsScript, IsSomeAnd, IsSpace, IsStepIn, IsUpTo, length, lines_of_space, List, lit<, map}
-use Rattle.hx_law_texts.proofs.Vocabulary.{NamesDiffer, None, Number, Ok, on_printed_bundle_lines, Op, Option, option_map, own_lines, placed_all, pos}
-use Rattle.hx_law_texts.proofs.Vocabulary.{PostIsSayable, refl, region_count, same_Some, Script, script_so_far, Server, Session, sizes_sum, slice_get}
-use Rattle.hx_law_texts.proofs.Vocabulary.{slice_get-map, Some, some_here, Space, Step, StepIsSayable, subst, sum_by, sym, take, Tick, version_of}
-use Rattle.hx_law_texts.proofs.Vocabulary.{with_session, Word, ℕ, ◌*◌, ◌++◌, ◌+◌, ◌<◌, ◌∙◌, ◌∷◌, ◌≡◌, ◌≤◌}
+use Rattle.hx_law_texts.proofs.Vocabulary.{empty_bundle_draft, first_bundle_step_line, Fits, flat_map, Halt, if_some_at, inl, IsBundle, IsName, IsSayableBundle}
+use Rattle.hx_law_texts.proofs.Vocabulary.{IsScript, IsSomeAnd, IsSpace, IsStepIn, IsUpTo, length, lines_of_space, List, lit<, map, MOST_SERVERS, MOST_SESSIONS}
+use Rattle.hx_law_texts.proofs.Vocabulary.{MOST_SPACES, NamesDiffer, None, Number, Ok, on_printed_bundle_lines, Op, Option, option_map, own_lines, placed_all}
+use Rattle.hx_law_texts.proofs.Vocabulary.{pos, PostIsSayable, refl, region_count, same_Some, Script, script_so_far, Server, Session, sizes_sum, slice_get}
+use Rattle.hx_law_texts.proofs.Vocabulary.{slice_get-map, Some, some_here, Space, Step, StepIsSayable, subst, sum_by, sym, take, Tick, version_of, with_session}
+use Rattle.hx_law_texts.proofs.Vocabulary.{Word, ℕ, ◌*◌, ◌++◌, ◌+◌, ◌<◌, ◌∙◌, ◌∷◌, ◌≡◌, ◌≤◌}
 use Rattle.std.specs.Prelude.{slice_index_or}
 use Rattle.std.proofs.lemmas.Option.{none-some}
 use Rattle.hx_bundle.specs.Bundles.{AreAlike, HasStep}
@@ -87,7 +87,7 @@ sessions_left b is said =
     let long : length at.0.sessions ≡ length b.turns =
     dealt_long 0 at.0.sessions b.turns (if_some_at (λ (s : Script). AllZip (AreDealt 0) s.sessions b.turns)
     (slice_get b.spaces 0) at.0 at.1 (is.dealt 0)) in
-    let few : length at.0.sessions ≤ 16 = (all_at IsScript b.spaces 0 at.0 is.scripts at.1).sessions in
+    let few : length at.0.sessions ≤ MOST_SESSIONS = (all_at IsScript b.spaces 0 at.0 is.scripts at.1).sessions in
     record {
       few = omega (arith, long, few);
       few_calls = omega (arith, is.few_calls);
@@ -230,9 +230,9 @@ reads_whole b s more e is said =
     let calls : List ℕ = bundle_sessions_text b.spaces 1 b.turns ++ last in
     let spaces : List ℕ = flat_map own_lines b.spaces ++ calls in
     let n : ℕ = 0 + 1 + 1 + 1 + sum_by lines_of_space b.spaces in
-    let high : servers ≤ 16 = of.space.servers.1 in
-    let few_left : 0 + length b.turns ≤ 16 = (sessions_left b is said).few in
-    let few_sessions : length b.turns ≤ 16 = omega (arith, few_left) in
+    let high : servers ≤ MOST_SERVERS = of.space.servers.1 in
+    let few_left : 0 + length b.turns ≤ MOST_SESSIONS = (sessions_left b is said).few in
+    let few_sessions : length b.turns ≤ MOST_SESSIONS = omega (arith, few_left) in
     let line : n + lines_in b.turns + 1 + 1 ≡ first_bundle_step_line b = five (sum_by lines_of_space b.spaces) (lines_in b.turns) in
     let behind_spaces : ReadsAll n (at_spaces stages.Spaces servers tolerate (map whole b.spaces)) calls a =
     sessions_read b.turns n stages.Spaces servers tolerate b.spaces (map whole b.spaces) (map first_seat b.spaces)
@@ -251,7 +251,7 @@ reads_whole b s more e is said =
     (spaces_read s more (0 + 1 + 1 + 1) servers tolerate calls a
     (subst (All (IsSaid servers tolerate)) e (all_said b s more e is said))
     (subst (λ (l : List Script). NamesDiffer (map (λ (x : Script). x.space.name) l)) e is.names_differ)
-    (subst (λ (l : List Script). length l ≤ 8) e is.few)
+    (subst (λ (l : List Script). length l ≤ MOST_SPACES) e is.few)
     (subst (λ (l : List Script). ReadsAll (0 + 1 + 1 + 1 + sum_by lines_of_space l)
     (at_spaces stages.Spaces servers tolerate (map whole l)) calls a) e behind_spaces)) in
     let shared : shared_text b.spaces ≡ servers_line servers ++ tolerate_line tolerate = ap shared_text e in

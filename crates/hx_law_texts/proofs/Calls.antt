@@ -1,9 +1,10 @@
 -- The lines of calls are read again.
 use Rattle.hx_law_texts.proofs.Vocabulary.{[], Add, All, All-head, All-tail, ap, append-nil, append_assoc, arith, Assign, assigns_text, AssignsFit, Atomic}
 use Rattle.hx_law_texts.proofs.Vocabulary.{CallIsSayable, codes, Cput, decimal, Del, Edit, edits_text, EditsAreSayable, EditsFit, Fits, flat_map, flat_map-cons}
-use Rattle.hx_law_texts.proofs.Vocabulary.{Get, is_word_part, IsSpace, IsText, le-leb, length, line_of_toks, List, Number, Ok, Op, op_of_line, op_of_toks, pos}
-use Rattle.hx_law_texts.proofs.Vocabulary.{push_to_last, push_to_last_is, Put, refl, region_count, Script, Search, Space, Stop, subst, sym, Term, TermIsSayable}
-use Rattle.hx_law_texts.proofs.Vocabulary.{terms_text, TermsFit, Text, Tok, ValuesAreSayable, Word, ℕ, ◌++◌, ◌+◌, ◌-◌, ◌<◌, ◌∙◌, ◌∷◌, ◌≡◌, ◌≤◌}
+use Rattle.hx_law_texts.proofs.Vocabulary.{Get, is_word_part, IsSpace, IsText, le-leb, length, line_of_toks, List, LONGEST_TEXT, MOST_CALLS, MOST_REGIONS}
+use Rattle.hx_law_texts.proofs.Vocabulary.{MOST_SERVERS, Number, Ok, Op, op_of_line, op_of_toks, pos, push_to_last, push_to_last_is, Put, refl, region_count}
+use Rattle.hx_law_texts.proofs.Vocabulary.{Script, Search, Space, Stop, subst, sym, Term, TermIsSayable, terms_text, TermsFit, Text, Tok, ValuesAreSayable}
+use Rattle.hx_law_texts.proofs.Vocabulary.{Word, ℕ, ◌++◌, ◌+◌, ◌-◌, ◌<◌, ◌∙◌, ◌∷◌, ◌≡◌, ◌≤◌}
 use Rattle.hx_types.specs.declared.ids.RegionId.{RegionId}
 use Rattle.hx_types.specs.declared.ids.ServerId.{ServerId}
 use Rattle.hx_types.specs.Spaces.{KeyFits, IsServerOf, IsRegionOf}
@@ -86,7 +87,7 @@ cput_says s key tests sets is fit_tests fit_sets text said_tests said_sets =
 add_parts : (a x o y : List ℕ) → (a ++ x ++ o ++ y) ++ [] ≡ a ++ (x ++ (o ++ (y ++ [])))
 add_parts a x o y = simp append_assoc
 
-add_says : (s : Space) (server : ServerId) (region : RegionId) → server.0 ≤ 16 → region.0 < 4096
+add_says : (s : Space) (server : ServerId) (region : RegionId) → server.0 ≤ MOST_SERVERS → region.0 < MOST_REGIONS
     → Says (call_toks s (Add server region)) (add_text server region ++ [])
 unfolding add_text
 add_says s server region few below =
@@ -107,16 +108,16 @@ atomic_says s key edits is fit text said =
     (word_and_blank (codes "atomic") (Text key ∷ ts) (quoted key ++ tail) (record { letter = refl; parts = refl })
     (text_says key ts tail text (edits_say s edits is fit said)))
 
-pub few_servers : (s : Space) (server : ServerId) → IsSpace s → IsServerOf s server → server.0 ≤ 16
+pub few_servers : (s : Space) (server : ServerId) → IsSpace s → IsServerOf s server → server.0 ≤ MOST_SERVERS
 few_servers s server is of =
-    let high : s.servers ≤ 16 = is.servers.1 in
+    let high : s.servers ≤ MOST_SERVERS = is.servers.1 in
     let within : server.0 ≤ s.servers = of.1 in
     omega (arith, high, within)
 
-pub few_regions : (s : Space) (region : RegionId) → IsSpace s → IsRegionOf s region → region.0 < 4096
+pub few_regions : (s : Space) (region : RegionId) → IsSpace s → IsRegionOf s region → region.0 < MOST_REGIONS
 few_regions s region is of = few region.0 (region_count s) of is.regions
   where
-    few : (g n : ℕ) → g < n → n ≤ 4096 → g < 4096
+    few : (g n : ℕ) → g < n → n ≤ MOST_REGIONS → g < MOST_REGIONS
     few g n lt le = omega arith
 
 call_says : (s : Space) (op : Op) → IsSpace s → Fits s op → CallIsSayable op → Says (call_toks s op) (op_text s op ++ [])
@@ -129,7 +130,7 @@ call_says s (Del key) is fits said = word_and_blank (codes "del") (Text key ∷ 
 call_says s (Cput key tests sets) is fits said = cput_says s key tests sets is fits.1 fits.2 said.0 said.1 said.2
 call_says s (Search terms) is fits said = word_says (codes "search") (terms_toks s terms) (terms_text s terms ++ [])
     (record { letter = refl; parts = refl }) (terms_go_no_further is_word_part s terms refl) (terms_say s terms is fits said)
-call_says s (Stop server) is fits said = let few : server.0 ≤ 16 = few_servers s server is fits in
+call_says s (Stop server) is fits said = let few : server.0 ≤ MOST_SERVERS = few_servers s server is fits in
     word_number (codes "stop") server.0 (record { letter = refl; parts = refl }) (omega (arith, few))
 call_says s (Add server region) is fits said = add_says s server region (few_servers s server is fits.0) (few_regions s region is fits.1)
 call_says s (Atomic key edits) is fits said = atomic_says s key edits is fits.1 said.0 said.1
@@ -139,15 +140,18 @@ call_says s (Atomic key edits) is fits said = atomic_says s key edits is fits.1 
 pub put_again : (s : Space) (key : List ℕ) (sets : List Assign) → IsSpace s → KeyFits key → AssignsFit s sets
     → ValuesAreSayable sets → put s (Text key ∷ assigns_toks s sets []) ≡ Ok (Put key sets, [])
 unfolding put short_text
-put_again s key sets is short fit said = rw (le-leb (length key) 1024 short, assigns_again sets until.End s [] [] is (all_left s sets fit said) refl) refl
+put_again s key sets is short fit said = rw (
+  le-leb (length key) LONGEST_TEXT short,
+  assigns_again sets until.End s [] [] is (all_left s sets fit said) refl,
+) refl
 
 pub get_again : (key : List ℕ) → KeyFits key → get (Text key ∷ []) ≡ Ok (Get key, [])
 unfolding get short_text
-get_again key short = rw (le-leb (length key) 1024 short) refl
+get_again key short = rw (le-leb (length key) LONGEST_TEXT short) refl
 
 pub del_again : (key : List ℕ) → KeyFits key → del (Text key ∷ []) ≡ Ok (Del key, [])
 unfolding del short_text
-del_again key short = rw (le-leb (length key) 1024 short) refl
+del_again key short = rw (le-leb (length key) LONGEST_TEXT short) refl
 
 pub cput_again : (s : Space) (key : List ℕ) (tests sets : List Assign) → IsSpace s → Fits s (Cput key tests sets)
     → ValuesAreSayable tests → ValuesAreSayable sets
@@ -156,7 +160,7 @@ pub cput_again : (s : Space) (key : List ℕ) (tests sets : List Assign) → IsS
 unfolding cput short_text
 cput_again s key tests sets is fits said_tests said_sets =
     rw (
-      le-leb (length key) 1024 fits.0,
+      le-leb (length key) LONGEST_TEXT fits.0,
       some_again tests until.Set s (Word (codes "set") ∷ assigns_toks s sets []) is
           (all_left s tests fits.1 said_tests) fits.3 refl,
       some_again sets until.End s [] is (all_left s sets fits.2 said_sets) fits.4 refl,
@@ -184,7 +188,7 @@ add_again s regions server region of below = rw (
 pub atomic_again : (s : Space) (key : List ℕ) (edits : List Edit) → IsSpace s → Fits s (Atomic key edits)
     → EditsAreSayable edits → atomic s (Text key ∷ edits_toks s edits) ≡ Ok (Atomic key edits, [])
 unfolding atomic short_text
-atomic_again s key edits is fits said = rw (le-leb (length key) 1024 fits.0, edits_again edits s is fits.1 said fits.2) refl
+atomic_again s key edits is fits said = rw (le-leb (length key) LONGEST_TEXT fits.0, edits_again edits s is fits.1 said fits.2) refl
 
 lone_again : (s : Space) (op : Op) → IsSpace s → Fits s op → CallIsSayable op → op_of_toks s (call_toks s op) ≡ Ok op
 unfolding lone_call
@@ -198,7 +202,7 @@ lone_again s (Add server region) is fits said = rw (add_again s (region_count s)
 lone_again s (Atomic key edits) is fits said = rw (atomic_again s key edits is fits said.1) refl
 
 call_again : (n : ℕ) (s : Space) (regions : ℕ) (sessions : List (List Op)) (calls : ℕ) (op : Op) → IsSpace s
-    → regions ≡ region_count s → Fits s op → CallIsSayable op → calls < 16384
+    → regions ≡ region_count s → Fits s op → CallIsSayable op → calls < MOST_CALLS
     → line_of_toks n (calling sections.Calls s regions sessions calls) (call_toks s op)
     ≡ Ok (calling sections.Calls s regions (push_to_last sessions op) (calls + 1))
 call_again n s regions sessions calls op is all fits said room =
@@ -215,7 +219,7 @@ lone_reads s op is fits said =
 -- ---- the calls of a session
 
 call_reads : (n : ℕ) (s : Space) (regions : ℕ) (sessions : List (List Op)) (calls : ℕ) (op : Op) (rest : List ℕ)
-    (script : Script) → IsSpace s → regions ≡ region_count s → Fits s op → CallIsSayable op → calls < 16384
+    (script : Script) → IsSpace s → regions ≡ region_count s → Fits s op → CallIsSayable op → calls < MOST_CALLS
     → ReadsTo (n + 1) (calling sections.Calls s regions (push_to_last sessions op) (calls + 1)) rest script
     → ReadsTo n (calling sections.Calls s regions sessions calls) (call_text s op ++ rest) script
 unfolding call_text
@@ -227,7 +231,7 @@ call_reads n s regions sessions calls op rest script is all fits said room next 
 
 pub calls_read : (left : List Op) (n : ℕ) (s : Space) (regions : ℕ) (front : List (List Op)) (made : List Op)
     (calls : ℕ) (rest : List ℕ) (script : Script) → IsSpace s → regions ≡ region_count s → All (Fits s) left
-    → All CallIsSayable left → calls + length left ≤ 16384
+    → All CallIsSayable left → calls + length left ≤ MOST_CALLS
     → ReadsTo (n + length left) (calling sections.Calls s regions (front ++ (made ++ left) ∷ [])
     (calls + length left)) rest script → ReadsTo n (calling sections.Calls s regions (front ++ made ∷ []) calls)
     (flat_map (call_text s) left ++ rest) script

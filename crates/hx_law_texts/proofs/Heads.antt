@@ -1,7 +1,7 @@
 -- The lines `hx`, `space`, `key`, `servers` and `tolerate` are read again.
 use Rattle.hx_law_texts.proofs.Vocabulary.{[], ap, append-nil, append_assoc, ArePart, arith, codes, decimal, decimal_digit, empty_draft, inl, inr, IsSpace}
-use Rattle.hx_law_texts.proofs.Vocabulary.{IsWord, le-leb, line_of_toks, List, lit<, min, Number, Ok, pos, refl, Script, Section, Space, sym, Word, ℕ, ◌++◌}
-use Rattle.hx_law_texts.proofs.Vocabulary.{◌+◌, ◌-◌, ◌<◌, ◌^◌, ◌∷◌, ◌≡◌, ◌≤◌, ◌⊎◌}
+use Rattle.hx_law_texts.proofs.Vocabulary.{IsWord, le-leb, line_of_toks, List, lit<, min, MOST_FAILURES, MOST_PARTS, MOST_SERVERS, Number, Ok, pos, refl}
+use Rattle.hx_law_texts.proofs.Vocabulary.{Script, Section, Space, sym, Word, ℕ, ◌++◌, ◌+◌, ◌-◌, ◌<◌, ◌^◌, ◌∷◌, ◌≡◌, ◌≤◌, ◌⊎◌}
 use Rattle.hx_print.specs.Printing.{space_line as space_text, key_line as key_text, servers_line as servers_text, tolerate_line as tolerate_text}
 use Rattle.hx_script.specs.declared.draft.Section.TheVariants as sections
 use Rattle.hx_script.specs.Grammar.{command, hx_line, space_line, key_line, servers_line, tolerate_line}
@@ -60,14 +60,14 @@ space_reads n s rest script is next =
 key_toks : (n : ℕ) (s : Space) → IsNamed s.key_name → ArePart s.key_parts
     → line_of_toks n (keying s) (Word (codes "key") ∷ Word s.key_name ∷ Number (pos s.key_parts) ∷ []) ≡ Ok (attributing s [])
 unfolding command key_line named name number_in
-key_toks n s is part = rw (is.free, is.short, le-leb 1 s.key_parts part.0, le-leb s.key_parts 256 part.1) refl
+key_toks n s is part = rw (is.free, is.short, le-leb 1 s.key_parts part.0, le-leb s.key_parts MOST_PARTS part.1) refl
 
 pub key_reads : (n : ℕ) (s : Space) (rest : List ℕ) (script : Script) → IsSpace s
     → ReadsTo (n + 1) (attributing s []) rest script → ReadsTo n (keying s) (key_text s.key_name s.key_parts ++ rest) script
 unfolding key_text
 key_reads n s rest script is next =
     let named : IsNamed s.key_name = a_name s.key_name is.key_name in
-    let high : s.key_parts ≤ 256 = is.key_parts.1 in
+    let high : s.key_parts ≤ MOST_PARTS = is.key_parts.1 in
     let tail : List ℕ = decimal s.key_parts ++ [] in
     line_reads n (keying s) (attributing s []) (key_text s.key_name s.key_parts ++ rest)
     (codes "key" ++ (32 ∷ (s.key_name ++ (32 ∷ tail)))) rest
@@ -81,11 +81,11 @@ key_reads n s rest script is next =
 -- ---- servers I
 
 servers_toks : (n : ℕ) (at : Section) (s : Space) (regions : ℕ) → (at ≡ sections.Attributes)
-    ⊎ (at ≡ sections.Subspaces) → (0 < s.servers) × (s.servers ≤ 16)
+    ⊎ (at ≡ sections.Subspaces) → (0 < s.servers) × (s.servers ≤ MOST_SERVERS)
     → line_of_toks n (cutting at s s.subspaces regions) (Word (codes "servers") ∷ Number (pos s.servers) ∷ []) ≡ Ok (tolerating s regions)
 unfolding command servers_line number_in
-servers_toks n at s regions (inl e) few = rw (e, le-leb 1 s.servers few.0, le-leb s.servers 16 few.1) refl
-servers_toks n at s regions (inr e) few = rw (e, le-leb 1 s.servers few.0, le-leb s.servers 16 few.1) refl
+servers_toks n at s regions (inl e) few = rw (e, le-leb 1 s.servers few.0, le-leb s.servers MOST_SERVERS few.1) refl
+servers_toks n at s regions (inr e) few = rw (e, le-leb 1 s.servers few.0, le-leb s.servers MOST_SERVERS few.1) refl
 
 pub servers_read : (n : ℕ) (at : Section) (s : Space) (regions : ℕ) (rest : List ℕ) (script : Script)
     → (at ≡ sections.Attributes) ⊎ (at ≡ sections.Subspaces) → IsSpace s
@@ -93,7 +93,7 @@ pub servers_read : (n : ℕ) (at : Section) (s : Space) (regions : ℕ) (rest : 
     → ReadsTo n (cutting at s s.subspaces regions) (servers_text s.servers ++ rest) script
 unfolding servers_text
 servers_read n at s regions rest script here is next =
-    let high : s.servers ≤ 16 = is.servers.1 in
+    let high : s.servers ≤ MOST_SERVERS = is.servers.1 in
     line_reads n (cutting at s s.subspaces regions) (tolerating s regions) (servers_text s.servers ++ rest)
     (codes "servers" ++ (32 ∷ (decimal s.servers ++ []))) rest (Word (codes "servers") ∷ Number (pos s.servers) ∷ []) script
     (one_part (codes "servers ") (decimal s.servers) (codes "\n") rest)
@@ -102,18 +102,18 @@ servers_read n at s regions rest script here is next =
 
 -- ---- tolerate I
 
-tolerate_toks : (n : ℕ) (s : Space) (regions : ℕ) → s.tolerate ≤ min (s.servers - 1) 4
+tolerate_toks : (n : ℕ) (s : Space) (regions : ℕ) → s.tolerate ≤ min (s.servers - 1) MOST_FAILURES
     → line_of_toks n (tolerating s regions) (Word (codes "tolerate") ∷ Number (pos s.tolerate) ∷ [])
     ≡ Ok (calling sections.Sessions s regions [] 0)
 unfolding command tolerate_line number_in
-tolerate_toks n s regions few = rw (le-leb 0 s.tolerate (omega arith), le-leb s.tolerate (min (s.servers - 1) 4) few) refl
+tolerate_toks n s regions few = rw (le-leb 0 s.tolerate (omega arith), le-leb s.tolerate (min (s.servers - 1) MOST_FAILURES) few) refl
 
 pub tolerate_reads : (n : ℕ) (s : Space) (regions : ℕ) (rest : List ℕ) (script : Script) → IsSpace s
     → ReadsTo (n + 1) (calling sections.Sessions s regions [] 0) rest script
     → ReadsTo n (tolerating s regions) (tolerate_text s.tolerate ++ rest) script
 unfolding tolerate_text
 tolerate_reads n s regions rest script is next =
-    let small : s.tolerate ≤ 4 = is.tolerate.0 in
+    let small : s.tolerate ≤ MOST_FAILURES = is.tolerate.0 in
     let below : s.tolerate < s.servers = is.tolerate.1 in
     line_reads n (tolerating s regions) (calling sections.Sessions s regions [] 0) (tolerate_text s.tolerate ++ rest)
     (codes "tolerate" ++ (32 ∷ (decimal s.tolerate ++ []))) rest (Word (codes "tolerate") ∷ Number (pos s.tolerate) ∷ []) script

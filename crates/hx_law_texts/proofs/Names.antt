@@ -1,8 +1,9 @@
 -- Names and the numbers of attributes, found again.
 use Rattle.hx_law_texts.proofs.Vocabulary.{[], All, All-head, All-tail, AllDiffer, and_left, and_right, arith, Attribute, Bool, bytes_eq, bytes_eq-Decides}
 use Rattle.hx_law_texts.proofs.Vocabulary.{codes, declared_number, eqb, false, is_lower, is_word_part, IsKind, IsName, IsSpace, IsWord, known_number, le-leb}
-use Rattle.hx_law_texts.proofs.Vocabulary.{length, List, list_all, list_any, lt-ltb, map, may_name, name_of, NamesDiffer, nat_le, ne_eqb, Ok, position_or_len}
-use Rattle.hx_law_texts.proofs.Vocabulary.{refl, slice_get, Some, Space, subst, suc, sym, true, zero, ℕ, ◌++◌, ◌+◌, ◌-◌, ◌<◌, ◌==◌, ◌||◌, ◌∷◌, ◌≡◌, ◌≤◌}
+use Rattle.hx_law_texts.proofs.Vocabulary.{length, List, list_all, list_any, LONGEST_NAME, lt-ltb, map, may_name, name_of, NamesDiffer, nat_le, ne_eqb, Ok}
+use Rattle.hx_law_texts.proofs.Vocabulary.{position_or_len, refl, slice_get, Some, Space, subst, suc, sym, true, zero, ℕ, ◌++◌, ◌+◌, ◌-◌, ◌<◌, ◌==◌, ◌||◌, ◌∷◌}
+use Rattle.hx_law_texts.proofs.Vocabulary.{◌≡◌, ◌≤◌}
 use Rattle.std.proofs.Common.{◌≢◌}
 use Rattle.hx_types.specs.Spaces.{is_word}
 
@@ -10,7 +11,7 @@ use Rattle.hx_types.specs.Spaces.{is_word}
 pub record IsNamed (w : List ℕ) : Type 0 where
   pub word : IsWord w
   pub free : may_name w ≡ true
-  pub short : nat_le (length w) 32 ≡ true
+  pub short : nat_le (length w) LONGEST_NAME ≡ true
 
 letter_is_part : (b : ℕ) → is_lower b ≡ true → is_word_part b ≡ true
 letter_is_part b e = rw e refl
@@ -35,7 +36,7 @@ pub a_name : (w : List ℕ) → IsName w → IsNamed w
 a_name w is = record {
   word = a_word w is.word;
   free = rw (bytes_apart w (codes "if") is.not_if, bytes_apart w (codes "set") is.not_set) refl;
-  short = le-leb (length w) 32 is.short;
+  short = le-leb (length w) LONGEST_NAME is.short;
 }
 
 -- ---- items of a list

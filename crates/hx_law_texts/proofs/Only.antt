@@ -1,7 +1,7 @@
 -- Nothing is read back but what is within the limits and can be said.
-use Rattle.hx_law_texts.proofs.Vocabulary.{[], All, All-cons, All-head, All-nil, All-tail, ap, first_step_line, IsSayableScript, IsScript, length, List, Ok}
-use Rattle.hx_law_texts.proofs.Vocabulary.{on_lines_from, on_printed_lines, refl, Script, script_of, Step, StepIsSayable, subst, suc, text_sound, ℕ, ◌+◌, ◌∷◌}
-use Rattle.hx_law_texts.proofs.Vocabulary.{◌≡◌, ◌≤◌}
+use Rattle.hx_law_texts.proofs.Vocabulary.{[], All, All-cons, All-head, All-nil, All-tail, ap, first_step_line, IsSayableScript, IsScript, length, List}
+use Rattle.hx_law_texts.proofs.Vocabulary.{MOST_STEPS, Ok, on_lines_from, on_printed_lines, refl, Script, script_of, Step, StepIsSayable, subst, suc}
+use Rattle.hx_law_texts.proofs.Vocabulary.{text_sound, ℕ, ◌+◌, ◌∷◌, ◌≡◌, ◌≤◌}
 use Rattle.hx_print.specs.Printing.{script_text}
 use Rattle.hx_law_texts.proofs.ToldTexts.{text_told}
 
@@ -24,7 +24,7 @@ only_those s e =
         sessions = is.sessions;
         calls = is.calls;
         few_calls = is.few_calls;
-        few_steps = subst (λ (n : ℕ). n ≤ 65536) (same_length (first_step_line s) s.steps) is.few_steps;
+        few_steps = subst (λ (n : ℕ). n ≤ MOST_STEPS) (same_length (first_step_line s) s.steps) is.few_steps;
       },
       record {
         bounds = said.bounds;

@@ -1,8 +1,8 @@
 -- The sessions are read again, and the steps behind them.
 use Rattle.hx_law_texts.proofs.Vocabulary.{[], All, All-head, All-tail, append-nil, append_assoc, arith, CallIsSayable, codes, decimal, Fits, flat_map, inl}
-use Rattle.hx_law_texts.proofs.Vocabulary.{inr, IsSpace, le-leb, length, length-append, line_of_toks, List, lt-ltb, Number, Ok, on_lines_from, Op, pos, refl}
-use Rattle.hx_law_texts.proofs.Vocabulary.{region_count, Script, Section, Space, Step, StepIsSayable, subst, sum_by, sum_by-cons, sym, Word, ℕ, ◌++◌, ◌+◌}
-use Rattle.hx_law_texts.proofs.Vocabulary.{◌<◌, ◌∷◌, ◌≡◌, ◌≤◌, ◌⊎◌}
+use Rattle.hx_law_texts.proofs.Vocabulary.{inr, IsSpace, le-leb, length, length-append, line_of_toks, List, lt-ltb, MOST_CALLS, MOST_SERVERS, MOST_SESSIONS}
+use Rattle.hx_law_texts.proofs.Vocabulary.{MOST_STEPS, Number, Ok, on_lines_from, Op, pos, refl, region_count, Script, Section, Space, Step, StepIsSayable}
+use Rattle.hx_law_texts.proofs.Vocabulary.{subst, sum_by, sum_by-cons, sym, Word, ℕ, ◌++◌, ◌+◌, ◌<◌, ◌∷◌, ◌≡◌, ◌≤◌, ◌⊎◌}
 use Rattle.hx_print.specs.Printing.{call_line as call_text, session_text, sessions_text, step_line as line_text, steps_text}
 use Rattle.hx_script.specs.declared.draft.Section.TheVariants as sections
 use Rattle.hx_script.specs.Grammar.{command, session_line, steps_line}
@@ -21,18 +21,20 @@ MayCall at = (at ≡ sections.Sessions) ⊎ (at ≡ sections.Calls)
 
 -- ---- the line of a session
 
-session_toks : (n : ℕ) (at : Section) (s : Space) (regions : ℕ) (front : List (List Op)) (calls : ℕ) → MayCall at → length front < 16
+session_toks : (n : ℕ) (at : Section) (s : Space) (regions : ℕ) (front : List (List Op)) (calls : ℕ) → MayCall at → length front < MOST_SESSIONS
     → line_of_toks n (calling at s regions front calls)
     (Word (codes "session") ∷ Number (pos (length front + 1)) ∷ []) ≡ Ok (calling sections.Calls s regions (front ++ [] ∷ []) calls)
 unfolding command session_line number_in
-session_toks n at s regions front calls (inl e) room = rw (e, lt-ltb (length front) 16 room, le-leb (length front + 1) (length front + 1) (omega arith)) refl
-session_toks n at s regions front calls (inr e) room = rw (e, lt-ltb (length front) 16 room, le-leb (length front + 1) (length front + 1) (omega arith)) refl
+session_toks n at s regions front calls (inl e) room =
+    rw (e, lt-ltb (length front) MOST_SESSIONS room, le-leb (length front + 1) (length front + 1) (omega arith)) refl
+session_toks n at s regions front calls (inr e) room =
+    rw (e, lt-ltb (length front) MOST_SESSIONS room, le-leb (length front + 1) (length front + 1) (omega arith)) refl
 
 pub session_parts : (a d n c r : List ℕ) → (a ++ d ++ n ++ c) ++ r ≡ (a ++ (d ++ [])) ++ (n ++ (c ++ r))
 session_parts a d n c r = simp (append_assoc, append-nil)
 
 session_reads : (n : ℕ) (at : Section) (s : Space) (regions : ℕ) (front : List (List Op)) (calls : ℕ) (ops : List Op)
-    (rest : List ℕ) (script : Script) → MayCall at → length front < 16
+    (rest : List ℕ) (script : Script) → MayCall at → length front < MOST_SESSIONS
     → ReadsTo (n + 1) (calling sections.Calls s regions (front ++ [] ∷ []) calls)
     (flat_map (call_text s) ops ++ rest) script → ReadsTo n (calling at s regions front calls)
     (session_text s (length front + 1) ops ++ rest) script
@@ -58,16 +60,16 @@ calls_in sessions = sum_by (λ (calls : List Op). length calls) sessions
 
 -- the sessions that are left have as many calls as there is room for
 record AreLeft (s : Space) (front left : List (List Op)) (calls : ℕ) : Type 0 where
-  pub few : length front + length left ≤ 16
-  pub few_calls : calls + calls_in left ≤ 16384
+  pub few : length front + length left ≤ MOST_SESSIONS
+  pub few_calls : calls + calls_in left ≤ MOST_CALLS
   pub fits : All (λ (ops : List Op). All (Fits s) ops) left
   pub said : All (λ (ops : List Op). All CallIsSayable ops) left
 
 left_after : (s : Space) (front : List (List Op)) (ops : List Op) (left : List (List Op)) (calls : ℕ)
     → AreLeft s front (ops ∷ left) calls → AreLeft s (front ++ ops ∷ []) left (calls + length ops)
 left_after s front ops left calls are =
-    let few : length front + length (ops ∷ left) ≤ 16 = are.few in
-    let few_calls : calls + calls_in (ops ∷ left) ≤ 16384 = are.few_calls in
+    let few : length front + length (ops ∷ left) ≤ MOST_SESSIONS = are.few in
+    let few_calls : calls + calls_in (ops ∷ left) ≤ MOST_CALLS = are.few_calls in
     record {
       few = omega (arith, few, length-append front (ops ∷ []));
       few_calls = omega (arith, few_calls, sum_by-cons (λ (x : List Op). length x) ops left);
@@ -76,9 +78,9 @@ left_after s front ops left calls are =
     }
 
 room_for : (s : Space) (front : List (List Op)) (ops : List Op) (left : List (List Op)) (calls : ℕ)
-    → AreLeft s front (ops ∷ left) calls → calls + length ops ≤ 16384
+    → AreLeft s front (ops ∷ left) calls → calls + length ops ≤ MOST_CALLS
 room_for s front ops left calls are =
-    let few_calls : calls + calls_in (ops ∷ left) ≤ 16384 = are.few_calls in
+    let few_calls : calls + calls_in (ops ∷ left) ≤ MOST_CALLS = are.few_calls in
     omega (arith, few_calls, sum_by-cons (λ (x : List Op). length x) ops left)
 
 sessions_left : (left : List (List Op)) (n : ℕ) (at : Section) (s : Space) (regions : ℕ) (front : List (List Op))
@@ -94,7 +96,7 @@ sessions_left [] n at s regions front calls rest script here is all are next =
     (subst (λ (m : ℕ). ReadsTo (n + lines_in []) (calling at s regions front m) rest script) c
     (subst (λ (xs : List (List Op)). ReadsTo (n + lines_in []) (calling at s regions xs (calls + calls_in [])) rest script) (append-nil front) (next at here)))
 sessions_left (ops ∷ left) n at s regions front calls rest script here is all are next =
-    let few : length front + length (ops ∷ left) ≤ 16 = are.few in
+    let few : length front + length (ops ∷ left) ≤ MOST_SESSIONS = are.few in
     let number : length (front ++ ops ∷ []) + 1 ≡ length front + 1 + 1 = omega (arith, length-append front (ops ∷ [])) in
     let later : List ℕ = sessions_text s (length front + 1 + 1) left ++ rest in
     let text : (session_text s (length front + 1) ops ++ sessions_text s (length front + 1 + 1) left) ++ rest
@@ -134,8 +136,8 @@ nothing_left n at s regions sessions calls (inl e) = record { reads = rw e refl 
 nothing_left n at s regions sessions calls (inr e) = record { reads = rw e refl }
 
 steps_section : (steps : List (ℕ × Step)) (n : ℕ) (at : Section) (s : Space) (regions : ℕ) (sessions : List (List Op))
-    (calls : ℕ) → MayCall at → s.servers ≤ 16 → length sessions ≤ 16
-    → All (λ (x : ℕ × Step). StepIsSayable s.servers (length sessions) x.1) steps → length steps ≤ 65536
+    (calls : ℕ) → MayCall at → s.servers ≤ MOST_SERVERS → length sessions ≤ MOST_SESSIONS
+    → All (λ (x : ℕ × Step). StepIsSayable s.servers (length sessions) x.1) steps → length steps ≤ MOST_STEPS
     → ReadsTo n (calling at s regions sessions calls) (steps_text steps) (with_steps s sessions (on_lines_from (n + 1 + 1) steps))
 unfolding steps_text
 steps_section [] n at s regions sessions calls here f g all few = nothing_left n at s regions sessions calls here
@@ -149,9 +151,9 @@ steps_section (x ∷ steps) n at s regions sessions calls here f g all few =
 
 -- the sessions of a script, and its steps
 pub sections_read : (n : ℕ) (s : Space) (regions : ℕ) (sessions : List (List Op)) (steps : List (ℕ × Step))
-    → IsSpace s → regions ≡ region_count s → length sessions ≤ 16 → calls_in sessions ≤ 16384
+    → IsSpace s → regions ≡ region_count s → length sessions ≤ MOST_SESSIONS → calls_in sessions ≤ MOST_CALLS
     → All (λ (ops : List Op). All (Fits s) ops) sessions → All (λ (ops : List Op). All CallIsSayable ops) sessions
-    → All (λ (x : ℕ × Step). StepIsSayable s.servers (length sessions) x.1) steps → length steps ≤ 65536
+    → All (λ (x : ℕ × Step). StepIsSayable s.servers (length sessions) x.1) steps → length steps ≤ MOST_STEPS
     → ReadsTo n (calling sections.Sessions s regions [] 0) (sessions_text s 1 sessions ++ steps_text steps)
     (with_steps s sessions (on_lines_from (n + lines_in sessions + 1 + 1) steps))
 sections_read n s regions sessions steps is all few few_calls fits said steps_said few_steps =

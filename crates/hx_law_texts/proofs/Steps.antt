@@ -2,9 +2,9 @@
 use Rattle.hx_law_texts.proofs.Vocabulary.{[], Actor, All, All-head, All-tail, and_left, and_right, append-nil, append_assoc, arith, begins_with, Bool, codes}
 use Rattle.hx_law_texts.proofs.Vocabulary.{Coordinator, decimal, decimal_nonempty, Deliver, eqb, false, flat_map, flat_map-cons, get_or, Halt, int_le}
 use Rattle.hx_law_texts.proofs.Vocabulary.{is_decimal, is_digit, is_lower, is_word_part, IsActorOf, IsPostName, IsWord, le-leb, leb, leb-true, length}
-use Rattle.hx_law_texts.proofs.Vocabulary.{length-append, line_of_toks, List, list_all, lt-ltb, ne_eqb, Number, Ok, on_lines_from, Op, pos, PostId, refl}
-use Rattle.hx_law_texts.proofs.Vocabulary.{Script, Server, Session, Sign, Space, Step, StepIsSayable, subst, sym, Tick, Tok, true, Word, ℕ, ◌++◌, ◌+◌, ◌<◌}
-use Rattle.hx_law_texts.proofs.Vocabulary.{◌==◌, ◌^◌, ◌||◌, ◌∷◌, ◌≡◌, ◌≤◌}
+use Rattle.hx_law_texts.proofs.Vocabulary.{length-append, line_of_toks, List, list_all, lt-ltb, MOST_SERVERS, MOST_SESSIONS, MOST_STEPS, ne_eqb, Number, Ok}
+use Rattle.hx_law_texts.proofs.Vocabulary.{on_lines_from, Op, pos, PostId, refl, Script, Server, Session, Sign, Space, Step, StepIsSayable, subst, sym, Tick}
+use Rattle.hx_law_texts.proofs.Vocabulary.{Tok, true, Word, ℕ, ◌++◌, ◌+◌, ◌<◌, ◌==◌, ◌^◌, ◌||◌, ◌∷◌, ◌≡◌, ◌≤◌}
 use Rattle.std.proofs.lemmas.Fmt.{first_decimal}
 use Rattle.hx_print.specs.Printing.{actor_text, post_name, step_text, step_line as line_text}
 use Rattle.hx_script.specs.Actors.{actor}
@@ -49,13 +49,14 @@ few most n high le = omega arith
 pub small_too : (n : ℕ) → n < 2 ^ 63 → n < 2 ^ 64
 small_too n lt = omega arith
 
-pub actor_is_word : (servers sessions : ℕ) (a : Actor) → servers ≤ 16 → sessions ≤ 16 → IsActorOf servers sessions a → IsWord (actor_text a)
+pub actor_is_word : (servers sessions : ℕ) (a : Actor) → servers ≤ MOST_SERVERS → sessions ≤ MOST_SESSIONS
+    → IsActorOf servers sessions a → IsWord (actor_text a)
 unfolding actor_text
 actor_is_word servers sessions Coordinator f g is = record { letter = refl; parts = refl }
 actor_is_word servers sessions (Server s) f g is = letter_and_digits 115 s.0 refl refl (small_too s.0 (few servers s.0 f is.1))
 actor_is_word servers sessions (Session u) f g is = letter_and_digits 117 u.0 refl refl (small_too u.0 (few sessions u.0 g is.1))
 
-actor_again : (servers sessions : ℕ) (a : Actor) (ts : List Tok) → servers ≤ 16 → sessions ≤ 16
+actor_again : (servers sessions : ℕ) (a : Actor) (ts : List Tok) → servers ≤ MOST_SERVERS → sessions ≤ MOST_SESSIONS
     → IsActorOf servers sessions a → actor servers sessions (Word (actor_text a) ∷ ts) ≡ Ok (a, ts)
 unfolding actor actor_text
 actor_again servers sessions Coordinator ts f g is = refl
@@ -95,7 +96,8 @@ deliver_says id is =
     in_range : (n : ℕ) → n < 2 ^ 32 → n < 2 ^ 63
     in_range n lt = omega arith
 
-step_says : (servers sessions : ℕ) (x : Step) → servers ≤ 16 → sessions ≤ 16 → StepIsSayable servers sessions x → Says (step_toks x) (step_text x ++ [])
+step_says : (servers sessions : ℕ) (x : Step) → servers ≤ MOST_SERVERS → sessions ≤ MOST_SESSIONS
+    → StepIsSayable servers sessions x → Says (step_toks x) (step_text x ++ [])
 unfolding step_text
 step_says servers sessions (Deliver id) f g is = deliver_says id is
 step_says servers sessions (Tick a) f g is = word_and_blank (codes "tick") (Word (actor_text a) ∷ [])
@@ -117,23 +119,25 @@ deliver_again id is = rw (natural_is id.entry, le-leb 0 id.place (omega arith), 
     below : (n : ℕ) → n < 2 ^ 32 → n ≤ 4294967295
     below n lt = omega arith
 
-pub tick_again : (servers sessions : ℕ) (a : Actor) → servers ≤ 16 → sessions ≤ 16 → IsActorOf servers sessions a
+pub tick_again : (servers sessions : ℕ) (a : Actor) → servers ≤ MOST_SERVERS → sessions ≤ MOST_SESSIONS → IsActorOf servers sessions a
     → tick servers sessions (Word (actor_text a) ∷ []) ≡ Ok (Tick a, [])
 unfolding tick
 tick_again servers sessions a f g is = rw (actor_again servers sessions a [] f g is) refl
 
-pub halt_again : (servers sessions : ℕ) (a : Actor) → servers ≤ 16 → sessions ≤ 16 → IsActorOf servers sessions a
+pub halt_again : (servers sessions : ℕ) (a : Actor) → servers ≤ MOST_SERVERS → sessions ≤ MOST_SESSIONS → IsActorOf servers sessions a
     → halt servers sessions (Word (actor_text a) ∷ []) ≡ Ok (Halt a, [])
 unfolding halt
 halt_again servers sessions a f g is = rw (actor_again servers sessions a [] f g is) refl
 
 step_again : (n : ℕ) (s : Space) (regions : ℕ) (sessions : List (List Op)) (calls : ℕ) (front : List (ℕ × Step))
-    (x : Step) → s.servers ≤ 16 → length sessions ≤ 16 → StepIsSayable s.servers (length sessions) x → length front < 65536
+    (x : Step) → s.servers ≤ MOST_SERVERS → length sessions ≤ MOST_SESSIONS → StepIsSayable s.servers (length sessions) x → length front < MOST_STEPS
     → line_of_toks n (stepping s regions sessions calls front) (step_toks x) ≡ Ok (stepping s regions sessions calls (front ++ (n, x) ∷ []))
 unfolding command step_line
-step_again n s regions sessions calls front (Deliver id) f g is room = rw (lt-ltb (length front) 65536 room, deliver_again id is) refl
-step_again n s regions sessions calls front (Tick a) f g is room = rw (lt-ltb (length front) 65536 room, tick_again s.servers (length sessions) a f g is) refl
-step_again n s regions sessions calls front (Halt a) f g is room = rw (lt-ltb (length front) 65536 room, halt_again s.servers (length sessions) a f g is) refl
+step_again n s regions sessions calls front (Deliver id) f g is room = rw (lt-ltb (length front) MOST_STEPS room, deliver_again id is) refl
+step_again n s regions sessions calls front (Tick a) f g is room =
+    rw (lt-ltb (length front) MOST_STEPS room, tick_again s.servers (length sessions) a f g is) refl
+step_again n s regions sessions calls front (Halt a) f g is room =
+    rw (lt-ltb (length front) MOST_STEPS room, halt_again s.servers (length sessions) a f g is) refl
 
 -- ---- all steps
 
@@ -144,8 +148,8 @@ pub line_parts : (o n r : List ℕ) → (o ++ n) ++ r ≡ (o ++ []) ++ (n ++ r)
 line_parts o n r = simp (append_assoc, append-nil)
 
 step_reads : (n : ℕ) (s : Space) (regions : ℕ) (sessions : List (List Op)) (calls : ℕ) (front : List (ℕ × Step))
-    (x : ℕ × Step) (rest : List ℕ) (script : Script) → s.servers ≤ 16 → length sessions ≤ 16
-    → StepIsSayable s.servers (length sessions) x.1 → length front < 65536
+    (x : ℕ × Step) (rest : List ℕ) (script : Script) → s.servers ≤ MOST_SERVERS → length sessions ≤ MOST_SESSIONS
+    → StepIsSayable s.servers (length sessions) x.1 → length front < MOST_STEPS
     → ReadsTo (n + 1) (stepping s regions sessions calls (front ++ (n + 1, x.1) ∷ [])) rest script
     → ReadsTo n (stepping s regions sessions calls front) (line_text x ++ rest) script
 unfolding line_text
@@ -162,8 +166,8 @@ unfolding read_lines
 steps_end n s regions sessions calls front = record { reads = refl }
 
 pub steps_read : (left : List (ℕ × Step)) (n : ℕ) (s : Space) (regions : ℕ) (sessions : List (List Op)) (calls : ℕ)
-    (front : List (ℕ × Step)) → s.servers ≤ 16 → length sessions ≤ 16
-    → All (λ (x : ℕ × Step). StepIsSayable s.servers (length sessions) x.1) left → length front + length left ≤ 65536
+    (front : List (ℕ × Step)) → s.servers ≤ MOST_SERVERS → length sessions ≤ MOST_SESSIONS
+    → All (λ (x : ℕ × Step). StepIsSayable s.servers (length sessions) x.1) left → length front + length left ≤ MOST_STEPS
     → ReadsTo n (stepping s regions sessions calls front) (flat_map line_text left) (with_steps s sessions (front ++ on_lines_from (n + 1) left))
 steps_read [] n s regions sessions calls front f g all few =
     subst (λ (xs : List (ℕ × Step)). ReadsTo n (stepping s regions sessions calls front) []

@@ -1,9 +1,9 @@
 -- The lines of subspaces are read again.
 use Rattle.hx_law_texts.proofs.Vocabulary.{[], All, All-head, All-tail, AllDiffer, ap, append-nil, append_assoc, ArePart, arith, AxesDraft, Axis, begins_with}
 use Rattle.hx_law_texts.proofs.Vocabulary.{codes, decimal, declared_number, false, flat_map, flat_map-cons, has_axis, inl, inr, is_digit, IsSpace, le-leb}
-use Rattle.hx_law_texts.proofs.Vocabulary.{length, length-append, line_of_toks, List, lt-ltb, map, name_of, no_axes_yet, Number, Ok, pos, Reason, refl, repeat}
-use Rattle.hx_law_texts.proofs.Vocabulary.{Result, Script, Section, Sign, size_of, sizes_sum, Space, subst, sym, Tok, Word, ℕ, ◌*◌, ◌++◌, ◌+◌, ◌<◌, ◌∙◌, ◌∷◌}
-use Rattle.hx_law_texts.proofs.Vocabulary.{◌≡◌, ◌≤◌, ◌⊎◌}
+use Rattle.hx_law_texts.proofs.Vocabulary.{length, length-append, line_of_toks, List, lt-ltb, map, MOST_AXES, MOST_PARTS, MOST_REGIONS, MOST_SUBSPACES, name_of}
+use Rattle.hx_law_texts.proofs.Vocabulary.{no_axes_yet, Number, Ok, pos, Reason, refl, repeat, Result, Script, Section, Sign, size_of, sizes_sum, Space, subst}
+use Rattle.hx_law_texts.proofs.Vocabulary.{sym, Tok, Word, ℕ, ◌*◌, ◌++◌, ◌+◌, ◌<◌, ◌∙◌, ◌∷◌, ◌≡◌, ◌≤◌, ◌⊎◌}
 use Rattle.std.proofs.Math.Nat.{mul_assoc, one-le-mul, le-mul_of_pos_right}
 use Rattle.hx_types.specs.Spaces.{IsSubspaceOf}
 use Rattle.hx_print.specs.Printing.{axis_text, next_axis_text, axes_text, subspace_line as subspace_text}
@@ -41,7 +41,7 @@ axis_says : (s : Space) (a : Axis) (ts : List Tok) (rest : List ℕ) → IsAxis 
     → Says ts rest → Says (axis_toks s a ts) (axis_text s a ++ rest)
 unfolding axis_text
 axis_says s a ts rest is stop h =
-    let high : a.parts ≤ 256 = is.parts.1 in
+    let high : a.parts ≤ MOST_PARTS = is.parts.1 in
     subst (λ (x : List ℕ). Says (axis_toks s a ts) x) (sym (axis_parts (name_of s a.attribute) (codes " ") (decimal a.parts) rest))
     (word_and_blank (name_of s a.attribute) (Number (pos a.parts) ∷ ts)
     (decimal a.parts ++ rest) is.declared.name.word (number_says a.parts ts rest (omega (arith, high)) stop h))
@@ -78,9 +78,9 @@ record MayGrow (d : Space) (regions : ℕ) (c : AxesDraft) (w : List ℕ) (a : A
   pub name : IsNamed w
   pub number : declared_number d w ≡ Ok a.attribute
   pub new : has_axis c.axes a.attribute ≡ false
-  pub room : length c.axes < 4
+  pub room : length c.axes < MOST_AXES
   pub part : ArePart a.parts
-  pub few : regions + c.size * a.parts ≤ 4096
+  pub few : regions + c.size * a.parts ≤ MOST_REGIONS
 
 axis_again : (d : Space) (regions : ℕ) (c : AxesDraft) (w : List ℕ) (a : Axis) (ts : List Tok)
     → MayGrow d regions c w a → axis d regions c (Word w ∷ Number (pos a.parts) ∷ ts) ≡ Ok (grown c a, ts)
@@ -89,10 +89,10 @@ axis_again d regions c w a ts is = rw (
   is.name.free,
   is.number,
   is.new,
-  lt-ltb (length c.axes) 4 is.room,
+  lt-ltb (length c.axes) MOST_AXES is.room,
   le-leb 1 a.parts is.part.0,
-  le-leb a.parts 256 is.part.1,
-  le-leb (regions + c.size * a.parts) 4096 is.few,
+  le-leb a.parts MOST_PARTS is.part.1,
+  le-leb (regions + c.size * a.parts) MOST_REGIONS is.few,
 ) refl
 
 next_again : (d : Space) (regions : ℕ) (c : AxesDraft) (w : List ℕ) (a : Axis) (ts : List Tok)
@@ -104,8 +104,8 @@ next_again d regions c w a ts is = axis_again d regions c w a ts is
 pub record IsLeft (s : Space) (regions : ℕ) (c : AxesDraft) (left : List Axis) : Type 0 where
   pub each : All (IsAxis s) left
   pub once : AllDiffer (map (λ (a : Axis). a.attribute) (c.axes ++ left))
-  pub few : length c.axes + length left ≤ 4
-  pub room : regions + c.size * size_of left ≤ 4096
+  pub few : length c.axes + length left ≤ MOST_AXES
+  pub room : regions + c.size * size_of left ≤ MOST_REGIONS
 
 some_size : (s : Space) (axes : List Axis) → All (IsAxis s) axes → 1 ≤ size_of axes
 some_size s [] all = omega arith
@@ -118,8 +118,8 @@ may_grow s d regions c a left is number =
     let some : 1 ≤ size_of left = some_size s left (All-tail (IsAxis s) a left is.each) in
     let grows : c.size * a.parts ≤ c.size * a.parts * size_of left = le-mul_of_pos_right (c.size * a.parts) some in
     let same : c.size * a.parts * size_of left ≡ c.size * (a.parts * size_of left) = mul_assoc c.size a.parts (size_of left) in
-    let few : length c.axes + length (a ∷ left) ≤ 4 = is.few in
-    let room : regions + c.size * (a.parts * size_of left) ≤ 4096 = is.room in
+    let few : length c.axes + length (a ∷ left) ≤ MOST_AXES = is.few in
+    let room : regions + c.size * (a.parts * size_of left) ≤ MOST_REGIONS = is.room in
     record {
       name = x.declared.name;
       number = number;
@@ -131,12 +131,12 @@ may_grow s d regions c a left is number =
 
 left_after : (s : Space) (regions : ℕ) (c : AxesDraft) (a : Axis) (left : List Axis) → IsLeft s regions c (a ∷ left) → IsLeft s regions (grown c a) left
 left_after s regions c a left is =
-    let few : length c.axes + length (a ∷ left) ≤ 4 = is.few in
+    let few : length c.axes + length (a ∷ left) ≤ MOST_AXES = is.few in
     record {
       each = All-tail (IsAxis s) a left is.each;
       once = subst (λ (xs : List Axis). AllDiffer (map (λ (y : Axis). y.attribute) xs)) (sym (append_assoc c.axes (a ∷ []) left)) is.once;
       few = omega (arith, few, length-append c.axes (a ∷ []));
-      room = subst (λ (m : ℕ). regions + m ≤ 4096) (sym (mul_assoc c.size a.parts (size_of left))) is.room;
+      room = subst (λ (m : ℕ). regions + m ≤ MOST_REGIONS) (sym (mul_assoc c.size a.parts (size_of left))) is.room;
     }
 
 abbrev axes_ok : List Axis → ℕ → Result (AxesDraft × List Tok) Reason
@@ -184,14 +184,14 @@ abbrev pub MayCut : Section → Type 0
 MayCut at = (at ≡ sections.Attributes) ⊎ (at ≡ sections.Subspaces)
 
 subspace_toks : (n : ℕ) (at : Section) (s : Space) (front : List (List Axis)) (regions : ℕ) (a : Axis)
-    (left : List Axis) → MayCut at → length front < 8 → IsLeft s regions no_axes_yet (a ∷ left) → Finds s s (a ∷ left)
+    (left : List Axis) → MayCut at → length front < MOST_SUBSPACES → IsLeft s regions no_axes_yet (a ∷ left) → Finds s s (a ∷ left)
     → line_of_toks n (cutting at s front regions) (Word (codes "subspace") ∷ axis_toks s a (more_toks s left))
     ≡ Ok (cutting sections.Subspaces s (front ++ (a ∷ left) ∷ []) (regions + size_of (a ∷ left)))
 unfolding command subspace_line
 subspace_toks n at s front regions a left (inl e) room is finds =
-    rw (e, lt-ltb (length front) 8 room, subspace_again a left s (cutting at s front regions).space regions is finds) refl
+    rw (e, lt-ltb (length front) MOST_SUBSPACES room, subspace_again a left s (cutting at s front regions).space regions is finds) refl
 subspace_toks n at s front regions a left (inr e) room is finds =
-    rw (e, lt-ltb (length front) 8 room, subspace_again a left s (cutting at s front regions).space regions is finds) refl
+    rw (e, lt-ltb (length front) MOST_SUBSPACES room, subspace_again a left s (cutting at s front regions).space regions is finds) refl
 
 pub line_parts : (k o t f n r : List ℕ) → (k ++ (o ++ t ++ f) ++ n) ++ r ≡ (k ++ (o ++ (t ++ (f ++ [])))) ++ (n ++ r)
 line_parts k o t f n r = simp (append_assoc, append-nil)
@@ -209,7 +209,7 @@ pub record IsNextCut (s : Space) (front : List (List Axis)) (regions : ℕ) (axe
   pub some : 0 < length axes
   pub left : IsLeft s regions no_axes_yet axes
   pub finds : Finds s s axes
-  pub room : length front < 8
+  pub room : length front < MOST_SUBSPACES
 
 subspace_reads : (n : ℕ) (at : Section) (s : Space) (front : List (List Axis)) (regions : ℕ) (axes : List Axis)
     (rest : List ℕ) (script : Script) → MayCut at → IsNextCut s front regions axes
@@ -228,17 +228,22 @@ all_map : {A : Type 0} (P Q : A → Type 0) → ((x : A) → P x → Q x) → (x
 all_map P Q f xs all k d lt = f _ (all k d lt)
 
 pub may_cut : (s : Space) (front : List (List Axis)) (regions : ℕ) (axes : List Axis) (more : List (List Axis))
-    → IsSpace s → front ++ axes ∷ more ≡ s.subspaces → regions + size_of axes ≤ 4096 → IsNextCut s front regions axes
+    → IsSpace s → front ++ axes ∷ more ≡ s.subspaces → regions + size_of axes ≤ MOST_REGIONS → IsNextCut s front regions axes
 may_cut s front regions axes more is split room =
     let sub : IsSubspaceOf s axes = all_here (IsSubspaceOf s) front axes more (subst (All (IsSubspaceOf s)) (sym split) is.subspaces) in
     let D : Axis → Type 0 = λ (a : Axis). (0 < a.attribute) × (a.attribute ≤ length s.attributes) × ArePart a.parts in
     let each : All (IsAxis s) axes = all_map D (IsAxis s) (λ a d. record { declared = declared s a.attribute is d.0 d.1; parts = d.2 }) axes sub.declared in
     let size : length front + length (axes ∷ more) ≡ length s.subspaces = sym (length-append front (axes ∷ more)) ∙ ap length split in
-    let few : length s.subspaces ≤ 8 = is.few_subspaces in
-    let four : length axes ≤ 4 = sub.few in
+    let few : length s.subspaces ≤ MOST_SUBSPACES = is.few_subspaces in
+    let four : length axes ≤ MOST_AXES = sub.few in
     record {
       some = sub.some;
-      left = record { each = each; once = sub.once; few = omega (arith, four); room = subst (λ (m : ℕ). regions + m ≤ 4096) (one_times (size_of axes)) room };
+      left = record {
+        each = each;
+        once = sub.once;
+        few = omega (arith, four);
+        room = subst (λ (m : ℕ). regions + m ≤ MOST_REGIONS) (one_times (size_of axes)) room;
+      };
       finds = all_map (IsAxis s) (λ (a : Axis). declared_number s (name_of s a.attribute) ≡ Ok a.attribute) (λ a x. x.declared.number) axes each;
       room = omega (arith, size, few);
     }
@@ -248,7 +253,7 @@ may_cut s front regions axes more is split room =
 
 pub subspaces_read : (more : List (List Axis)) (n : ℕ) (at : Section) (s : Space) (front : List (List Axis))
     (regions : ℕ) (rest : List ℕ) (script : Script) → MayCut at → IsSpace s → front ++ more ≡ s.subspaces
-    → regions + sizes_sum more ≤ 4096
+    → regions + sizes_sum more ≤ MOST_REGIONS
     → ((last : Section) → MayCut last → ReadsTo (n + length more)
     (cutting last s s.subspaces (regions + sizes_sum more)) rest script)
     → ReadsTo n (cutting at s front regions) (flat_map (subspace_text s) more ++ rest) script
@@ -266,7 +271,7 @@ subspaces_read (axes ∷ more) n at s front regions rest script here is split ro
     ap (λ (x : List ℕ). x ++ rest) (flat_map-cons (subspace_text s) axes more)
     ∙ append_assoc (subspace_text s axes) (flat_map (subspace_text s) more) rest in
     let k : n + length (axes ∷ more) ≡ n + 1 + length more = omega arith in
-    let whole : regions + (size_of axes + sizes_sum more) ≤ 4096 = room in
+    let whole : regions + (size_of axes + sizes_sum more) ≤ MOST_REGIONS = room in
     let r : regions + (size_of axes + sizes_sum more) ≡ regions + size_of axes + sizes_sum more = omega arith in
     let moved : (front ++ axes ∷ []) ++ more ≡ s.subspaces = append_assoc front (axes ∷ []) more ∙ split in
     subst (λ (x : List ℕ). ReadsTo n (cutting at s front regions) x script) (sym text)

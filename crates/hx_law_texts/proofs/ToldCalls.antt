@@ -3,9 +3,9 @@ use Rattle.hx_law_texts.proofs.Vocabulary.{[], Actor, Add, All, All-nil, All-pus
 use Rattle.hx_law_texts.proofs.Vocabulary.{CallIsSayable, CallWord, codes, cond, Coordinator, Cput, declared_number, Del, Deliver, Edit, edit_kind, EditKind}
 use Rattle.hx_law_texts.proofs.Vocabulary.{EditsAreSayable, Equal, Err, false, FitsSigned, Get, Halt, has_assign, has_edit, has_term, is_decimal, is_dots}
 use Rattle.hx_law_texts.proofs.Vocabulary.{is_edit_of, is_of, is_short, IsActorOf, IsSayable, IsText, IsUpTo, Kind, kind_at, known_number, leb-true, length}
-use Rattle.hx_law_texts.proofs.Vocabulary.{Limit, List, may_name, nat_le, not, Number, Ok, ok_is, on_ok_ok, Order, Put, Range, Reason, refl, Result, Search}
-use Rattle.hx_law_texts.proofs.Vocabulary.{Server, Session, Sign, Space, step, StepIsSayable, StepWord, Stop, subst, Term, TermIsSayable, Text, Tick, Tok, true}
-use Rattle.hx_law_texts.proofs.Vocabulary.{Twice, Until, Value, ValuesAreSayable, w64, Word, ℕ, ℤ, ◌++◌, ◌-◌, ◌<◌, ◌==◌, ◌^◌, ◌∷◌, ◌≡◌, ◌≤◌}
+use Rattle.hx_law_texts.proofs.Vocabulary.{Limit, List, LONGEST_TEXT, may_name, nat_le, not, Number, Ok, ok_is, on_ok_ok, Order, Put, Range, Reason, refl}
+use Rattle.hx_law_texts.proofs.Vocabulary.{Result, Search, Server, Session, Sign, Space, step, StepIsSayable, StepWord, Stop, subst, Term, TermIsSayable, Text}
+use Rattle.hx_law_texts.proofs.Vocabulary.{Tick, Tok, true, Twice, Until, Value, ValuesAreSayable, w64, Word, ℕ, ℤ, ◌++◌, ◌-◌, ◌<◌, ◌==◌, ◌^◌, ◌∷◌, ◌≡◌, ◌≤◌}
 use Rattle.std.specs.Prelude.{◌&&◌}
 use Rattle.hx_lex.specs.Numbers.{value as value_of}
 use Rattle.hx_types.specs.declared.values.Value.TheVariants as values
@@ -29,7 +29,7 @@ tells_named = tells_then Any tells_word (λ w u. tells_then Any (tells_check (ma
 
 tells_short_text : Tells short_text IsText
 unfolding short_text
-tells_short_text = tells_then IsText tells_text (λ t is. tells_then Any (tells_check (nat_le (length t) 1024) Limit) (λ u v. tells_give t is))
+tells_short_text = tells_then IsText tells_text (λ t is. tells_then Any (tells_check (nat_le (length t) LONGEST_TEXT) Limit) (λ u v. tells_give t is))
 
 any_value_at : (ts : List Tok) (x : Value × List Tok) → AllTold ts → any_value ts ≡ Ok x → IsSayable x.0 × AllTold x.1
 any_value_at [] x all e = absurd cc

@@ -1,8 +1,10 @@
 -- Each line keeps that the draft can be said.
 use Rattle.hx_law_texts.proofs.Vocabulary.{[], All, All-cons, All-head, All-nil, All-push, All-tail, Attribute, AxesDraft, Axis, BoundsAreSayable}
 use Rattle.hx_law_texts.proofs.Vocabulary.{CallIsSayable, CallWord, codes, declared_number, Draft, FitsSigned, has_axis, Heading, heading_line, is_declared}
-use Rattle.hx_law_texts.proofs.Vocabulary.{Keyword, keyword_of, length, Limit, List, min, nat_le, nat_lt, no_axes_yet, not, Ok, Option, Order, push_to_last}
-use Rattle.hx_law_texts.proofs.Vocabulary.{Reader, refl, Section, Some, Space, Step, StepIsSayable, StepWord, Twice, w64, ℕ, ◌*◌, ◌++◌, ◌+◌, ◌-◌, ◌∷◌, ◌≡◌, ◌≤◌}
+use Rattle.hx_law_texts.proofs.Vocabulary.{Keyword, keyword_of, length, Limit, List, LONGEST_NAME, min, MOST_ATTRIBUTES, MOST_AXES, MOST_CALLS, MOST_FAILURES}
+use Rattle.hx_law_texts.proofs.Vocabulary.{MOST_PARTS, MOST_REGIONS, MOST_SERVERS, MOST_SESSIONS, MOST_STEPS, MOST_SUBSPACES, nat_le, nat_lt, no_axes_yet, not}
+use Rattle.hx_law_texts.proofs.Vocabulary.{Ok, Option, Order, push_to_last, Reader, refl, Section, Some, Space, Step, StepIsSayable, StepWord, Twice, w64, ℕ}
+use Rattle.hx_law_texts.proofs.Vocabulary.{◌*◌, ◌++◌, ◌+◌, ◌-◌, ◌∷◌, ◌≡◌, ◌≤◌}
 use Rattle.hx_types.specs.declared.spaces.Kind.TheVariants as kinds
 use Rattle.hx_script.specs.declared.draft.Section.TheVariants as sections
 use Rattle.hx_script.specs.declared.keyword.Heading.TheVariants as headings
@@ -59,7 +61,7 @@ tells_hx d b c e = tells_then (λ n. n ≤ 1) (tells_number_in 1 1)
 
 pub tells_name : Tells name Any
 unfolding name
-tells_name = tells_then Any tells_named (λ w u. tells_then Any (tells_check (nat_le (length w) 32) Limit) (λ u v. tells_give w tt))
+tells_name = tells_then Any tells_named (λ w u. tells_then Any (tells_check (nat_le (length w) LONGEST_NAME) Limit) (λ u v. tells_give w tt))
 
 tells_space : (d : Draft) → BoundsSoFar d → CallsSoFar d → d.steps ≡ [] → Tells (space_line d) Said
 unfolding space_line
@@ -69,7 +71,7 @@ tells_space d b c e = tells_then Any tells_name (λ w i. tells_then Any tells_en
 
 tells_key : (d : Draft) → BoundsSoFar d → CallsSoFar d → d.steps ≡ [] → Tells (key_line d) Said
 unfolding key_line
-tells_key d b c e = tells_then Any tells_name (λ w i. tells_then (λ n. n ≤ 256) (tells_number_in 1 256)
+tells_key d b c e = tells_then Any tells_name (λ w i. tells_then (λ n. n ≤ MOST_PARTS) (tells_number_in 1 MOST_PARTS)
     (λ n h. tells_then Any tells_end (λ u t. tells_give
     (record d { section = sections.Attributes; regions = n; space = record d.space { key_name = w; key_parts = n } })
     (record { bounds = b; calls = c; steps = no_steps d.space.servers (length d.sessions) d.steps e; stage = e }))))
@@ -83,7 +85,7 @@ tells_new_name : (space : Space) → Tells (new_name space) Any
 unfolding new_name
 tells_new_name space = tells_then Any tells_named
     (λ w m. tells_then Any (tells_check (not (is_declared space w)) Twice)
-    (λ u n. tells_then Any (tells_check (nat_le (length w) 32) Limit) (λ u h. tells_give w tt)))
+    (λ u n. tells_then Any (tells_check (nat_le (length w) LONGEST_NAME) Limit) (λ u h. tells_give w tt)))
 
 pub tells_string : (space : Space) → Tells (string_attribute space) IsBounded
 unfolding string_attribute
@@ -99,7 +101,7 @@ tells_int space = tells_then Any (tells_new_name space)
 tells_attribute : (d : Draft) (attribute : Space → Reader Attribute) → d.section ≡ sections.Attributes → BoundsSoFar d
     → CallsSoFar d → d.steps ≡ [] → Tells (attribute d.space) IsBounded → Tells (attribute_line d attribute) Said
 unfolding attribute_line
-tells_attribute d attribute s b c e y = tells_then Any (tells_check (nat_lt (length d.space.attributes) 16) Limit)
+tells_attribute d attribute s b c e y = tells_then Any (tells_check (nat_lt (length d.space.attributes) MOST_ATTRIBUTES) Limit)
     (λ u room. tells_then IsBounded y (λ a n. tells_give
     (record d { space = record d.space { attributes = d.space.attributes ++ a ∷ [] } })
     (record {
@@ -116,12 +118,12 @@ unfolding free_axis
 tells_free_axis space axes = tells_then Any tells_named
     (λ w m. tells_then (λ a. declared_number space w ≡ Ok a) (tells_judged (declared_number space w))
     (λ a d. tells_then Any (tells_check (not (has_axis axes a)) Twice)
-    (λ u n. tells_then Any (tells_check (nat_lt (length axes) 4) Limit) (λ u r. tells_give a tt))))
+    (λ u n. tells_then Any (tells_check (nat_lt (length axes) MOST_AXES) Limit) (λ u r. tells_give a tt))))
 
 tells_parts : (regions size : ℕ) → Tells (parts regions size) Any
 unfolding parts
-tells_parts regions size = tells_then (λ n. n ≤ 256) (tells_number_in 1 256)
-    (λ n h. tells_then Any (tells_check (nat_le (regions + size * n) 4096) Limit) (λ u r. tells_give n tt))
+tells_parts regions size = tells_then (λ n. n ≤ MOST_PARTS) (tells_number_in 1 MOST_PARTS)
+    (λ n h. tells_then Any (tells_check (nat_le (regions + size * n) MOST_REGIONS) Limit) (λ u r. tells_give n tt))
 
 tells_axis : (space : Space) (regions : ℕ) (c : AxesDraft) → Tells (axis space regions c) Any
 unfolding axis
@@ -140,7 +142,7 @@ tells_subspace space regions = tells_then Any (tells_axis space regions no_axes_
 
 tells_subspace_line : (d : Draft) → BoundsSoFar d → CallsSoFar d → d.steps ≡ [] → Tells (subspace_line d) Said
 unfolding subspace_line
-tells_subspace_line d b c e = tells_then Any (tells_check (nat_lt (length d.space.subspaces) 8) Limit)
+tells_subspace_line d b c e = tells_then Any (tells_check (nat_lt (length d.space.subspaces) MOST_SUBSPACES) Limit)
     (λ u room. tells_then Any (tells_subspace d.space d.regions)
     (λ x f. tells_give (record d {
       section = sections.Subspaces;
@@ -153,15 +155,15 @@ tells_subspace_line d b c e = tells_then Any (tells_check (nat_lt (length d.spac
 
 tells_servers : (d : Draft) → BoundsSoFar d → CallsSoFar d → d.steps ≡ [] → Tells (servers_line d) Said
 unfolding servers_line
-tells_servers d b c e = tells_then (λ n. n ≤ 16) (tells_number_in 1 16)
+tells_servers d b c e = tells_then (λ n. n ≤ MOST_SERVERS) (tells_number_in 1 MOST_SERVERS)
     (λ n h. tells_then Any tells_end (λ u t. tells_give
     (record d { section = sections.Tolerance; space = record d.space { servers = n } })
     (record { bounds = b; calls = c; steps = no_steps n (length d.sessions) d.steps e; stage = e })))
 
 tells_tolerate : (d : Draft) → BoundsSoFar d → CallsSoFar d → d.steps ≡ [] → Tells (tolerate_line d) Said
 unfolding tolerate_line
-tells_tolerate d b c e = tells_then (λ n. n ≤ min (d.space.servers - 1) 4)
-    (tells_number_in 0 (min (d.space.servers - 1) 4))
+tells_tolerate d b c e = tells_then (λ n. n ≤ min (d.space.servers - 1) MOST_FAILURES)
+    (tells_number_in 0 (min (d.space.servers - 1) MOST_FAILURES))
     (λ n h. tells_then Any tells_end (λ u t. tells_give
     (record d { section = sections.Sessions; space = record d.space { tolerate = n } })
     (record { bounds = b; calls = c; steps = no_steps d.space.servers (length d.sessions) d.steps e; stage = e })))
@@ -170,7 +172,7 @@ tells_tolerate d b c e = tells_then (λ n. n ≤ min (d.space.servers - 1) 4)
 
 tells_session : (d : Draft) → BoundsSoFar d → CallsSoFar d → d.steps ≡ [] → Tells (session_line d) Said
 unfolding session_line
-tells_session d b c e = tells_then Any (tells_check (nat_lt (length d.sessions) 16) Limit)
+tells_session d b c e = tells_then Any (tells_check (nat_lt (length d.sessions) MOST_SESSIONS) Limit)
     (λ u room. tells_then (λ n. n ≤ length d.sessions + 1)
     (tells_number_in (length d.sessions + 1) (length d.sessions + 1))
     (λ n h. tells_then Any tells_end (λ u t. tells_give (record d { section = sections.Calls; sessions = d.sessions ++ [] ∷ [] })
@@ -194,7 +196,7 @@ all_last P (xs ∷ ys ∷ rest) x a p = All-cons (All P) xs (push_to_last (ys �
 
 tells_call_line : (d : Draft) (w : CallWord) → d.section ≡ sections.Calls → BoundsSoFar d → CallsSoFar d → d.steps ≡ [] → Tells (call_line d w) Said
 unfolding call_line
-tells_call_line d w s b c e = tells_then Any (tells_check (nat_lt d.calls 16384) Limit)
+tells_call_line d w s b c e = tells_then Any (tells_check (nat_lt d.calls MOST_CALLS) Limit)
     (λ u room. tells_then CallIsSayable (tells_call d.space d.regions w)
     (λ op f. tells_give (record d { sessions = push_to_last d.sessions op; calls = d.calls + 1 })
     (record {
@@ -206,7 +208,7 @@ tells_call_line d w s b c e = tells_then Any (tells_check (nat_lt d.calls 16384)
 
 tells_step_line : (n : ℕ) (d : Draft) (w : StepWord) → d.section ≡ sections.Steps → BoundsSoFar d → CallsSoFar d → StepsSoFar d → Tells (step_line n d w) Said
 unfolding step_line
-tells_step_line n d w s b c st = tells_then Any (tells_check (nat_lt (length d.steps) 65536) Limit)
+tells_step_line n d w s b c st = tells_then Any (tells_check (nat_lt (length d.steps) MOST_STEPS) Limit)
     (λ u room. tells_then (StepIsSayable d.space.servers (length d.sessions))
     (tells_step d.space.servers (length d.sessions) w) (λ x f. tells_give (record d { steps = d.steps ++ (n, x) ∷ [] })
     (record {

@@ -23,6 +23,8 @@ pub use Rattle.hx_types.specs.declared.calls.Op.{Op}
 pub use Rattle.hx_types.specs.declared.calls.Op.TheVariants.{Add, Atomic, Cput, Del, Get, Put, Search, Stop}
 pub use Rattle.hx_types.specs.declared.ids.Actor.{Actor}
 pub use Rattle.hx_types.specs.declared.ids.Actor.TheVariants.{Coordinator, Server, Session}
+pub use Rattle.hx_types.specs.declared.limits.TheConstants.{LONGEST_NAME, LONGEST_TEXT, MOST_ATTRIBUTES, MOST_AXES, MOST_CALLS, MOST_FAILURES, MOST_PARTS}
+pub use Rattle.hx_types.specs.declared.limits.TheConstants.{MOST_REGIONS, MOST_SERVERS, MOST_SESSIONS, MOST_STEPS, MOST_SUBSPACES}
 pub use Rattle.hx_types.specs.declared.messages.PostId.{PostId}
 pub use Rattle.hx_types.specs.declared.spaces.Attribute.{Attribute}
 pub use Rattle.hx_types.specs.declared.spaces.Axis.{Axis}
@@ -40,6 +42,7 @@ pub use Rattle.hx_types.specs.declared.values.Value.{Value}
 pub use Rattle.hx_bundle.specs.Bundles.{AreDealt, IsBundle, IsStepIn, times}
 pub use Rattle.hx_bundle.specs.declared.bundles.Bundle.{Bundle}
 pub use Rattle.hx_bundle.specs.declared.bundles.BundleStep.{BundleStep}
+pub use Rattle.hx_bundle.specs.declared.limits.TheConstants.{MOST_SPACES}
 pub use Rattle.hx_law_texts.specs.Again.{first_step_line, on_lines_from, on_printed_lines}
 pub use Rattle.hx_law_texts.specs.Sayable.{BoundsAreSayable, CallIsSayable, EditsAreSayable, IsActorOf, IsPostName, IsSayable, IsSayableScript, IsUpTo}
 pub use Rattle.hx_law_texts.specs.Sayable.{StepIsSayable, TermIsSayable, ValuesAreSayable}

@@ -1,7 +1,8 @@
 -- A whole script is read again.
 use Rattle.hx_law_texts.proofs.Vocabulary.{[], All, ap, append_assoc, arith, Attribute, BoundsAreSayable, codes, empty_draft, first_step_line, flat_map}
-use Rattle.hx_law_texts.proofs.Vocabulary.{flat_map-cons, inl, IsSayableScript, IsScript, IsSpace, length, List, Ok, on_lines_from, on_printed_lines, refl}
-use Rattle.hx_law_texts.proofs.Vocabulary.{region_count, Script, script_of, sizes_sum, Space, Step, subst, sym, ℕ, ◌*◌, ◌++◌, ◌+◌, ◌∷◌, ◌≡◌, ◌≤◌}
+use Rattle.hx_law_texts.proofs.Vocabulary.{flat_map-cons, inl, IsSayableScript, IsScript, IsSpace, length, List, MOST_REGIONS, Ok, on_lines_from}
+use Rattle.hx_law_texts.proofs.Vocabulary.{on_printed_lines, refl, region_count, Script, script_of, sizes_sum, Space, Step, subst, sym, ℕ, ◌*◌, ◌++◌, ◌+◌, ◌∷◌}
+use Rattle.hx_law_texts.proofs.Vocabulary.{◌≡◌, ◌≤◌}
 use Rattle.hx_print.specs.Printing.{space_line, key_line, attribute_line, subspace_line, servers_line, tolerate_line, space_text, sessions_text, step_line}
 use Rattle.hx_print.specs.Printing.{steps_text, script_text}
 use Rattle.hx_script.specs.declared.draft.Section.TheVariants as sections
@@ -31,7 +32,7 @@ unfolding space_text
 space_is_read s rest script is bounds next =
     let regions : ℕ = s.key_parts + sizes_sum s.subspaces in
     let n : ℕ = 3 + length s.attributes + length s.subspaces in
-    let few : s.key_parts + sizes_sum s.subspaces ≤ 4096 = rw (all_regions s) is.regions in
+    let few : s.key_parts + sizes_sum s.subspaces ≤ MOST_REGIONS = rw (all_regions s) is.regions in
     let last : List ℕ = tolerate_line s.tolerate ++ rest in
     let servers : List ℕ = servers_line s.servers ++ last in
     let cuts : List ℕ = flat_map (subspace_line s) s.subspaces ++ servers in
