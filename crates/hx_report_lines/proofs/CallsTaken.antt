@@ -12,6 +12,7 @@ use Rattle.std.proofs.lemmas.List.{append_assoc, append-nil, drop_at, length-app
 use Rattle.hx_lex.specs.Letters.{begins_with, is_digit}
 use Rattle.hx_model.specs.Types.{Answer, Attribute, Op, Row, Space, Value, Version}
 use Rattle.hx_types.specs.declared.calls.Answer.TheVariants as an_answer
+use Rattle.hx_types.specs.declared.limits.TheConstants.{MOST_REGIONS}
 use Rattle.hx_types.specs.Spaces.{Fits, IsObjectOf, IsSpace}
 use Rattle.hx_types.specs.Subspaces.{region_count}
 use Rattle.hx_law_texts.specs.Sayable.{CallIsSayable}
@@ -193,7 +194,7 @@ in_epoch space p w n is none bare n64 =
     ∙ ap (λ b. cond b (option_map (λ (o : List Value). record (answer_of w n 0) { answer = Some (an_answer.Found o) })
     (object_in space [])) (Some (answer_of w n 0))) bare
 
-small_region : (most n : ℕ) → most ≤ 4096 → n < most → Is64 n
+small_region : (most n : ℕ) → most ≤ MOST_REGIONS → n < most → Is64 n
 small_region most n few below = omega (arith, few, below)
 
 in_region : (space : Space) (p : List ℕ) (w : AnswerWord) (n m : ℕ) → IsSpace space → IsLabeled p w

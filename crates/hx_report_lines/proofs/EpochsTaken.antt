@@ -13,6 +13,7 @@ use Rattle.std.proofs.lemmas.List.Elements.{All-cons, All-head, All-nil, All-tai
 use Rattle.hx_lex.specs.Letters.{begins_with, is_digit}
 use Rattle.hx_lex.proofs.Lemmas.{and_left}
 use Rattle.hx_model.specs.Types.{RegionId, ServerId, Space}
+use Rattle.hx_types.specs.declared.limits.TheConstants.{MOST_REGIONS}
 use Rattle.hx_types.specs.Spaces.{IsRegionOf, IsServerOf, IsSpace}
 use Rattle.hx_types.specs.Subspaces.{region_count}
 use Rattle.hx_law_texts.proofs.Lemmas.{decimal_digits}
@@ -123,7 +124,7 @@ few_servers space (s ∷ ss) is all =
     let most = is.servers.1 in
     All-cons Is32 s.0 (map (λ (s : ServerId). s.0) ss) (omega (arith, within, most)) (few_servers space ss is (All-tail (IsServerOf space) s ss all))
 
-small_region : (most n : ℕ) → most ≤ 4096 → n < most → Is32 n
+small_region : (most n : ℕ) → most ≤ MOST_REGIONS → n < most → Is32 n
 small_region most n few below = omega (arith, few, below)
 
 pub few_regions : (space : Space) (gs : List RegionId) → IsSpace space → All (IsRegionOf space) gs → All Is32 (map (λ (g : RegionId). g.0) gs)

@@ -7,6 +7,7 @@ use Rattle.std.proofs.lemmas.List.Elements.{All-head, All-tail}
 use Rattle.hx_lex.specs.Spelling.{IsText}
 use Rattle.hx_model.specs.Types.{Answer, Attribute, Caller, RegionId, Row, ServerId, Space, Totals, Value, Version}
 use Rattle.hx_types.specs.declared.calls.Answer.TheVariants as an_answer
+use Rattle.hx_types.specs.declared.limits.TheConstants.{MOST_REGIONS}
 use Rattle.hx_types.specs.Spaces.{IsKind, IsName, IsSpace}
 use Rattle.hx_types.specs.Subspaces.{region_count}
 use Rattle.hx_law_texts.specs.Sayable.{IsSayable}
@@ -94,7 +95,7 @@ called_clean space c valid is =
     (both_clean t (op_text space c.op) (both_clean (span_text c) (codes " ")
     (span_clean c is.caller is.begin is.end) refl) (op_runs space c.op valid is.op is.said).clean) refl
 
-small_region : (most n : ℕ) → most ≤ 4096 → n < most → Is64 n
+small_region : (most n : ℕ) → most ≤ MOST_REGIONS → n < most → Is64 n
 small_region most n few below = omega (arith, few, below)
 
 region_clean : (space : Space) (w : List ℕ) (n m : ℕ) → IsSpace space → IsClean w → n < region_count space → Is64 m

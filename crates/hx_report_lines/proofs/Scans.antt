@@ -15,6 +15,7 @@ use Rattle.hx_lex.specs.Spelling.{IsText}
 use Rattle.hx_lex.proofs.Lemmas.{and_left, and_right}
 use Rattle.hx_model.specs.Types.{Assign, Attribute, Edit, EditKind, Equal, Op, Range, Space, Term, Value}
 use Rattle.hx_types.specs.declared.calls.Op.TheVariants as ops
+use Rattle.hx_types.specs.declared.limits.TheConstants.{MOST_REGIONS, MOST_SERVERS}
 use Rattle.hx_types.specs.declared.values.EditKind.TheVariants as an_edit
 use Rattle.hx_types.specs.declared.values.Value.TheVariants as a_value
 use Rattle.hx_types.specs.Spaces.{Fits, IsKind, IsName, IsSpace}
@@ -244,9 +245,9 @@ cput_runs space key tests sets is said tested written =
     (joined (codes "cput " ++ quoted key ++ codes " if" ++ t) (codes " set") upto (words_run (codes " set") refl)) (assigns_run space sets is written)
 
 small_server : (space : Space) (n : ℕ) → IsSpace space → n ≤ space.servers → n < 2 ^ 64
-small_server space n is within = let most : space.servers ≤ 16 = is.servers.1 in omega (arith, within, most)
+small_server space n is within = let most : space.servers ≤ MOST_SERVERS = is.servers.1 in omega (arith, within, most)
 
-small_region : (most n : ℕ) → most ≤ 4096 → n < most → n < 2 ^ 64
+small_region : (most n : ℕ) → most ≤ MOST_REGIONS → n < most → n < 2 ^ 64
 small_region most n few below = omega (arith, few, below)
 
 pub op_runs : (space : Space) (op : Op) → IsSpace space → Fits space op → CallIsSayable op → Runs (op_text space op)

@@ -10,6 +10,7 @@ use Rattle.std.proofs.lemmas.List.{append_assoc, append-nil, length-append}
 use Rattle.std.proofs.lemmas.List.Concat.{flat_map-append}
 use Rattle.std.proofs.lemmas.List.Elements.{All-cons, All-head, All-nil, All-tail}
 use Rattle.hx_model.specs.Types.{Attribute, Axis, Kind, Script, Space}
+use Rattle.hx_types.specs.declared.limits.TheConstants.{MOST_ATTRIBUTES, MOST_FAILURES, MOST_PARTS, MOST_REGIONS, MOST_SERVERS, MOST_SUBSPACES}
 use Rattle.hx_types.specs.declared.spaces.Kind.TheVariants as a_kind
 use Rattle.hx_types.specs.Spaces.{ArePart, IsKind, IsName, IsSpace, IsSubspaceOf, NamesDiffer}
 use Rattle.hx_types.specs.Subspaces.{region_count, size_of, sizes_sum}
@@ -74,22 +75,22 @@ differ_front [] more h = tt
 differ_front (x ∷ front) more h = (mapped_front (λ (m : List ℕ). m ≢ x.name) front more h.0, differ_front front more h.1)
 
 record IsEnd (n t : ℕ) : Type 0 where
-  servers : (0 < n) × (n ≤ 16)
-  tolerate : (t ≤ 4) × (t < n)
+  servers : (0 < n) × (n ≤ MOST_SERVERS)
+  tolerate : (t ≤ MOST_FAILURES) × (t < n)
 
 least_end : IsEnd 1 0
 least_end = record { servers = (omega arith, omega arith); tolerate = (omega arith, omega arith) }
 
 cut_valid : (s : Space) (front more : List Attribute) (subspaces : List (List Axis)) (n t : ℕ) → IsSpaceValue s
-    → s.attributes ≡ front ++ more → All (IsSubspaceOf (cut s front subspaces n t)) subspaces → length subspaces ≤ 8
-    → region_count (cut s front subspaces n t) ≤ 4096 → IsEnd n t → IsSpaceValue (cut s front subspaces n t)
+    → s.attributes ≡ front ++ more → All (IsSubspaceOf (cut s front subspaces n t)) subspaces → length subspaces ≤ MOST_SUBSPACES
+    → region_count (cut s front subspaces n t) ≤ MOST_REGIONS → IsEnd n t → IsSpaceValue (cut s front subspaces n t)
 cut_valid s front more subspaces n t is split all few regions end =
     let names : All (λ (a : Attribute). IsName a.name × IsKind a.kind) (front ++ more) =
     subst (All (λ (a : Attribute). IsName a.name × IsKind a.kind)) split is.valid.names in
     let differ : NamesDiffer (s.key_name ∷ map (λ (a : Attribute). a.name) (front ++ more)) =
     subst (λ (xs : List Attribute). NamesDiffer (s.key_name ∷ map (λ (a : Attribute). a.name) xs)) split
     is.valid.names_differ in
-    let many : length (front ++ more) ≤ 16 = subst (λ (xs : List Attribute). length xs ≤ 16) split is.valid.attributes in
+    let many : length (front ++ more) ≤ MOST_ATTRIBUTES = subst (λ (xs : List Attribute). length xs ≤ MOST_ATTRIBUTES) split is.valid.attributes in
     let long = length-append front more in
     record {
       valid = record {
@@ -108,7 +109,7 @@ cut_valid s front more subspaces n t is split all few regions end =
       bounds = all_front (λ (a : Attribute). BoundsAreSayable a.kind) front more (subst (All (λ (a : Attribute). BoundsAreSayable a.kind)) split is.bounds);
     }
 
-key_regions : (p : ℕ) → p ≤ 256 → p * 1 + 0 ≤ 4096
+key_regions : (p : ℕ) → p ≤ MOST_PARTS → p * 1 + 0 ≤ MOST_REGIONS
 key_regions p h = omega (arith, h)
 
 -- no subspaces, and so many attributes
@@ -129,10 +130,10 @@ fewer_subspaces : (s : Space) (front more : List (List Axis)) (n t : ℕ) → Is
     → IsEnd n t → IsSpaceValue (cut s s.attributes front n t)
 fewer_subspaces s front more n t is split end =
     let all : All (IsSubspaceOf s) (front ++ more) = subst (All (IsSubspaceOf s)) split is.valid.subspaces in
-    let few : length (front ++ more) ≤ 8 = subst (λ (xs : List (List Axis)). length xs ≤ 8) split is.valid.few_subspaces in
+    let few : length (front ++ more) ≤ MOST_SUBSPACES = subst (λ (xs : List (List Axis)). length xs ≤ MOST_SUBSPACES) split is.valid.few_subspaces in
     let long = length-append front more in
-    let regions : s.key_parts * 1 + sizes_sum (front ++ more) ≤ 4096 =
-    subst (λ (xs : List (List Axis)). s.key_parts * 1 + sizes_sum xs ≤ 4096) split is.valid.regions in
+    let regions : s.key_parts * 1 + sizes_sum (front ++ more) ≤ MOST_REGIONS =
+    subst (λ (xs : List (List Axis)). s.key_parts * 1 + sizes_sum xs ≤ MOST_REGIONS) split is.valid.regions in
     let less = sizes_front front more in
     cut_valid s s.attributes [] front n t is (sym (append-nil s.attributes))
     (subspaces_of_cut s front front n t (all_front (IsSubspaceOf s) front more all)) (omega (arith, few, long))
@@ -347,7 +348,7 @@ subspace_front_is s axes valid is = record {
   known = subspace_known s axes is.some;
 }
 
-servers_front_is : (n : ℕ) → n ≤ 16 → IsHeadLine (servers_line n) (codes "tolerate 0\n")
+servers_front_is : (n : ℕ) → n ≤ MOST_SERVERS → IsHeadLine (servers_line n) (codes "tolerate 0\n")
 unfolding servers_line
 servers_front_is n few = record {
   line = codes "servers " ++ decimal n;
@@ -357,7 +358,7 @@ servers_front_is n few = record {
   known = refl;
 }
 
-tolerate_front_is : (n : ℕ) → n ≤ 4 → IsHeadLine (tolerate_line n) []
+tolerate_front_is : (n : ℕ) → n ≤ MOST_FAILURES → IsHeadLine (tolerate_line n) []
 unfolding tolerate_line
 tolerate_front_is n few = record {
   line = codes "tolerate " ++ decimal n;
