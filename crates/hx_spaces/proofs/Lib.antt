@@ -11,3 +11,5 @@ pub mod Openings
 pub mod FairTurns
 pub mod OwnSteps
 pub mod Resting
+pub mod OneOrder
+pub mod Following

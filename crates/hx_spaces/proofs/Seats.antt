@@ -48,7 +48,7 @@ times-below k (j ∷ rest) (suc n) h = by (j == k) (times-below k rest n h) wher
   by true p = omega (arith, p)
   by false p = p
 
-none-any : (f : WorldState → Bool) (runs : List WorldState) (k : ℕ) (r : WorldState) → list_any f runs ≡ false → slice_get runs k ≡ Some r → f r ≡ false
+pub none-any : (f : WorldState → Bool) (runs : List WorldState) (k : ℕ) (r : WorldState) → list_any f runs ≡ false → slice_get runs k ≡ Some r → f r ≡ false
 none-any f [] k r e h = absurd (none-some r h)
 none-any f (x ∷ xs) zero r e h = ap f (sym (some-same h)) ∙ first (f x) e where
   first : (b : Bool) → (b || list_any f xs) ≡ false → b ≡ false

@@ -6,7 +6,7 @@
 //! space. A [`Cluster`] takes the steps of a bundle and goes on by its schedule.
 //!
 //! `specs/Courses.antt` has the schedule, `specs/Stepping.antt` the steps, and `specs/Begins.antt`
-//! what is meant by one call after another.
+//! what is meant by one call after another; `specs/Following.antt` says the same by notes.
 //!
 //! That a store has several spaces is HyperDex's; the order over all of them is this project's
 //! choice.
@@ -15,7 +15,9 @@
 mod beginning;
 mod clusters;
 mod delivering;
+mod laws;
 mod opening;
 mod stepping;
 
 pub use clusters::{Cluster, Traces};
+pub use laws::{begins_follow_ends, entries_have_one_order};
