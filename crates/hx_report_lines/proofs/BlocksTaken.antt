@@ -1,13 +1,13 @@
 -- Blocks that are printed are read again, list by list.
-use Rattle.std.proofs.Common.{◌≡◌, ◌≢◌, ℕ, zero, suc, ◌+◌, ◌-◌, ◌<◌, Bool, true, false, cond, List, [], ◌∷◌, ◌++◌, map}
+use Rattle.std.proofs.Common.{◌≡◌, ◌≢◌, ℕ, suc, ◌+◌, ◌-◌, Bool, true, false, cond, List, [], ◌∷◌, ◌++◌, map}
 use Rattle.std.proofs.Common.{length, eqb, Option, None, Some, inl, inr, refl, sym, ap, subst, ◌∙◌, arith}
-use Rattle.std.specs.Prelude.{◌⊎◌, codes, nat_eq, nat_lt}
-use Rattle.std.specs.List.{All, flat_map, starts_with}
+use Rattle.std.specs.Prelude.{◌⊎◌, codes, nat_lt}
+use Rattle.std.specs.List.{All, flat_map}
 use Rattle.std.specs.Option.{option_map}
-use Rattle.std.proofs.lemmas.Bool.{eq-eqb, ne_eqb}
+use Rattle.std.proofs.lemmas.Bool.{ne_eqb}
 use Rattle.std.proofs.lemmas.List.{append_assoc, append-nil}
 use Rattle.std.proofs.lemmas.List.Elements.{All-head, All-tail}
-use Rattle.hx_model.specs.Types.{Answer, Caller, Row, Space}
+use Rattle.hx_model.specs.Types.{Answer, Row, Space}
 use Rattle.hx_types.specs.declared.calls.Answer.TheVariants as an_answer
 use Rattle.hx_types.specs.Spaces.{IsSpace}
 use Rattle.hx_types.specs.Words.{text_below}
@@ -27,10 +27,10 @@ use Rattle.hx_report_lines.specs.declared.histories.ItemLine.{ItemLine}
 use Rattle.hx_report_lines.specs.declared.kinds.Kind.{Kind}
 use Rattle.hx_report_lines.specs.declared.kinds.Kind.TheVariants as kinds
 use Rattle.hx_report_lines.specs.Calling.{head_lines, row_of}
-use Rattle.hx_report_lines.specs.Drafts.{after_line, begun, block_of, call_after, driver_after, epoch_after, is_none}
-use Rattle.hx_report_lines.specs.Drafts.{item_line_in, key_after, kind_of, last_of, line_in, line_of_kind, put_driver}
-use Rattle.hx_report_lines.specs.Drafts.{put_epoch, put_head, put_key, put_raw, raw_after, row_line_in, settled}
-use Rattle.hx_report_lines.specs.Drafts.{with_call, with_history, with_rows}
+use Rattle.hx_report_lines.specs.Drafts.{after_line, begun, call_after, driver_after, epoch_after, is_none}
+use Rattle.hx_report_lines.specs.Drafts.{key_after, kind_of, last_of, line_in, line_of_kind, put_driver}
+use Rattle.hx_report_lines.specs.Drafts.{put_epoch, put_head, put_key, put_raw, raw_after, settled}
+use Rattle.hx_report_lines.specs.Drafts.{with_call, with_rows}
 use Rattle.hx_report_lines.specs.Printed.{block_text, call_text, called_text, driver_text, epoch_text, history_text}
 use Rattle.hx_report_lines.specs.Printed.{item_head, item_text, key_text, raw_text, span_text}
 use Rattle.hx_report_lines.specs.Readers.{on_some}

@@ -1,10 +1,10 @@
 -- Lines of calls and of rows that are printed are read again.
-use Rattle.std.proofs.Common.{◌≡◌, ℕ, suc, ◌+◌, ◌-◌, ◌^◌, ◌<◌, ◌≤◌, Bool, true, false, cond, not, ◌&&◌, List, [], ◌∷◌}
-use Rattle.std.proofs.Common.{◌++◌, length, take, drop, eqb, leb, ltb, Option, None, Some, refl, sym, ap, subst, ◌∙◌}
+use Rattle.std.proofs.Common.{◌≡◌, ℕ, ◌+◌, ◌-◌, ◌<◌, ◌≤◌, Bool, true, false, cond, not, List, [], ◌∷◌}
+use Rattle.std.proofs.Common.{◌++◌, length, take, drop, eqb, ltb, Option, None, Some, refl, sym, ap, subst, ◌∙◌}
 use Rattle.std.proofs.Common.{arith}
-use Rattle.std.specs.Prelude.{codes, is_some, nat_eq}
+use Rattle.std.specs.Prelude.{codes, is_some}
 use Rattle.std.specs.Fmt.{decimal}
-use Rattle.std.specs.List.{list_all, starts_with}
+use Rattle.std.specs.List.{list_all}
 use Rattle.std.specs.Option.{option_map}
 use Rattle.std.proofs.lemmas.Bool.{le-leb, lt-ltb}
 use Rattle.std.proofs.lemmas.Fmt.{decimal_nonempty}
@@ -33,7 +33,7 @@ use Rattle.hx_report_lines.specs.Calling.{names_region, op_before, op_part, regi
 use Rattle.hx_report_lines.specs.Calling.{row_version, second_number, span, with_object, word_and_numbers}
 use Rattle.hx_report_lines.specs.Parts.{caller, if_same, object_in, op_in, text_in}
 use Rattle.hx_report_lines.specs.Printed.{called_text, span_text}
-use Rattle.hx_report_lines.specs.Readers.{◌>>=◌, Reader, check, found, give, number, on_some, outside_from, piece, up_to, word}
+use Rattle.hx_report_lines.specs.Readers.{◌>>=◌, Reader, check, found, give, number, on_some, outside_from, up_to, word}
 use Rattle.hx_report_lines.specs.Values.{Is64, IsCaller, IsCallOf, MaybeAnswerOf, MaybeIs64, ObjectIsSayable, VersionFits, has_end}
 use Rattle.hx_report_lines.proofs.CallsRead.{IsRow}
 use Rattle.hx_report_lines.proofs.EpochsTaken.{no_minus}

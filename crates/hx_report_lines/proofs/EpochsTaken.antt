@@ -1,6 +1,6 @@
 -- Lines of configurations that are printed are read again.
-use Rattle.std.proofs.Common.{◌≡◌, ℕ, zero, suc, ◌+◌, ◌-◌, ◌^◌, ◌<◌, ◌≤◌, Bool, true, false, cond, not, ◌&&◌, List, []}
-use Rattle.std.proofs.Common.{◌∷◌, ◌++◌, map, length, take, drop, eqb, leb, ltb, Option, None, Some, refl, sym, ap}
+use Rattle.std.proofs.Common.{◌≡◌, ℕ, ◌+◌, ◌-◌, ◌<◌, ◌≤◌, Bool, true, false, cond, ◌&&◌, List, []}
+use Rattle.std.proofs.Common.{◌∷◌, ◌++◌, map, length, drop, eqb, leb, ltb, None, Some, refl, sym, ap}
 use Rattle.std.proofs.Common.{subst, ◌∙◌, arith}
 use Rattle.std.specs.Prelude.{codes, nat_eq, nat_lt}
 use Rattle.std.specs.Fmt.{decimal}
@@ -21,10 +21,10 @@ use Rattle.hx_print.specs.Printing.{next_number_text, numbers_text}
 use Rattle.hx_report_lines.specs.declared.epochs.EpochLine.{EpochLine}
 use Rattle.hx_report_lines.specs.Parts.{if_same}
 use Rattle.hx_report_lines.specs.Printed.{epoch_text, lost_text, servers_text}
-use Rattle.hx_report_lines.specs.Readers.{◌>>=◌, check, give, number, on_some, short_number, word}
+use Rattle.hx_report_lines.specs.Readers.{give, on_some, short_number}
 use Rattle.hx_report_lines.specs.Tailing.{all_below, ascend_to, epoch_in, epoch_of, numbers, numbers_after}
-use Rattle.hx_report_lines.specs.Values.{AscendsFrom, Is32, IsEpochOf, is_after}
-use Rattle.hx_report_lines.proofs.NumbersRead.{at_end, no_comma, one_number}
+use Rattle.hx_report_lines.specs.Values.{AscendsFrom, Is32, IsEpochOf}
+use Rattle.hx_report_lines.proofs.NumbersRead.{no_comma, one_number}
 use Rattle.hx_report_lines.proofs.Takes.{Takes, check_takes, kept, number_takes, short_takes, starts, takes_give, takes_then, wide, word_takes}
 
 -- ---- lists of numbers

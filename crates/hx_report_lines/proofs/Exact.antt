@@ -1,6 +1,6 @@
 -- A report's text is read, and where a text is refused none begins with the lines up to there.
-use Rattle.std.proofs.Common.{◌≡◌, ◌≢◌, ℕ, suc, ◌+◌, ◌-◌, ◌<◌, ◌≤◌, Bool, true, false, cond, ◌&&◌, List, [], ◌∷◌, ◌++◌}
-use Rattle.std.proofs.Common.{length, take, drop, Some, Ok, Err, inl, inr, refl, sym, ap, subst, ◌∙◌, arith}
+use Rattle.std.proofs.Common.{◌≡◌, ℕ, ◌+◌, ◌-◌, ◌<◌, ◌≤◌, Bool, true, cond, ◌&&◌, List, []}
+use Rattle.std.proofs.Common.{length, take, drop, Ok, Err, inl, inr, sym, ap, ◌∙◌, arith}
 use Rattle.std.specs.Prelude.{◌⊎◌}
 use Rattle.std.proofs.lemmas.Bool.{cases_lt}
 use Rattle.std.proofs.lemmas.List.{append-nil, length-take, take-append-drop}
@@ -9,7 +9,7 @@ use Rattle.hx_report_lines.specs.declared.drafts.Draft.{Draft}
 use Rattle.hx_report_lines.specs.declared.drafts.Section.TheVariants as sections
 use Rattle.hx_report_lines.specs.Drafts.{draft_of, empty_draft, ends_whole, finished, is_over, read_lines}
 use Rattle.hx_report_lines.specs.Printed.{text_of}
-use Rattle.hx_report_lines.specs.Unread.{Begins, IsUnreadAt, report_lines}
+use Rattle.hx_report_lines.specs.Unread.{Begins, IsUnreadAt}
 use Rattle.hx_report_lines.specs.Values.{IsReportValue, ReportValue}
 use Rattle.hx_report_lines.proofs.Cuts.{begun_before}
 use Rattle.hx_report_lines.proofs.Goes.{errs_later, reads_past, taken, taken_front}

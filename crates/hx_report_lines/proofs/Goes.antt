@@ -1,14 +1,14 @@
 -- Lines that are all read, one after the other.
-use Rattle.std.proofs.Common.{◌≡◌, ◌≢◌, ℕ, suc, ◌+◌, ◌<◌, Bool, true, false, cond, ◌&&◌, List, [], ◌∷◌, ◌++◌, length}
-use Rattle.std.proofs.Common.{Option, None, Some, Ok, Err, Result, refl, sym, ap, subst, ◌∙◌, arith}
+use Rattle.std.proofs.Common.{◌≡◌, ℕ, ◌+◌, ◌<◌, Bool, true, false, cond, ◌&&◌, List, [], ◌∷◌, ◌++◌, length}
+use Rattle.std.proofs.Common.{Option, None, Some, Ok, Err, refl, sym, ap, subst, ◌∙◌, arith}
 use Rattle.std.specs.List.{All, flat_map}
-use Rattle.std.proofs.lemmas.List.{append_assoc, append-nil, length-append}
+use Rattle.std.proofs.lemmas.List.{append-nil}
 use Rattle.std.proofs.lemmas.List.Concat.{flat_map-append}
 use Rattle.std.proofs.lemmas.List.Elements.{All-append, All-cons, All-nil}
 use Rattle.hx_script.specs.Texts.{lines_of}
 use Rattle.hx_report_lines.specs.declared.drafts.Draft.{Draft}
 use Rattle.hx_report_lines.specs.declared.drafts.Section.TheVariants as sections
-use Rattle.hx_report_lines.specs.Drafts.{after_line, finished, is_over, on_draft, read_lines, settled}
+use Rattle.hx_report_lines.specs.Drafts.{after_line, is_over, on_draft, read_lines, settled}
 use Rattle.hx_report_lines.specs.Readers.{on_some}
 use Rattle.hx_report_lines.proofs.Cuts.{lines_join}
 use Rattle.hx_report_lines.proofs.DraftsRead.{IsOneLine}

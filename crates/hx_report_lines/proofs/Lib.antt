@@ -24,3 +24,4 @@ pub mod BlocksTaken
 pub mod ReportsTaken
 pub mod Exact
 mod ReportRows
+pub mod Lemmas

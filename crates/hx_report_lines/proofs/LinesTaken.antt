@@ -1,7 +1,6 @@
 -- Lines of histories, of the trace and of drivers that are printed are read again.
-use Rattle.std.proofs.Common.{◌≡◌, ℕ, suc, ◌^◌, ◌<◌, Bool, true, false, cond, not, ◌&&◌, ◌||◌, List, [], ◌∷◌, ◌++◌}
-use Rattle.std.proofs.Common.{length, take, drop, eqb, ltb, Option, None, Some, inl, inr, refl, sym, ap, subst, ◌∙◌}
-use Rattle.std.proofs.Common.{arith}
+use Rattle.std.proofs.Common.{◌≡◌, ℕ, Bool, true, false, cond, not, ◌&&◌, ◌||◌, List, [], ◌++◌}
+use Rattle.std.proofs.Common.{eqb, Option, None, Some, inl, inr, refl, sym, ap, subst, ◌∙◌}
 use Rattle.std.specs.Prelude.{◌⊎◌, codes, nat_eq}
 use Rattle.std.specs.Fmt.{decimal}
 use Rattle.std.specs.List.{list_all, starts_with}
@@ -11,7 +10,7 @@ use Rattle.std.proofs.lemmas.List.{append_assoc, append-nil}
 use Rattle.std.proofs.lemmas.Str.{is_utf8-from_IsUtf8}
 use Rattle.hx_lex.specs.Letters.{begins_with, is_digit}
 use Rattle.hx_lex.specs.Spelling.{IsText}
-use Rattle.hx_model.specs.Types.{Caller, Space, Totals, Value}
+use Rattle.hx_model.specs.Types.{Space, Totals, Value}
 use Rattle.hx_types.specs.Spaces.{IsSpace, KeyFits}
 use Rattle.hx_print.specs.Printing.{caller_text, quoted}
 use Rattle.hx_report.specs.Driving.{driver_line, totals_text}
@@ -23,10 +22,10 @@ use Rattle.hx_report_lines.specs.declared.histories.ItemWord.{ItemWord}
 use Rattle.hx_report_lines.specs.declared.histories.ItemWord.TheVariants as words
 use Rattle.hx_report_lines.specs.Parts.{caller, if_same, item_answer, item_front, item_in, item_of, item_word, key_in, key_of, state_in, text_in}
 use Rattle.hx_report_lines.specs.Printed.{driver_text, item_head, item_text, key_text, word_text}
-use Rattle.hx_report_lines.specs.Readers.{◌>>=◌, found, give, number, on_some, piece, short_number, word}
+use Rattle.hx_report_lines.specs.Readers.{◌>>=◌, found, give, number, on_some, word}
 use Rattle.hx_report_lines.specs.Tailing.{driver_in, driver_of, field, raw_of}
 use Rattle.hx_report_lines.specs.Values.{BeginsWith, Is64, IsDriverLine, IsItemOf, IsRawLine}
-use Rattle.hx_report_lines.proofs.Takes.{Takes, assoc5, assoc7, caller_takes, found_takes, kept, number_takes}
+use Rattle.hx_report_lines.proofs.Takes.{Takes, assoc7, caller_takes, found_takes, kept, number_takes}
 use Rattle.hx_report_lines.proofs.Takes.{piece_takes, short_takes, starts, takes_give, takes_then, word_takes}
 use Rattle.hx_report_lines.proofs.ValuesTaken.{state_taken, text_taken}
 

@@ -1,11 +1,11 @@
 -- What is printed in a block has no newline but those at the ends of lines.
-use Rattle.std.proofs.Common.{◌≡◌, ℕ, ◌+◌, ◌^◌, ◌<◌, ◌≤◌, List, [], ◌∷◌, ◌++◌, map, length, Option, None, Some, refl, subst, arith}
+use Rattle.std.proofs.Common.{ℕ, ◌+◌, ◌<◌, ◌≤◌, List, [], ◌∷◌, ◌++◌, map, length, Option, None, Some, refl, arith}
 use Rattle.std.specs.Prelude.{codes}
 use Rattle.std.specs.Fmt.{decimal}
 use Rattle.std.specs.List.{All, flat_map}
 use Rattle.std.proofs.lemmas.List.Elements.{All-head, All-tail}
 use Rattle.hx_lex.specs.Spelling.{IsText}
-use Rattle.hx_model.specs.Types.{Answer, Attribute, Caller, RegionId, Row, ServerId, Space, Totals, Value, Version}
+use Rattle.hx_model.specs.Types.{Answer, Attribute, Caller, RegionId, Row, ServerId, Space, Value, Version}
 use Rattle.hx_types.specs.declared.calls.Answer.TheVariants as an_answer
 use Rattle.hx_types.specs.declared.limits.TheConstants.{MOST_REGIONS}
 use Rattle.hx_types.specs.Spaces.{IsKind, IsName, IsSpace}
@@ -30,7 +30,7 @@ use Rattle.hx_report_lines.proofs.CallsTaken.{answer_line, call_front, row_front
 use Rattle.hx_report_lines.proofs.DraftsRead.{IsOneLine}
 use Rattle.hx_report_lines.proofs.EpochsTaken.{epoch_front, few_regions, few_servers}
 use Rattle.hx_report_lines.proofs.LinesTaken.{driver_front, item_line, key_line}
-use Rattle.hx_report_lines.proofs.Scans.{Runs, decimal_runs, name_runs, named_runs, one_line_of, op_runs, quoted_runs}
+use Rattle.hx_report_lines.proofs.Scans.{decimal_runs, name_runs, named_runs, one_line_of, op_runs, quoted_runs}
 use Rattle.hx_report_lines.proofs.Takes.{wide}
 
 -- ---- parts

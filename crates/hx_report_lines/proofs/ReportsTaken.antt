@@ -1,19 +1,17 @@
 -- The text of each report is read.
-use Rattle.std.proofs.Common.{◌≡◌, ◌≢◌, ℕ, suc, ◌+◌, ◌<◌, true, false, cond, List, [], ◌∷◌, ◌++◌, length, eqb, Option}
+use Rattle.std.proofs.Common.{◌≡◌, ℕ, ◌+◌, true, cond, List, [], ◌∷◌, ◌++◌}
 use Rattle.std.proofs.Common.{None, Some, inl, inr, refl, sym, ap, subst, ◌∙◌, arith}
 use Rattle.std.specs.Prelude.{◌⊎◌, codes}
 use Rattle.std.specs.List.{All, flat_map}
 use Rattle.std.proofs.lemmas.Bool.{eq-eqb}
 use Rattle.std.proofs.lemmas.List.{append_assoc, append-nil}
-use Rattle.std.proofs.lemmas.List.Elements.{All-head, All-nil, All-tail}
-use Rattle.hx_types.specs.Spaces.{IsName}
-use Rattle.hx_print.specs.Printing.{space_line}
+use Rattle.std.proofs.lemmas.List.Elements.{All-head, All-tail}
 use Rattle.hx_script.specs.Texts.{lines_of}
 use Rattle.hx_report_lines.specs.declared.blocks.Block.{Block}
 use Rattle.hx_report_lines.specs.declared.drafts.Draft.{Draft}
 use Rattle.hx_report_lines.specs.declared.drafts.Section.TheVariants as sections
 use Rattle.hx_report_lines.specs.declared.kinds.Kind.TheVariants as kinds
-use Rattle.hx_report_lines.specs.Drafts.{after_line, closed, empty_draft, end_after, ends_whole, head_line, is_newline, next_after, settled}
+use Rattle.hx_report_lines.specs.Drafts.{closed, empty_draft, end_after, ends_whole, head_line, is_newline, next_after}
 use Rattle.hx_report_lines.specs.Printed.{block_text, first_text, text_of}
 use Rattle.hx_report_lines.specs.Readers.{on_some}
 use Rattle.hx_report_lines.specs.Values.{HasBlocks, IsBlock, IsReportValue, ReportValue}
@@ -21,7 +19,7 @@ use Rattle.hx_report_lines.proofs.BlocksTaken.{block_goes, last_push, of_kind, s
 use Rattle.hx_report_lines.proofs.Goes.{Goes, Stands, Steps, one_step, steps_lines, steps_then, taken}
 use Rattle.hx_report_lines.proofs.Scans.{one_line_of}
 use Rattle.hx_report_lines.proofs.SpacesTaken.{Starts, body, head_draft, starts_first}
-use Rattle.hx_report_lines.proofs.TextsRead.{first_one, first_two, with_newline}
+use Rattle.hx_report_lines.proofs.TextsRead.{first_one, first_two}
 
 -- behind a block the space of another one may come in version 2
 starts_next : (d : Draft) (v : ℕ) (bs : List Block) (b : Block) → Stands d (body v bs b) → v ≡ 2 → Starts d v (bs ++ b ∷ [])

@@ -9,7 +9,6 @@ use Rattle.std.specs.List.{All, flat_map, list_all}
 use Rattle.std.proofs.lemmas.Bool.{eqb-false, eqb-true}
 use Rattle.std.proofs.lemmas.List.{append_assoc, append-nil, length-append}
 use Rattle.std.proofs.lemmas.List.Elements.{All-cons, All-head, All-nil, All-tail}
-use Rattle.std.proofs.lemmas.List.Folds.{list_all-append}
 use Rattle.hx_lex.specs.Letters.{is_digit, is_word_part}
 use Rattle.hx_lex.specs.Spelling.{IsText}
 use Rattle.hx_lex.proofs.Lemmas.{and_left, and_right}
@@ -22,7 +21,7 @@ use Rattle.hx_types.specs.Spaces.{Fits, IsKind, IsName, IsSpace}
 use Rattle.hx_types.specs.Words.{when_some}
 use Rattle.hx_print.specs.Printing.{add_text, assign_text, cput_text, edit_text, edit_word, escape, name_of}
 use Rattle.hx_print.specs.Printing.{named_text, op_text, quoted, range_text, term_text, value_text}
-use Rattle.hx_law_texts.specs.Sayable.{CallIsSayable, EditsAreSayable, IsSayable, TermIsSayable, ValuesAreSayable}
+use Rattle.hx_law_texts.specs.Sayable.{CallIsSayable, IsSayable, TermIsSayable, ValuesAreSayable}
 use Rattle.hx_law_texts.proofs.Lemmas.{a_name, decimal_digits, text_says, IsClean, both_clean, clean_by, nil_says, on_line}
 use Rattle.hx_report_lines.specs.declared.cursor.Place.{Place}
 use Rattle.hx_report_lines.specs.declared.cursor.Place.TheVariants.{Outside, Inside, Escaped}

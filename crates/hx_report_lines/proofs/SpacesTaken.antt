@@ -1,19 +1,17 @@
 -- The lines of a space that are printed are read again: behind each of them some space goes on.
-use Rattle.std.proofs.Common.{◌≡◌, ◌≢◌, ℕ, zero, suc, ◌+◌, ◌-◌, ◌*◌, ◌<◌, ◌≤◌, Bool, true, false, cond, List, [], ◌∷◌}
-use Rattle.std.proofs.Common.{◌++◌, map, length, Option, None, Some, Ok, refl, sym, ap, subst, ◌∙◌, arith}
+use Rattle.std.proofs.Common.{◌≡◌, ◌≢◌, ℕ, ◌+◌, ◌-◌, ◌*◌, ◌<◌, ◌≤◌, cond, List, [], ◌∷◌}
+use Rattle.std.proofs.Common.{◌++◌, map, length, None, Some, refl, sym, ap, subst, ◌∙◌, arith}
 use Rattle.std.specs.Prelude.{codes, ◌≢◌}
 use Rattle.std.specs.List.{All, flat_map}
 use Rattle.std.specs.Fmt.{decimal, signed_decimal}
-use Rattle.std.specs.Str.{bytes_eq}
 use Rattle.std.proofs.lemmas.Fmt.{decimal_digit}
 use Rattle.std.proofs.lemmas.List.{append_assoc, append-nil, length-append}
-use Rattle.std.proofs.lemmas.List.Concat.{flat_map-append}
 use Rattle.std.proofs.lemmas.List.Elements.{All-cons, All-head, All-nil, All-tail}
 use Rattle.hx_model.specs.Types.{Attribute, Axis, Kind, Script, Space}
 use Rattle.hx_types.specs.declared.limits.TheConstants.{MOST_ATTRIBUTES, MOST_FAILURES, MOST_PARTS, MOST_REGIONS, MOST_SERVERS, MOST_SUBSPACES}
 use Rattle.hx_types.specs.declared.spaces.Kind.TheVariants as a_kind
 use Rattle.hx_types.specs.Spaces.{ArePart, IsKind, IsName, IsSpace, IsSubspaceOf, NamesDiffer}
-use Rattle.hx_types.specs.Subspaces.{region_count, size_of, sizes_sum}
+use Rattle.hx_types.specs.Subspaces.{region_count, sizes_sum}
 use Rattle.hx_law_texts.specs.Sayable.{BoundsAreSayable}
 use Rattle.hx_law_texts.proofs.Lemmas.{all_here, reads_back}
 use Rattle.hx_print.specs.Printing.{attribute_line, axes_text, axis_text, bounds_text, int_line, key_line, name_of}
@@ -24,7 +22,7 @@ use Rattle.hx_report_lines.specs.declared.blocks.Block.{Block}
 use Rattle.hx_report_lines.specs.declared.drafts.Draft.{Draft}
 use Rattle.hx_report_lines.specs.declared.drafts.Open.TheVariants as opens
 use Rattle.hx_report_lines.specs.declared.drafts.Section.TheVariants as sections
-use Rattle.hx_report_lines.specs.Drafts.{after_line, block_of, empty_space, head_line, head_with, with_space}
+use Rattle.hx_report_lines.specs.Drafts.{after_line, block_of, empty_space, head_with, with_space}
 use Rattle.hx_report_lines.specs.Readers.{on_some}
 use Rattle.hx_report_lines.specs.Tailing.{rest_of_head, same_space, space_of}
 use Rattle.hx_report_lines.specs.Values.{IsSpaceValue}

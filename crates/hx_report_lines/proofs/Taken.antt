@@ -4,7 +4,7 @@ use Rattle.std.specs.Prelude.{⊤}
 use Rattle.std.specs.Option.{option_map}
 use Rattle.std.proofs.lemmas.Bool.{ltb-true}
 use Rattle.hx_lex.specs.Numbers.{digits_len, value}
-use Rattle.hx_report_lines.specs.Readers.{◌>>=◌, Reader, check, found, give, number, on_some, short_number}
+use Rattle.hx_report_lines.specs.Readers.{◌>>=◌, Reader, check, give, number, on_some, short_number}
 use Rattle.hx_report_lines.specs.Values.{Is32, Is64}
 
 -- what was bound to what

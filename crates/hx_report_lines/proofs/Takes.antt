@@ -1,15 +1,14 @@
 -- What is printed is taken again: words, numbers, callers.
-use Rattle.std.proofs.Common.{◌≡◌, ℕ, suc, ◌^◌, ◌<◌, Bool, true, false, cond, not, ◌&&◌, List, [], ◌∷◌, ◌++◌, length}
-use Rattle.std.proofs.Common.{take, drop, eqb, ltb, Option, None, Some, refl, sym, ap, subst, ◌∙◌, arith}
+use Rattle.std.proofs.Common.{◌≡◌, ℕ, ◌^◌, ◌<◌, Bool, true, false, cond, not, ◌&&◌, List, [], ◌∷◌, ◌++◌, length}
+use Rattle.std.proofs.Common.{drop, eqb, ltb, Option, None, Some, refl, sym, ap, subst, ◌∙◌, arith}
 use Rattle.std.specs.Prelude.{codes, nat_eq}
 use Rattle.std.specs.Fmt.{decimal}
 use Rattle.std.specs.List.{list_all, prefix_len, starts_with}
 use Rattle.std.specs.Str.{bytes_eq}
 use Rattle.std.proofs.lemmas.Bool.{lt-ltb}
-use Rattle.std.proofs.lemmas.List.{append_assoc, append-nil, drop_at, take_at}
+use Rattle.std.proofs.lemmas.List.{append_assoc, drop_at, take_at}
 use Rattle.std.proofs.lemmas.Slice.Eq.{bytes_eq-Decides}
 use Rattle.hx_lex.specs.Letters.{begins_with, is_digit}
-use Rattle.hx_lex.specs.Numbers.{digits_len, value}
 use Rattle.hx_model.specs.Types.{Caller}
 use Rattle.hx_print.specs.Printing.{caller_text}
 use Rattle.hx_law_texts.proofs.Lemmas.{decimal_digits, decimal_value, whole_run}

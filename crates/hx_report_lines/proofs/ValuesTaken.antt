@@ -1,26 +1,24 @@
 -- Texts and objects that are printed are read again.
-use Rattle.std.proofs.Common.{◌≡◌, ℕ, zero, suc, ◌+◌, ◌-◌, ◌<◌, ◌≤◌, Bool, true, false, cond, ◌&&◌, List, [], ◌∷◌}
-use Rattle.std.proofs.Common.{◌++◌, map, length, eqb, Option, None, Some, Ok, refl, sym, ap, subst, ◌∙◌, arith}
-use Rattle.std.specs.Prelude.{◌≢◌, codes, slice_get, IsSomeAnd, ⊤}
+use Rattle.std.proofs.Common.{◌≡◌, ℕ, suc, ◌+◌, ◌-◌, ◌<◌, true, false, cond, ◌&&◌, List, [], ◌∷◌}
+use Rattle.std.proofs.Common.{◌++◌, map, length, eqb, Option, None, Some, refl, sym, ap, subst, ◌∙◌, arith}
+use Rattle.std.specs.Prelude.{◌≢◌, codes, slice_get, IsSomeAnd}
 use Rattle.std.specs.List.{All, AllZip, flat_map}
 use Rattle.std.specs.Option.{option_map}
-use Rattle.std.specs.Str.{bytes_eq}
 use Rattle.std.proofs.lemmas.Bool.{eq-eqb, ne_eqb}
-use Rattle.std.proofs.lemmas.List.{append_assoc, append-nil, length-append}
+use Rattle.std.proofs.lemmas.List.{append_assoc, length-append}
 use Rattle.std.proofs.lemmas.List.Elements.{All-cons, All-head, All-nil, All-tail}
 use Rattle.std.proofs.lemmas.Str.{IsUtf8-nil}
 use Rattle.hx_lex.specs.Spelling.{IsText}
 use Rattle.hx_model.specs.Types.{Assign, Attribute, Op, Space, Value}
 use Rattle.hx_types.specs.declared.calls.Op.TheVariants as ops
-use Rattle.hx_types.specs.Spaces.{AllDiffer, AssignFits, AssignsFit, Fits, IsMaybeObjectOf, IsObjectOf, IsOfKind, IsSpace, KeyFits}
+use Rattle.hx_types.specs.Spaces.{AllDiffer, AssignFits, Fits, IsMaybeObjectOf, IsObjectOf, IsOfKind, IsSpace, KeyFits}
 use Rattle.hx_types.specs.Words.{when_some}
 use Rattle.hx_print.specs.Printing.{assigns_text, name_of, named_text, op_text, quoted}
 use Rattle.hx_report.specs.Reporting.{object_text, state_text}
-use Rattle.hx_script.specs.LoneCalls.{op_of_line}
 use Rattle.hx_law_texts.specs.Sayable.{CallIsSayable, IsSayable}
 use Rattle.hx_law_texts.proofs.Lemmas.{lone_reads}
 use Rattle.hx_report_lines.specs.Parts.{got_key, in_order, object_in, op_in, put_values, read_ok, state_in, text_in, values_in}
-use Rattle.hx_report_lines.specs.Readers.{on_some, word}
+use Rattle.hx_report_lines.specs.Readers.{on_some}
 use Rattle.hx_report_lines.specs.Values.{MaybeObjectIsSayable, ObjectIsSayable}
 use Rattle.hx_report_lines.proofs.Takes.{word_takes}
 use Rattle.hx_report_lines.proofs.ValuesRead.{at_front}

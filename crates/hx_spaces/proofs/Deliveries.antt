@@ -2,13 +2,12 @@
 use Rattle.std.proofs.Common.{◌≡◌, ℕ, ◌+◌, ◌<◌, ◌≤◌, Bool, true, false, List, length, map, drop, refl, sym, ap, ◌∙◌, subst}
 use Rattle.std.proofs.lemmas.Bool.{false≢true}
 use Rattle.std.proofs.lemmas.List.{reverse-reverse}
-use Rattle.std.specs.Prelude.{slice_get, slice_set, reverse, is_some, MatchOption, Option, Some, None, Result, Ok, Err, IfOk, IfErr, OnErr}
-use Rattle.hx_model.specs.Types.{Entry, PostId, Script}
+use Rattle.std.specs.Prelude.{slice_get, slice_set, reverse, is_some, Option, Some, None, Result, Ok, Err, IfOk, IfErr, OnErr}
+use Rattle.hx_model.specs.Types.{Entry, Script}
 use Rattle.hx_types.specs.Words.{when_some}
 use Rattle.hx_model.specs.Schedule.{Next}
 use Rattle.hx_world.specs.Worlds.{WorldState}
 use Rattle.hx_world.specs.Nexts.{DeliversNext, FailsAt, Makes, delivery_in}
-use Rattle.hx_world.specs.Idle.{IsPostedFirst}
 use Rattle.hx_world.specs.declared.ends.DrainError.{DrainError}
 use Rattle.hx_world.specs.declared.ends.DrainError.TheVariants.{Memory, Worn}
 use Rattle.hx_spaces.specs.Courses.{Turn, first_delivery_from, newest, run_with, runs_with}

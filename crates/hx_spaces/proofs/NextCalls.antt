@@ -1,21 +1,19 @@
 -- Whose turn it is, and that it was taken.
-use Rattle.std.proofs.Common.{◌≡◌, ℕ, ◌+◌, ◌<◌, ◌≤◌, Bool, true, false, ◌||◌, List, [], ◌∷◌, length, map, drop, refl, sym, ap, ◌∙◌, arith}
-use Rattle.std.specs.Prelude.{if◌then◌else◌, IfErr, OnOk, Option, Some, None, Result, Ok, Err, reverse, slice_get, slice_set}
+use Rattle.std.proofs.Common.{◌≡◌, ℕ, ◌+◌, ◌<◌, List, [], ◌∷◌, length, map, drop, refl, sym, ap, ◌∙◌, arith}
+use Rattle.std.specs.Prelude.{IfErr, OnOk, Option, Some, None, Result, Ok, Err, reverse, slice_get, slice_set}
 use Rattle.hx_model.specs.Types.{Actor, Coordinator, Server, Session, SessionId}
 use Rattle.hx_types.specs.Words.{when_some}
-use Rattle.hx_model.specs.Runs.{session_of}
 use Rattle.hx_model.specs.Schedule.{Next}
 use Rattle.hx_world.specs.Worlds.{WorldState}
 use Rattle.hx_world.specs.Nexts.{FailsAt, Makes, tick_of}
 use Rattle.hx_world.specs.declared.ends.DrainError.{DrainError}
 use Rattle.hx_world.specs.declared.ends.DrainError.TheVariants.{Memory, Worn}
 use Rattle.hx_bundle.specs.declared.bundles.Bundle.{Bundle}
-use Rattle.hx_spaces.specs.Courses.{Turn, begin_by, begun_in, first_begin, first_begin_from, is_busy_in, newest, next_space, runs_with, session_at, turns_at}
+use Rattle.hx_spaces.specs.Courses.{Turn, begin_by, first_begin, first_begin_from, newest, next_space, runs_with, session_at}
 use Rattle.hx_spaces.specs.Draining.{FailsIn}
-use Rattle.hx_spaces.specs.Keeping.{AreCounted}
-use Rattle.hx_spaces.specs.Walks.{begin_turn, turn_left}
+use Rattle.hx_spaces.specs.Walks.{begin_turn}
 use Rattle.hx_spaces.proofs.Deliveries.{runs-set, with-entry}
-use Rattle.hx_spaces.proofs.Places.{drop-here, drop-none, get-map, set-map, some-same, something}
+use Rattle.hx_spaces.proofs.Places.{drop-here, get-map, set-map, some-same, something}
 
 -- ---- whether a session is busy
 

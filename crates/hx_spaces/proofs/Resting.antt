@@ -1,14 +1,13 @@
 -- Before the space of the first delivery none has one.
-use Rattle.std.proofs.Common.{◌≡◌, ℕ, zero, suc, ◌+◌, ◌<◌, ◌≤◌, Bool, true, false, List, [], ◌∷◌, length, drop, min, refl, sym, ap, ◌∙◌, subst, arith, ltb}
+use Rattle.std.proofs.Common.{◌≡◌, ℕ, zero, suc, ◌+◌, ◌<◌, ◌≤◌, Bool, true, false, List, [], ◌∷◌, length, drop, min, refl, sym, ap, ◌∙◌, arith, ltb}
 use Rattle.std.proofs.lemmas.Bool.{ltb-false, ltb-true}
 use Rattle.std.specs.Prelude.{slice_get, slice_set, Option, Some, None}
 use Rattle.hx_types.specs.Words.{when_some}
 use Rattle.hx_model.specs.Schedule.{Next}
 use Rattle.hx_world.specs.Worlds.{WorldState}
 use Rattle.hx_world.specs.Nexts.{delivery_in}
-use Rattle.hx_bundle.specs.declared.bundles.Bundle.{Bundle}
 use Rattle.hx_spaces.specs.Courses.{Turn, first_delivery_from, run_with, runs_with}
-use Rattle.hx_spaces.specs.Keeping.{IsKeptFrom, RestBefore, course_of}
+use Rattle.hx_spaces.specs.Keeping.{RestBefore}
 use Rattle.hx_spaces.specs.Walks.{DeliversIn, delivery_at}
 use Rattle.hx_spaces.proofs.Deliveries.{walked}
 use Rattle.hx_spaces.proofs.Places.{drop-none, get-set-other, none-some, some-same, suc-is}

@@ -1,13 +1,9 @@
 -- Drains: the entries that the schedule makes one after another.
-use Rattle.std.proofs.Common.{◌≡◌, ℕ, zero, suc, ◌+◌, ◌-◌, ◌≤◌, Bool, true, false, List, Option, None, refl, sym, ap, ◌∙◌, subst, arith, add-one, add-zero}
-use Rattle.hx_types.specs.Words.{first_some}
-use Rattle.hx_world.specs.Worlds.{WorldState}
-use Rattle.hx_world.specs.declared.ends.DrainError.{DrainError}
-use Rattle.hx_world.specs.declared.ends.DrainError.TheVariants.{Memory, Worn}
+use Rattle.std.proofs.Common.{◌≡◌, ℕ, zero, suc, ◌+◌, ◌-◌, ◌≤◌, false, Option, None, refl, sym, ap, ◌∙◌, subst, arith, add-one, add-zero}
 use Rattle.hx_world.specs.declared.ends.Drained.TheVariants.{Quiet}
 use Rattle.hx_world.proofs.Lemmas.{none_there}
-use Rattle.hx_spaces.specs.Courses.{Course, Turn, first_begin, first_delivery_from, next_turn, scheduled, with_turn}
-use Rattle.hx_spaces.specs.Draining.{Drains, FailsIn, IsWornTurn, Takes}
+use Rattle.hx_spaces.specs.Courses.{Course, Turn, next_turn, scheduled, with_turn}
+use Rattle.hx_spaces.specs.Draining.{Drains, Takes}
 
 pub scheduled_more : (c : Course) (n : ℕ) → scheduled c (n + 1) ≡ with_turn (scheduled c n) (next_turn (scheduled c n))
 scheduled_more c n = rw add-one refl
