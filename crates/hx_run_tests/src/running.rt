@@ -7,8 +7,9 @@ use hx_driver::Gate;
 use hx_fate::Fate;
 use hx_history::{histories, records};
 use hx_legal::legal;
-use hx_run::{Ran, run};
+use hx_run::run;
 use hx_script::{ScriptError, read, scripts_are_valid};
+use hx_trace::Trace;
 use hx_types::Script;
 use std::alloc::Global;
 use std::process::Abort;
@@ -41,8 +42,8 @@ pub fn boxed<R: Abort + AllocGlobal, F: Fate + Send + Drop>(rt: &R, fate: F) -> 
 }
 
 /// Whether every history of a run of the script is legal.
-fn are_legal<R: Abort + AllocGlobal>(rt: &R, script: &Script, ran: &Ran) -> bool {
-    let histories = histories(rt.alloc(), script, &ran.trace).expect(rt, "memory");
+pub fn are_legal<R: Abort + AllocGlobal>(rt: &R, script: &Script, trace: &Trace) -> bool {
+    let histories = histories(rt.alloc(), script, trace).expect(rt, "memory");
     let mut listed = histories.as_slice().iter();
     let are_legal = listed.all(|history| legal(&script.space, history.items.as_slice()));
     drop(histories);
@@ -50,8 +51,8 @@ fn are_legal<R: Abort + AllocGlobal>(rt: &R, script: &Script, ran: &Ran) -> bool
 }
 
 /// How many calls of the script are answered in a run of it.
-fn count_answers<R: Abort + AllocGlobal>(rt: &R, script: &Script, ran: &Ran) -> usize {
-    let records = records(rt.alloc(), script, &ran.trace).expect(rt, "memory");
+pub fn count_answers<R: Abort + AllocGlobal>(rt: &R, script: &Script, trace: &Trace) -> usize {
+    let records = records(rt.alloc(), script, trace).expect(rt, "memory");
     let ended = records.as_slice().iter();
     let count = ended.filter(|record| record.answer.is_some()).count();
     drop(records);
@@ -73,8 +74,8 @@ pub fn answers<R: Abort + AllocGlobal + Threads + Wait + Sync, G: Gate + Sync>(
 {
     let script = script_of(rt, text);
     let ran = run(rt, rt.alloc(), &script, workers, capacity, fates, gate).expect(rt, "memory");
-    let is_sound = ran.worn.is_none() && are_legal(rt, &script, &ran);
-    let answers = count_answers(rt, &script, &ran);
+    let is_sound = ran.worn.is_none() && are_legal(rt, &script, &ran.trace);
+    let answers = count_answers(rt, &script, &ran.trace);
     drop(ran);
     drop(script);
     if is_sound { Some(answers) } else { None }

@@ -1,10 +1,12 @@
-//! Tests of scripts, reports, bytes, words, drawn scripts and summaries: a module for each crate
-//! that they are of.
+//! Tests of scripts, reports, audits, bytes, words, drawn scripts and summaries: a module for each
+//! crate that they are of.
 //!
 //! The texts are in this project's own languages of scripts and reports, and the form of the tests
 //! is its choice.
 #![tactic(auto)]
 
+#[cfg(test)]
+mod audit;
 #[cfg(test)]
 mod bundles;
 #[cfg(test)]

@@ -28,7 +28,7 @@ pub const ONE_SERVER: &str =
     "hx 1\nspace one\nkey k 1\nstring v\nservers 1\ntolerate 0\nsession 1\nput \"a\"\n";
 
 /// The script of a text.
-fn read_script(alloc: Global, text: &str) -> Result<Script, ScriptError>
+pub fn read_script(alloc: Global, text: &str) -> Result<Script, ScriptError>
     ensures { IfOk result (λ script. IsScript script) }
 {
     scripts_are_valid();

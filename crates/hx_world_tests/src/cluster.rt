@@ -1,7 +1,7 @@
 ghost use Rattle.std.specs.Prelude.{◌≡◌, ◌<◌, length};
 ghost use Rattle.hx_bundle.specs.Bundles.{IsBundle};
 
-use crate::texts::{EIGHT, HALTED, IN_TURN, OTHER_FIRST, OUT_OF_TURN, bundle_of};
+use crate::bundles::{EIGHT, HALTED, IN_TURN, OTHER_FIRST, OUT_OF_TURN, bundle_of};
 use hx_bundle::Bundle;
 use hx_spaces::Cluster;
 use hx_world::{Drained, StepError};

@@ -1,4 +1,4 @@
-use Rattle.hx_service_tests.proofs.plans.a_roster_makes_its_plan.Given as goal
+use Rattle.hx_world_tests.proofs.service.plans.a_roster_makes_its_plan.Given as goal
 
 -- the script that was read
 abbrev pub ghosts-make_all : goal.ghosts-make_all

@@ -1,6 +1,6 @@
 //! Histories of calls: a put and a get, and the report changed.
 
-use crate::parts::{Answered, is_printed_again, judged};
+use crate::audit::parts::{Answered, is_printed_again, judged};
 use hx_audit::Clause;
 use std::test::Fail;
 

@@ -1,5 +1,5 @@
 //! Calls, and what is kept of them.
-use crate::scripts::{BOOKS, ONE, called, has_session, script_of, service_of};
+use crate::service::parts::{BOOKS, ONE, called, has_session, script_of, service_of};
 use hx_script::Reason;
 use hx_service::{CallError, Receipt, Service, TextError};
 use hx_types::{Answer, Assign, Assigns, Op, SessionId, Text, Value, fits};

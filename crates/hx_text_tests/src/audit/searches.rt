@@ -1,6 +1,6 @@
 //! Searches: what they have to show, and may show.
 
-use crate::parts::{Answered, judged};
+use crate::audit::parts::{Answered, judged};
 use hx_audit::Clause;
 use std::test::Fail;
 

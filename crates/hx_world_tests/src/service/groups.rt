@@ -1,6 +1,6 @@
 //! Groups: what is found is changed, a row is left whose put is refused, and nothing is done where
 //! the search is.
-use crate::scripts::{BOOKS, called, has_session, service_of};
+use crate::service::parts::{BOOKS, called, has_session, service_of};
 use hx_service::{Grouped, Service};
 use hx_types::{Assign, Assigns, Exact, Op, SessionId, Term, Terms, Text, Value, fits};
 use std::process::Abort;

@@ -2,7 +2,7 @@
 ghost use Rattle.std.specs.Prelude.{◌≡◌, length};
 ghost use Rattle.hx_types.specs.Fitting.{IsScript};
 
-use crate::scripts::{TWO_CALLS, script_of};
+use crate::service::parts::{TWO_CALLS, script_of};
 use hx_service::{Charter, Roster};
 use hx_types::{Script, SessionId};
 use std::marker::Brand;

@@ -1,6 +1,6 @@
 //! Services that take no more calls: one that has all that it may have, and one whose session is
 //! worn.
-use crate::scripts::{ONE, service_of};
+use crate::service::parts::{ONE, service_of};
 use hx_service::{CallError, Service, TextError};
 use hx_types::{Actor, MOST_CALLS, SessionId};
 use std::process::Abort;

@@ -1,13 +1,12 @@
 //! Scripts of the tests, and what several tests do.
-ghost use Rattle.std.specs.Prelude.{◌≡◌, IfOk};
+ghost use Rattle.std.specs.Prelude.{◌≡◌};
 ghost use Rattle.hx_types.specs.declared.ids.Actor.TheVariants as an_actor;
 ghost use Rattle.hx_types.specs.Fitting.{IsScript};
 ghost use Rattle.hx_model.specs.Runs.{is_actor};
 
-use hx_script::{ScriptError, read, scripts_are_valid};
+use crate::scripts::read_script;
 use hx_service::{Receipt, Service};
 use hx_types::{Script, SessionId};
-use std::alloc::Global;
 use std::process::Abort;
 
 /// Two sessions without calls on a space of books.
@@ -20,15 +19,6 @@ pub const TWO_CALLS: &str =
 
 /// One session on a space of one server.
 pub const ONE: &str = "hx 1\nspace one\nkey k 1\nstring v\nservers 1\ntolerate 0\nsession 1\n";
-
-/// The script of a text.
-fn read_script(alloc: Global, text: &str) -> Result<Script, ScriptError>
-    ensures { IfOk result (λ script. IsScript script) }
-{
-    scripts_are_valid();
-    let script = read(alloc, text.as_bytes())?;
-    Ok(script)
-}
 
 /// The script of a text. What a test can't get ends it.
 pub fn script_of<R: Abort + AllocGlobal>(rt: &R, text: &str) -> Script
