@@ -23,3 +23,8 @@ pub mod RunAnswers
 pub mod RunCalls
 pub mod RunBlock
 pub mod RunBreaks
+pub mod TextLines
+pub mod SpaceTold
+pub mod PieceTold
+pub mod BlockTold
+pub mod Counted

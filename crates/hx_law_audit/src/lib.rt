@@ -5,6 +5,7 @@
 
 ghost use Rattle.hx_law_audit.specs.Meaning.{AccountsAgree, VerdictsAreUnique, YesMeansLinear, YesMeansOneOrder};
 ghost use Rattle.hx_law_audit.specs.Running.{RunsBreakNothing};
+ghost use Rattle.hx_law_audit.specs.Lines.{LinesAreCounted};
 
 /// A report has one verdict: where no clause is broken it is yes, and else it names the first
 /// clause that is broken anywhere and the lowest line at which it is.
@@ -40,4 +41,12 @@ pub fn accounts_agree()
 /// a report, on which the verdict is yes. Entries are numbered with 64 bits, and drivers with 32.
 pub fn runs_break_nothing()
     ensures { RunsBreakNothing }
+{}
+
+/// The line that a verdict names is that line of the report's text, where lines are numbered from 1
+/// and each ends with a newline: the line of a call is the one on which that call is printed, the
+/// lines after it are those of its rows, and so for a history and its items. A clause is broken
+/// only at one of these lines.
+pub fn lines_are_counted()
+    ensures { LinesAreCounted }
 {}
