@@ -8,7 +8,7 @@ ghost use Rattle.hx_actor_tests.specs.Chained.{IsAfter, MayPost, chained, first_
 use crate::spaces::{by_key, list, shared, text};
 use hx_replica::Server;
 use hx_types::{
-    Actor, Answer, Assigns, Caller, Config, Epoch, Member, Message, Notes, Op, Place, Places,
+    Actor, Answer, Assigns, Caller, Config, Epoch, Member, Message, Notes, Op, Place, Places, Post,
     Posts, RegionId, ServerId, SessionId, Snapshot, Update, Updates, Version,
 };
 use std::alloc::Global;
@@ -126,28 +126,41 @@ fn started(rt: &impl Abort, alloc: Global, server: u32) -> Server
     server
 }
 
-/// What a server posted and noted of a message.
-#[derive(Drop)]
-struct Made {
-    posts: Posts,
-    notes: Notes,
-}
+/// What a post tells, the number of the server or the session that it goes to, or 0 for the
+/// coordinator, and its epoch or the number of its call.
+type Told = (&'static str, u32, u64);
 
-impl Made {
-    fn is_nothing(&self) -> bool {
-        self.posts.is_empty() && self.notes.is_empty()
+fn told(post: &Post) -> Told {
+    match (post.to, &post.message) {
+        (Actor::Server(to), Message::Update { epoch, .. }) => ("update", to.0, epoch.0),
+        (Actor::Coordinator, Message::Poll { epoch }) => ("poll", 0, epoch.0),
+        (Actor::Coordinator, Message::Ready { epoch, .. }) => ("ready", 0, epoch.0),
+        (Actor::Session(to), Message::Reply { number, .. }) => ("reply", to.0, *number as u64),
+        _ => ("another", 0, 0),
     }
 }
 
-/// What a server makes of a message that it hears after so many entries.
-fn heard(
+/// Whether the posts tell this in order.
+fn tell(posts: &Posts, wanted: &[Told]) -> bool {
+    for (post, wanted) in posts.as_slice().iter().zip(wanted) {
+        if told(post) != *wanted {
+            return false;
+        }
+    }
+    posts.len() == wanted.len()
+}
+
+/// Asserts what a server posts of a message that it hears after so many entries, and how many notes
+/// it makes of it.
+fn assert_heard(
     rt: &impl Abort,
     alloc: Global,
     server: &mut Server,
     entries: u64,
     from: Actor,
     message: &Message,
-) -> Made
+    wanted: (&[Told], usize),
+)
     requires server { IsAfter server.old entries }
     requires post { MayPost entries from message.now }
     requires few { entries ≤ 8 }
@@ -162,37 +175,18 @@ fn heard(
         panic!(rt; "no memory");
     };
     server.make(change);
-    Made { posts, notes }
+    let is_told = tell(&posts, wanted.0) && notes.len() == wanted.1;
+    drop(notes);
+    drop(posts);
+    assert!(rt; is_told, "after {entries} entries");
 }
 
 /// Whether a server has heard of the key.
-fn knows_key(rt: &impl Abort, alloc: Global, server: &Server) -> bool {
+pub fn knows_key(rt: &impl Abort, alloc: Global, server: &Server) -> bool {
     let key = text(rt, alloc, "a");
     let knows = server.slot(RegionId(0), &key).is_some();
     drop(key);
     knows
-}
-
-/// Whether a post goes to a server, with an update of an epoch.
-fn is_update(posts: &Posts, place: usize, server: u32, wanted: u64) -> bool {
-    match posts.as_slice().get(place) {
-        Some(post) => {
-            matches!(post.to, Actor::Server(to) if to.0 == server)
-                && matches!(post.message, Message::Update { epoch, .. } if epoch.0 == wanted)
-        }
-        None => false,
-    }
-}
-
-/// Whether the first post asks the coordinator for a configuration newer than that of an epoch.
-fn asks_first(posts: &Posts, wanted: u64) -> bool {
-    match posts.as_slice().first() {
-        Some(post) => {
-            matches!(post.to, Actor::Coordinator)
-                && matches!(post.message, Message::Poll { epoch } if epoch.0 == wanted)
-        }
-        None => false,
-    }
 }
 
 /// Server 2 drops an update of server 3, and passes that of server 1 on, down the longer chain.
@@ -201,28 +195,23 @@ fn an_update_is_heard_of_the_predecessor_alone(rt: HostRuntime) {
     let alloc = rt.alloc();
     let update = passed_on(&rt, alloc, 1);
     let mut server = started(&rt, alloc, 2);
-    let of_third = heard(
-        &rt,
-        alloc,
-        &mut server,
-        0,
-        Actor::Server(ServerId(3)),
-        &update,
-    );
+    let third = Actor::Server(ServerId(3));
+    assert_heard(&rt, alloc, &mut server, 0, third, &update, (&[], 0));
     let knew = knows_key(&rt, alloc, &server);
-    let of_first = heard(
+    let first = Actor::Server(ServerId(1));
+    assert_heard(
         &rt,
         alloc,
         &mut server,
         1,
-        Actor::Server(ServerId(1)),
+        first,
         &update,
+        (&[("update", 3, 1)], 0),
     );
     let knows = knows_key(&rt, alloc, &server);
     drop(server);
     drop(update);
-    assert!(rt; of_third.is_nothing() && !knew);
-    assert!(rt; of_first.posts.len() == 1 && is_update(&of_first.posts, 0, 3, 1) && knows);
+    assert!(rt; knows && !knew);
 }
 
 /// An update of a higher epoch is heard as one of the own, and the coordinator is asked first.
@@ -231,28 +220,21 @@ fn a_higher_epoch_is_asked_for(rt: HostRuntime) {
     let alloc = rt.alloc();
     let update = passed_on(&rt, alloc, 2);
     let mut server = started(&rt, alloc, 2);
-    let of_third = heard(
+    let third = Actor::Server(ServerId(3));
+    assert_heard(
         &rt,
         alloc,
         &mut server,
         1,
-        Actor::Server(ServerId(3)),
+        third,
         &update,
+        (&[("poll", 0, 1)], 0),
     );
-    let of_first = heard(
-        &rt,
-        alloc,
-        &mut server,
-        2,
-        Actor::Server(ServerId(1)),
-        &update,
-    );
+    let first = Actor::Server(ServerId(1));
+    let both = [("poll", 0, 1), ("update", 3, 1)];
+    assert_heard(&rt, alloc, &mut server, 2, first, &update, (&both, 0));
     drop(server);
     drop(update);
-    assert!(rt; of_third.notes.is_empty());
-    assert!(rt; of_third.posts.len() == 1 && asks_first(&of_third.posts, 1));
-    assert!(rt; of_first.posts.len() == 2 && asks_first(&of_first.posts, 1));
-    assert!(rt; is_update(&of_first.posts, 1, 3, 1));
 }
 
 /// Server 1 gives a put its version, passes it to server 2, and hears the acknowledgement of server
@@ -262,23 +244,31 @@ fn an_acknowledgement_is_heard_of_the_successor_alone(rt: HostRuntime) {
     let alloc = rt.alloc();
     let (put, ack) = (put(&rt, alloc), acknowledged(&rt, alloc));
     let mut server = started(&rt, alloc, 1);
-    let passed = heard(
+    let session = Actor::Session(SessionId(1));
+    assert_heard(
         &rt,
         alloc,
         &mut server,
         0,
-        Actor::Session(SessionId(1)),
+        session,
         &put,
+        (&[("update", 2, 1)], 1),
     );
-    let of_third = heard(&rt, alloc, &mut server, 1, Actor::Server(ServerId(3)), &ack);
-    let of_second = heard(&rt, alloc, &mut server, 2, Actor::Server(ServerId(2)), &ack);
-    let again = heard(&rt, alloc, &mut server, 3, Actor::Server(ServerId(2)), &ack);
+    let (second, third) = (Actor::Server(ServerId(2)), Actor::Server(ServerId(3)));
+    assert_heard(&rt, alloc, &mut server, 1, third, &ack, (&[], 0));
+    assert_heard(
+        &rt,
+        alloc,
+        &mut server,
+        2,
+        second,
+        &ack,
+        (&[("reply", 1, 1)], 0),
+    );
+    assert_heard(&rt, alloc, &mut server, 3, second, &ack, (&[], 0));
     drop(server);
     drop(ack);
     drop(put);
-    assert!(rt; passed.posts.len() == 1 && is_update(&passed.posts, 0, 2, 1));
-    assert!(rt; of_third.is_nothing() && again.is_nothing());
-    assert!(rt; of_second.posts.len() == 1 && is_reply(&of_second.posts));
 }
 
 /// Server 4, which joins behind server 3, drops a snapshot of server 2, installs that of server 3
@@ -289,59 +279,30 @@ fn a_snapshot_is_heard_of_the_member_before_alone(rt: HostRuntime) {
     let install = with_a_joiner(&rt, alloc);
     let (snap, later) = (snapshot(&rt, alloc, 2), snapshot(&rt, alloc, 3));
     let mut server = started(&rt, alloc, 4);
-    let adopted = heard(&rt, alloc, &mut server, 1, Actor::Coordinator, &install);
-    let of_second = heard(
+    assert_heard(
         &rt,
         alloc,
         &mut server,
-        2,
-        Actor::Server(ServerId(2)),
-        &snap,
+        1,
+        Actor::Coordinator,
+        &install,
+        (&[], 0),
     );
-    let of_third = heard(
+    let (second, third) = (Actor::Server(ServerId(2)), Actor::Server(ServerId(3)));
+    assert_heard(&rt, alloc, &mut server, 2, second, &snap, (&[], 0));
+    assert_heard(
         &rt,
         alloc,
         &mut server,
         3,
-        Actor::Server(ServerId(3)),
+        third,
         &snap,
+        (&[("ready", 0, 2)], 0),
     );
-    let again = heard(
-        &rt,
-        alloc,
-        &mut server,
-        4,
-        Actor::Server(ServerId(3)),
-        &later,
-    );
+    let again = [("poll", 0, 2), ("ready", 0, 2)];
+    assert_heard(&rt, alloc, &mut server, 4, third, &later, (&again, 0));
     drop(server);
     drop(later);
     drop(snap);
     drop(install);
-    assert!(rt; adopted.is_nothing() && of_second.is_nothing());
-    assert!(rt; of_third.posts.len() == 1 && is_ready(&of_third.posts, 0));
-    assert!(rt; again.posts.len() == 2 && asks_first(&again.posts, 2));
-    assert!(rt; is_ready(&again.posts, 1));
-}
-
-/// Whether the first post is a reply to the first call of session 1.
-fn is_reply(posts: &Posts) -> bool {
-    match posts.as_slice().first() {
-        Some(post) => {
-            matches!(post.to, Actor::Session(SessionId(1)))
-                && matches!(post.message, Message::Reply { number: 1, .. })
-        }
-        None => false,
-    }
-}
-
-/// Whether a post tells the coordinator that the server is ready, in epoch 2.
-fn is_ready(posts: &Posts, place: usize) -> bool {
-    match posts.as_slice().get(place) {
-        Some(post) => {
-            matches!(post.to, Actor::Coordinator)
-                && matches!(post.message, Message::Ready { epoch, .. } if epoch.0 == 2)
-        }
-        None => false,
-    }
 }

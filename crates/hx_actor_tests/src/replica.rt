@@ -5,6 +5,7 @@ ghost use Rattle.hx_replica.specs.Examples.{ask_of, first, from_coordinator, put
 ghost use Rattle.hx_replica.specs.Servers.{CanTake};
 ghost use Rattle.hx_model.specs.ServerSteps.{server_at_start};
 
+use crate::hearing::knows_key;
 use crate::spaces::{by_key, list, text};
 use hx_replica::Server;
 use hx_types::{
@@ -85,14 +86,16 @@ fn step(rt: &impl Abort, alloc: Global, server: &mut Server, input: Input) -> (u
     (entry.outputs.len(), entry.notes.len(), server.halted())
 }
 
-/// The same of the server at the start.
-fn made_of(rt: &impl Abort, alloc: Global, input: Input) -> (usize, usize, bool)
+/// Asserts the same of the server at the start.
+fn assert_made(rt: &impl Abort, alloc: Global, input: Input, wanted: (usize, usize, bool))
     requires { CanTake small (server_at_start small first) input }
 {
     let Ok(mut server) = started(rt, alloc) else {
         panic!(rt; "no memory");
     };
-    step(rt, alloc, &mut server, input)
+    let made = step(rt, alloc, &mut server, input);
+    drop(server);
+    assert!(rt; made == wanted);
 }
 
 /// A put is assigned a version, and answered at once, since its chain is one replica long. So is
@@ -100,25 +103,13 @@ fn made_of(rt: &impl Abort, alloc: Global, input: Input) -> (usize, usize, bool)
 /// Nothing is pending, so nothing is sent again. That it halts is told.
 #[test]
 fn a_server_takes_each_input(rt: HostRuntime) {
-    let now = put(&rt, rt.alloc(), 1);
-    let put_now = made_of(&rt, rt.alloc(), now);
-    let later = put(&rt, rt.alloc(), 2);
-    let put_later = made_of(&rt, rt.alloc(), later);
-    let search = ask(rt.alloc());
-    let searched = made_of(&rt, rt.alloc(), search);
-    let turn = made_of(&rt, rt.alloc(), Input::Tick);
-    let halted = made_of(&rt, rt.alloc(), Input::Halt);
-    let told = made_of(&rt, rt.alloc(), from_coordinator(Message::Die));
-    for (name, made, wanted) in [
-        ("a put", put_now, (1, 1, false)),
-        ("a put of a higher epoch", put_later, (2, 1, false)),
-        ("a search", searched, (1, 0, false)),
-        ("a turn", turn, (0, 0, false)),
-        ("a halt", halted, (1, 0, true)),
-        ("a server that is told to halt", told, (1, 0, true)),
-    ] {
-        assert!(rt; made == wanted, "{name}");
-    }
+    let alloc = rt.alloc();
+    assert_made(&rt, alloc, put(&rt, alloc, 1), (1, 1, false));
+    assert_made(&rt, alloc, put(&rt, alloc, 2), (2, 1, false));
+    assert_made(&rt, alloc, ask(alloc), (1, 0, false));
+    assert_made(&rt, alloc, Input::Tick, (0, 0, false));
+    assert_made(&rt, alloc, Input::Halt, (1, 0, true));
+    assert_made(&rt, alloc, from_coordinator(Message::Die), (1, 0, true));
 }
 
 /// The server hears a put in the first epoch, into the lists, and makes what that changes.
@@ -166,9 +157,7 @@ fn a_put_is_answered_behind_what_was_posted(rt: HostRuntime) {
     let mut notes = list(&rt, alloc, [Note::Began { number: 1 }]);
     let mut server = started(&rt, alloc).expect(&rt, "no memory");
     hear(&rt, alloc, &mut server, &mut posts, &mut notes);
-    let key = text(&rt, alloc, "a");
-    let is_put = server.slot(RegionId(0), &key).is_some();
-    drop(key);
+    let is_put = knows_key(&rt, alloc, &server);
     drop(server);
     assert!(rt; is_put);
     assert!(rt; are_behind_another(&posts) && is_assigned_behind_another(&notes));

@@ -1,6 +1,6 @@
 use Rattle.std.proofs.Common.{◌∙◌, sym}
 use Rattle.hx_actor_tests.proofs.Chained.{can_hear, is_after}
-use Rattle.hx_actor_tests.proofs.hearing.heard.Goals as goal
+use Rattle.hx_actor_tests.proofs.hearing.assert_heard.Goals as goal
 
 pub hear-requires : goal.hear-requires
 hear-requires g c =
