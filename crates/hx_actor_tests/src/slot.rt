@@ -1,7 +1,7 @@
 ghost use Rattle.std.specs.Prelude.{◌≡◌, [], ◌∷◌, ◌<◌, true};
 ghost use Rattle.std.specs.List.{All};
 ghost use Rattle.hx_model.specs.Neighbours.{place_number};
-ghost use Rattle.hx_slot.specs.States.{HasFewPlaces, IsPlacedIn};
+ghost use Rattle.hx_slot.specs.States.{HasFewPlaces, IsOrderly, IsPlacedIn};
 ghost use Rattle.hx_model.specs.Types.{Place as Placed};
 
 use crate::rows::object;
@@ -9,7 +9,7 @@ use crate::spaces::{shared_list, text};
 use crate::updates::{add, places_of_1, places_of_a_move, update};
 use hx_slot::*;
 use hx_types::{
-    Acked, Answer, Offer, Places, RegionId, SessionId, Shared, Touch, Update, Value, Version,
+    Acked, Answer, Kept, Offer, Places, RegionId, SessionId, Shared, Touch, Update, Value, Version,
 };
 use std::alloc::Global;
 use std::process::Abort;
@@ -99,28 +99,38 @@ fn commits_in_order(rt: HostRuntime) {
     assert!(rt; matches!((again, none), (Acked::Unknown, Acked::Unknown)));
 }
 
-#[test]
-fn gives_what_is_committed(rt: HostRuntime) {
-    let alloc = rt.alloc();
-    let mut slot = Slot::new(alloc, RegionId(7), text(&rt, alloc, "k"), true);
-    offer_three(&rt, alloc, &mut slot);
+/// What is committed of three updates, of which two are acknowledged.
+fn kept_of_three(rt: &impl Abort, alloc: Global) -> Kept
+    ensures { IsOrderly result }
+{
+    let mut slot = Slot::new(alloc, RegionId(7), text(rt, alloc, "k"), true);
+    offer_three(rt, alloc, &mut slot);
     slot.ack(Version(1));
     slot.ack(Version(2));
-    let last = heard(&slot, 2, 7);
-    let kept = slot.kept(alloc);
-    drop(slot);
-    assert_eq!(rt; last, Some((3, 3, 3)));
-    let Ok(Some(kept)) = kept else {
+    assert_eq!(rt; heard(&slot, 2, 7), Some((3, 3, 3)));
+    let Ok(Some(kept)) = slot.kept(alloc) else {
         panic!(rt; "nothing committed");
     };
-    let slot = Slot::of_kept(alloc, RegionId(7), kept, true);
-    let ends = (slot.floor().0, slot.top().0);
-    let last = heard(&slot, 2, 7);
-    let is_second = match slot.object() {
+    kept
+}
+
+/// Whether the object of a slot is that of version 2.
+fn is_second(slot: &Slot) -> bool {
+    match slot.object() {
         Some((Version(2), object)) =>
             matches!(object.as_slice(), [Value::Int(number)] if *number == 2),
         _ => false,
-    };
+    }
+}
+
+#[test]
+fn gives_what_is_committed(rt: HostRuntime) {
+    let alloc = rt.alloc();
+    let kept = kept_of_three(&rt, alloc);
+    let slot = Slot::of_kept(alloc, RegionId(7), kept, true);
+    let ends = (slot.floor().0, slot.top().0);
+    let last = heard(&slot, 2, 7);
+    let is_second = is_second(&slot);
     drop(slot);
     assert_eq!(rt; ends, (2, 2));
     assert_eq!(rt; last, Some((2, 2, 2)));
@@ -138,6 +148,19 @@ pub fn change(rt: &impl Abort, alloc: Global, version: u32, genre: &str, places:
     update(rt, alloc, "a", version as u64, caller, Some(object), places)
 }
 
+/// Whether no more than this floor is left of a slot.
+fn leaves_nothing(slot: Slot, floor: u64) -> bool {
+    match slot.into_kept() {
+        Ok(Some(kept)) => {
+            kept.floor.0 == floor
+                && kept.object.is_none()
+                && kept.marks.is_empty()
+                && kept.touches.is_empty()
+        }
+        _ => false,
+    }
+}
+
 #[test]
 fn an_object_that_moves_away_leaves(rt: HostRuntime) {
     let alloc = rt.alloc();
@@ -151,17 +174,7 @@ fn an_object_that_moves_away_leaves(rt: HostRuntime) {
     let acked = slot.ack(Version(2));
     let stands = slot.object().is_some();
     let (floor, held) = (slot.floor().0, slot.held_count());
-    let kept = slot.into_kept();
-    let is_empty = match &kept {
-        Ok(Some(kept)) => {
-            kept.floor.0 == 2
-                && kept.object.is_none()
-                && kept.marks.is_empty()
-                && kept.touches.is_empty()
-        }
-        _ => false,
-    };
-    drop(kept);
+    let is_empty = leaves_nothing(slot, 2);
     assert!(rt; matches!((offer, acked), (Offer::Accepted(1), Acked::Committed(1))));
     assert!(rt; stood && !stands);
     assert_eq!(rt; (floor, held), (2, 0));
@@ -172,26 +185,35 @@ fn is_touch(touch: &Touch, region: u32, version: u64) -> bool {
     touch.region.0 == region && touch.version.0 == version
 }
 
-/// At the leader of a key, which has accepted its first update.
+/// Whether these are of the first update, which goes through regions 0, 4 and 6.
+fn are_of_the_first(touches: &[Touch]) -> bool {
+    match touches {
+        [key, genre, year] => is_touch(key, 0, 1) && is_touch(genre, 4, 1) && is_touch(year, 6, 1),
+        _ => false,
+    }
+}
+
+/// What the leader of a key hands on, which has accepted its first update and committed it.
+fn handed_on(rt: &impl Abort, alloc: Global) -> Kept
+    ensures { IsOrderly result }
+{
+    let mut slot = Slot::new(alloc, RegionId(0), text(rt, alloc, "a"), true);
+    let first = change(rt, alloc, 1, "b", places_of_1(rt, alloc));
+    give(rt, alloc, &mut slot, first, 0);
+    let is_new = matches!(slot.kept(alloc), Ok(None));
+    let acked = slot.ack(Version(1));
+    assert!(rt; is_new && matches!(acked, Acked::Committed(1)));
+    let Ok(Some(kept)) = slot.into_kept() else {
+        panic!(rt; "nothing committed");
+    };
+    kept
+}
+
 #[test]
 fn a_committed_state_is_handed_on(rt: HostRuntime) {
     let alloc = rt.alloc();
-    let mut slot = Slot::new(alloc, RegionId(0), text(&rt, alloc, "a"), true);
-    let first = change(&rt, alloc, 1, "b", places_of_1(&rt, alloc));
-    give(&rt, alloc, &mut slot, first, 0);
-    let is_new = matches!(slot.kept(alloc), Ok(None));
-    let acked = slot.ack(Version(1));
-    let kept = slot.into_kept();
-    assert!(rt; is_new && matches!(acked, Acked::Committed(1)));
-    let Ok(Some(kept)) = kept else {
-        panic!(rt; "nothing committed");
-    };
-    let are_touched = match kept.touches.as_slice() {
-        [key, genre, year] => {
-            is_touch(key, 0, 1) && is_touch(genre, 4, 1) && is_touch(year, 6, 1)
-        }
-        _ => false,
-    };
+    let kept = handed_on(&rt, alloc);
+    let are_touched = are_of_the_first(kept.touches.as_slice());
     let joined = Slot::of_kept(alloc, RegionId(0), kept, true);
     let ends = (joined.floor().0, joined.top().0);
     let last = (heard(&joined, 1, 4), heard(&joined, 1, 5));
@@ -201,6 +223,15 @@ fn a_committed_state_is_handed_on(rt: HostRuntime) {
     assert_eq!(rt; last, (Some((1, 1, 1)), Some((1, 1, 0))));
 }
 
+/// Whether version 2 is acknowledged, and how many updates are early and pending.
+fn held(slot: &Slot) -> (bool, u32, u32) {
+    (
+        slot.is_acknowledged(Version(2)),
+        slot.early_count(),
+        slot.pending_count(),
+    )
+}
+
 #[test]
 fn acknowledgements_are_forgotten(rt: HostRuntime) {
     let alloc = rt.alloc();
@@ -208,25 +239,15 @@ fn acknowledgements_are_forgotten(rt: HostRuntime) {
     offer_three(&rt, alloc, &mut slot);
     offer(&rt, alloc, &mut slot, 5, 4);
     slot.ack(Version(2));
-    let copy = slot.renewed(alloc);
+    let copied = match slot.renewed(alloc) {
+        Ok(copy) => Some(held(&copy)),
+        Err(_) => None,
+    };
     slot.reset_acks();
-    let own = (
-        slot.is_acknowledged(Version(2)),
-        slot.early_count(),
-        slot.pending_count(),
-    );
+    let own = held(&slot);
     let acked = slot.ack(Version(1));
     drop(slot);
-    let Ok(copy) = copy else {
-        panic!(rt; "no memory");
-    };
-    let copied = (
-        copy.is_acknowledged(Version(2)),
-        copy.early_count(),
-        copy.pending_count(),
-    );
-    drop(copy);
     assert_eq!(rt; own, (false, 0, 3));
-    assert_eq!(rt; copied, (false, 0, 3));
+    assert_eq!(rt; copied, Some((false, 0, 3)));
     assert!(rt; matches!(acked, Acked::Committed(1)));
 }
