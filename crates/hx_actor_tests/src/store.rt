@@ -83,14 +83,20 @@ fn finds(
     Some((rows.len(), looks))
 }
 
+/// Gives a key a slot.
+fn ensure(rt: &impl Abort, alloc: Global, store: &mut Store, key: &str) {
+    let key = text(rt, alloc, key);
+    let ensured = store.ensure(alloc, &key).is_ok();
+    drop(key);
+    assert!(rt; ensured);
+}
+
 #[test]
 fn keys_stand_in_byte_order(rt: HostRuntime) {
     let alloc = rt.alloc();
     let mut store = empty(&rt, alloc, true);
-    for key in ["b", "a"] {
-        let key = text(&rt, alloc, key);
-        assert!(rt; store.ensure(alloc, &key).is_ok());
-    }
+    ensure(&rt, alloc, &mut store, "b");
+    ensure(&rt, alloc, &mut store, "a");
     store.sort_order();
     let is_first = match store.nth(0) {
         Some(slot) => slot.key().as_str() == "a",
@@ -98,12 +104,11 @@ fn keys_stand_in_byte_order(rt: HostRuntime) {
     };
     let slots = store.len();
     let found = finds(&rt, alloc, &mut store, None, &[]);
-    let pending = store.pending(alloc);
+    let none_pending = matches!(store.pending(alloc), Ok(updates) if updates.is_empty());
     drop(store);
-    assert!(rt; is_first);
+    assert!(rt; is_first && none_pending);
     assert_eq!(rt; slots, 2);
     assert_eq!(rt; found, Some((0, 0)));
-    assert!(rt; matches!(&pending, Ok(updates) if updates.is_empty()));
 }
 
 /// Puts an object of version 1 with this number at a key of a store.
@@ -154,14 +159,22 @@ fn a_search_goes_by_the_index_in_byte_order(rt: HostRuntime) {
     assert_eq!(rt; all, Some((1000, 1000)));
 }
 
+/// Puts a slot of which nothing is committed at a key of a store, and tells whether it could.
+fn put_empty(rt: &impl Abort, alloc: Global, store: &mut Store, key: &str) -> bool
+    requires region { store.old.region ≡ record { 0 = 3 } }
+    requires marks { store.old.keeps_marks ≡ false }
+{
+    let slot = Slot::new(alloc, RegionId(3), text(rt, alloc, key), false);
+    store.put_slot(alloc, slot).is_ok()
+}
+
 /// An empty slot takes the place of "k7".
 #[test]
 fn an_object_that_is_replaced_is_found_no_more(rt: HostRuntime) {
     let alloc = rt.alloc();
     let mut store = empty(&rt, alloc, false);
     put(&rt, alloc, &mut store, "k7", 7);
-    let slot = Slot::new(alloc, RegionId(3), text(&rt, alloc, "k7"), false);
-    let is_put = store.put_slot(alloc, slot).is_ok();
+    let is_put = put_empty(&rt, alloc, &mut store, "k7");
     let found = finds(&rt, alloc, &mut store, None, &[]);
     drop(store);
     assert!(rt; is_put);
@@ -203,8 +216,7 @@ fn a_snapshot_is_installed(rt: HostRuntime) {
     let mut store = empty(&rt, alloc, false);
     put(&rt, alloc, &mut store, "b", 2);
     put(&rt, alloc, &mut store, "a", 1);
-    let slot = Slot::new(alloc, RegionId(3), text(&rt, alloc, "c"), false);
-    let is_put = store.put_slot(alloc, slot).is_ok();
+    let is_put = put_empty(&rt, alloc, &mut store, "c");
     let mut joiner = empty(&rt, alloc, false);
     let is_installed = install(alloc, &mut store, &mut joiner);
     let found = finds(&rt, alloc, &mut joiner, None, &["a", "b"]);
