@@ -1,6 +1,6 @@
-ghost use Rattle.std.specs.Prelude.{◌≡◌, ◌≤◌, [], ◌∷◌};
+ghost use Rattle.std.specs.Prelude.{◌≡◌, ◌≤◌, [], ◌∷◌, Some, length};
 ghost use Rattle.std.specs.List.{repeat};
-ghost use Rattle.hx_index.specs.Orders.{IsIndexOf, no_rows};
+ghost use Rattle.hx_index.specs.Orders.{IsIndexOf, no_rows, rows_at};
 
 use crate::rows::{between, row};
 use hx_index::{Index, View};
@@ -42,6 +42,27 @@ fn indexed(rt: &impl Abort, alloc: Global, rows: u32) -> Index
     index
 }
 
+/// Whether the rows at these places are found from a lower to an upper end of the number.
+fn finds(
+    rt: &impl Abort,
+    alloc: Global,
+    index: &Index,
+    view: &mut View<'_>,
+    ends: (i64, i64),
+    wanted: &[u32],
+) -> bool
+    requires { IsIndexOf (rows_at view.old.rows) index.now }
+    ensures { rows_at view.new.rows ≡ rows_at view.old.rows }
+{
+    let terms = between(rt, alloc, 2, ends.0, ends.1);
+    let found = index.find(alloc, view, &terms);
+    drop(terms);
+    match found {
+        Ok(found) => found.as_slice() == wanted,
+        Err(_) => false,
+    }
+}
+
 #[test]
 fn a_row_is_found_by_its_number(rt: HostRuntime) {
     let alloc = rt.alloc();
@@ -49,14 +70,26 @@ fn a_row_is_found_by_its_number(rt: HostRuntime) {
     let mut index = indexed(&rt, alloc, 1);
     index.add(&rows, 0);
     let mut view = View::new(&rows, 0);
-    let found = index.find(alloc, &mut view, &between(&rt, alloc, 2, 500, 600));
+    let is_found = finds(&rt, alloc, &index, &mut view, (500, 600), &[0]);
     let looks = view.looks();
-    let none = index.find(alloc, &mut view, &between(&rt, alloc, 2, 501, 600));
+    let is_none = finds(&rt, alloc, &index, &mut view, (501, 600), &[]);
     let all_looks = view.looks();
     drop(index);
-    assert!(rt; matches!(&found, Ok(found) if matches!(found.as_slice(), [0])));
-    assert!(rt; matches!(&none, Ok(none) if none.is_empty()));
+    assert!(rt; is_found && is_none);
     assert_eq!(rt; (looks, all_looks), (3, 5));
+}
+
+/// An index of these two rows.
+fn of_both(rt: &impl Abort, alloc: Global, one: &Shared<Row>, other: &Shared<Row>) -> Index
+    ensures index { IsIndexOf (rows_at (Some one.now ∷ Some other.now ∷ [])) result }
+    ensures attributes { length result.orders ≡ 3 }
+{
+    let first = [Some(copy(rt, alloc, one)), None];
+    let both = [Some(copy(rt, alloc, one)), Some(copy(rt, alloc, other))];
+    let mut index = indexed(rt, alloc, 2);
+    index.add(&first, 0);
+    index.add(&both, 1);
+    index
 }
 
 #[test]
@@ -64,12 +97,8 @@ fn a_row_goes_to_its_new_place(rt: HostRuntime) {
     let alloc = rt.alloc();
     let old = shared(&rt, alloc, "a", "x", 500);
     let other = shared(&rt, alloc, "b", "y", 700);
-    let one = [Some(copy(&rt, alloc, &old)), None];
-    let both = [Some(copy(&rt, alloc, &old)), Some(copy(&rt, alloc, &other))];
+    let mut index = of_both(&rt, alloc, &old, &other);
     let changed = [Some(shared(&rt, alloc, "a", "x", 900)), Some(other)];
-    let mut index = indexed(&rt, alloc, 2);
-    index.add(&one, 0);
-    index.add(&both, 1);
     index.replace(&changed, 0, old.get());
     let mut view = View::new(&changed, 0);
     let numbers = Term::Range {
@@ -78,8 +107,8 @@ fn a_row_goes_to_its_new_place(rt: HostRuntime) {
         hi: 999,
     };
     let run = index.run(&mut view, &numbers);
-    let found = index.find(alloc, &mut view, &between(&rt, alloc, 2, 500, 800));
+    let is_found = finds(&rt, alloc, &index, &mut view, (500, 800), &[1]);
     drop(index);
     assert_eq!(rt; run, (1, 2));
-    assert!(rt; matches!(&found, Ok(found) if matches!(found.as_slice(), [1])));
+    assert!(rt; is_found);
 }
