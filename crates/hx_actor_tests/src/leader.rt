@@ -11,28 +11,45 @@ use hx_types::{
 use std::alloc::Global;
 use std::process::Abort;
 
-/// What the leader of the key `a` decides on a put of the defaults, the first call of session 1,
-/// where these servers are left. Nothing was heard of the key before.
-fn decided(rt: &impl Abort, alloc: Global, left: &[u32]) -> Decision {
+/// What the leader of a key decides on an operation, the call of session 1 with this number, where
+/// these servers are left. It is the leader of its key, and few updates were accepted.
+fn decision(
+    rt: &impl Abort,
+    alloc: Global,
+    left: &[u32],
+    slot: &Slot,
+    number: u32,
+    op: &Op,
+) -> Decision {
+    if !slot.keeps_marks() || slot.top().0 > 9 {
+        panic!(rt; "another slot");
+    }
     let space = books(rt, alloc);
     let map = RegionMap::new(alloc, &space).expect(rt, "no memory");
     let config = config(rt, alloc, left);
-    let slot = Slot::new(alloc, RegionId(0), text(rt, alloc, "a"), true);
     let caller = Caller {
         session: SessionId(1),
-        number: 1,
+        number,
     };
-    let put = Op::Put {
-        key: text(rt, alloc, "a"),
-        sets: Assigns::new(alloc),
-    };
-    let decided = decide(alloc, &space, &map, &config, &slot, caller, &put);
-    drop(put);
-    drop(slot);
+    let decided = decide(alloc, &space, &map, &config, slot, caller, op);
     drop(config);
     drop(map);
     drop(space);
     decided.expect(rt, "no memory")
+}
+
+/// What is decided on a put of the defaults at the key `a`, the first call, where these servers are
+/// left. Nothing was heard of the key before.
+fn decided(rt: &impl Abort, alloc: Global, left: &[u32]) -> Decision {
+    let slot = Slot::new(alloc, RegionId(0), text(rt, alloc, "a"), true);
+    let put = Op::Put {
+        key: text(rt, alloc, "a"),
+        sets: Assigns::new(alloc),
+    };
+    let decided = decision(rt, alloc, left, &slot, 1, &put);
+    drop(put);
+    drop(slot);
+    decided
 }
 
 /// It makes an object that goes through three regions.
@@ -70,19 +87,8 @@ fn a_put_through_a_lost_region_changes_nothing(rt: HostRuntime) {
     assert!(rt; is_refused);
 }
 
-/// What the leader of the key decides on an atomic operation that raises the year by 1, the call of
-/// session 1 with this number. It is the leader of its key, and few updates were accepted.
+/// What is decided on an atomic operation that raises the year by 1, the call with this number.
 fn raised(rt: &impl Abort, alloc: Global, slot: &Slot, number: u32) -> Decision {
-    if !slot.keeps_marks() || slot.top().0 > 9 {
-        panic!(rt; "another slot");
-    }
-    let space = books(rt, alloc);
-    let map = RegionMap::new(alloc, &space).expect(rt, "no memory");
-    let config = config(rt, alloc, &[1, 2, 3, 4]);
-    let caller = Caller {
-        session: SessionId(1),
-        number,
-    };
     let edit = Edit {
         what: EditKind::Add,
         attribute: 2,
@@ -92,12 +98,20 @@ fn raised(rt: &impl Abort, alloc: Global, slot: &Slot, number: u32) -> Decision 
         key: text(rt, alloc, "a"),
         edits: shared_list(rt, alloc, [edit]),
     };
-    let decided = decide(alloc, &space, &map, &config, slot, caller, &atomic);
+    let decided = decision(rt, alloc, &[1, 2, 3, 4], slot, number, &atomic);
     drop(atomic);
-    drop(config);
-    drop(map);
-    drop(space);
-    decided.expect(rt, "no memory")
+    decided
+}
+
+/// Whether an update is assigned that makes an object of the year 2000.
+fn is_of_2000(decided: &Decision) -> bool {
+    match decided {
+        Decision::Assign(update) => match &update.object {
+            Some(object) => matches!(object.as_slice(), [_, Value::Int(year)] if *year == 2000),
+            None => false,
+        },
+        _ => false,
+    }
 }
 
 /// Its update is pending, and then committed. The next call of the session raises the year of 1999.
@@ -107,21 +121,13 @@ fn an_atomic_operation_that_is_called_again_is_carried_out_once(rt: HostRuntime)
     let mut slot = Slot::new(alloc, RegionId(0), text(&rt, alloc, "a"), true);
     let first = change(&rt, alloc, 1, "b", places_of_1(&rt, alloc));
     give(&rt, alloc, &mut slot, first, 0);
-    let pending = raised(&rt, alloc, &slot, 1);
+    let waits = matches!(&raised(&rt, alloc, &slot, 1), Decision::Wait(Version(1)));
     slot.ack(Version(1));
-    let committed = raised(&rt, alloc, &slot, 1);
-    let next = raised(&rt, alloc, &slot, 2);
-    let is_raised = match &next {
-        Decision::Assign(update) => match &update.object {
-            Some(object) => matches!(object.as_slice(), [_, Value::Int(year)] if *year == 2000),
-            None => false,
-        },
-        _ => false,
-    };
-    let waits = matches!(pending, Decision::Wait(Version(1)));
-    let is_answered_again = matches!(&committed, Decision::Again(Version(1), Answer::Done));
-    drop(next);
-    drop(committed);
+    let is_answered_again = matches!(
+        &raised(&rt, alloc, &slot, 1),
+        Decision::Again(Version(1), Answer::Done)
+    );
+    let is_raised = is_of_2000(&raised(&rt, alloc, &slot, 2));
     drop(slot);
     assert!(rt; waits);
     assert!(rt; is_answered_again);
