@@ -62,19 +62,27 @@ fn input(taken: Taken) -> Input
     Input::Deliver { id, from, message }
 }
 
-/// Each input, and how many posts and notes are made of it, where that is told.
-type Step = (Taken, Option<usize>, Option<usize>);
+/// Each input, and how many posts and notes are made of it.
+type Step = (Taken, usize, usize);
+
+/// How many posts and notes the coordinator makes of an input.
+fn made_of(
+    rt: &impl Abort,
+    alloc: Global,
+    coordinator: &mut Coordinator,
+    taken: Taken,
+) -> (usize, usize) {
+    assert!(rt; coordinator.config().epoch.0 <= 100);
+    let plan = coordinator.prepare(alloc, input(taken));
+    let entry = coordinator.apply(plan.expect(rt, "no memory"));
+    (entry.outputs.len(), entry.notes.len())
+}
 
 /// Asserts that the coordinator makes of each input what is told.
 fn assert_made(rt: &impl Abort, alloc: Global, coordinator: &mut Coordinator, story: &[Step]) {
     for (place, (taken, posts, notes)) in story.iter().enumerate() {
-        assert!(rt; coordinator.config().epoch.0 <= 100);
-        let plan = coordinator.prepare(alloc, input(*taken));
-        let entry = coordinator.apply(plan.expect(rt, "no memory"));
-        let made = (entry.outputs.len(), entry.notes.len());
-        drop(entry);
-        let wanted = (posts.unwrap_or(made.0), notes.unwrap_or(made.1));
-        assert!(rt; made == wanted, "at {place}");
+        let made = made_of(rt, alloc, coordinator, *taken);
+        assert!(rt; made == (*posts, *notes), "at {place}");
     }
 }
 
@@ -95,11 +103,11 @@ fn left_after(rt: &impl Abort, alloc: Global, story: &[Step]) -> (usize, u64) {
 #[test]
 fn a_stop_takes_a_server_out(rt: HostRuntime) {
     let story = [
-        (Taken::Stop, Some(1), Some(0)),
-        (Taken::Turn, Some(1), Some(0)),
-        (Taken::Gone(3), Some(5), Some(1)),
-        (Taken::Gone(3), Some(0), Some(0)),
-        (Taken::Turn, Some(0), Some(0)),
+        (Taken::Stop, 1, 0),
+        (Taken::Turn, 1, 0),
+        (Taken::Gone(3), 5, 1),
+        (Taken::Gone(3), 0, 0),
+        (Taken::Turn, 0, 0),
     ];
     assert_eq!(rt; left_after(&rt, rt.alloc(), &story), (3, 2));
 }
@@ -110,11 +118,11 @@ fn a_stop_takes_a_server_out(rt: HostRuntime) {
 #[test]
 fn an_add_takes_a_joiner_in(rt: HostRuntime) {
     let story = [
-        (Taken::Add, Some(6), Some(1)),
-        (Taken::Turn, Some(2), Some(0)),
-        (Taken::Ready, Some(5), Some(1)),
-        (Taken::Ready, Some(0), Some(0)),
-        (Taken::Turn, Some(0), Some(0)),
+        (Taken::Add, 6, 1),
+        (Taken::Turn, 2, 0),
+        (Taken::Ready, 5, 1),
+        (Taken::Ready, 0, 0),
+        (Taken::Turn, 0, 0),
     ];
     assert_eq!(rt; left_after(&rt, rt.alloc(), &story), (4, 3));
 }
@@ -124,10 +132,10 @@ fn an_add_takes_a_joiner_in(rt: HostRuntime) {
 #[test]
 fn each_configuration_has_one_change(rt: HostRuntime) {
     let story = [
-        (Taken::Stop, Some(1), Some(0)),
-        (Taken::Gone(2), Some(4), Some(1)),
-        (Taken::Turn, Some(1), Some(0)),
-        (Taken::Gone(3), Some(4), Some(1)),
+        (Taken::Stop, 1, 0),
+        (Taken::Gone(2), 4, 1),
+        (Taken::Turn, 1, 0),
+        (Taken::Gone(3), 4, 1),
     ];
     assert_eq!(rt; left_after(&rt, rt.alloc(), &story), (2, 3));
 }
