@@ -109,13 +109,15 @@ const NO_STEPS: [Row; 5] = [
     ("deliver one\n", 15, Reason::Order),
 ];
 
-/// Lines that are read behind the same: whether such a step can be taken only a run can tell.
-const TAKEN: [&str; 5] = [
-    "",
-    "tick one u1\ntick two u1\n",
-    "halt one s1\nhalt two s1\nhalt one s1\n",
-    "tick two u1\n",
-    "tick one u1\ndeliver two 1.0\n",
+/// Lines that are read, behind eight spaces or the head of the steps: whether such a step can be
+/// taken only a run can tell.
+const TAKEN: [(&str, &str); 6] = [
+    (EIGHT, ""),
+    (STEPS, ""),
+    (STEPS, "tick one u1\ntick two u1\n"),
+    (STEPS, "halt one s1\nhalt two s1\nhalt one s1\n"),
+    (STEPS, "tick two u1\n"),
+    (STEPS, "tick one u1\ndeliver two 1.0\n"),
 ];
 
 /// What is wrong with these lines behind a head.
@@ -146,19 +148,25 @@ fn refuses_lines_of_several_spaces(rt: HostRuntime) {
     assert_refused(&rt, EIGHT, &NINTH);
     assert_refused(&rt, TWO, &SECTIONS);
     assert_refused(&rt, STEPS, &NO_STEPS);
-    for lines in TAKEN {
-        assert!(rt; refusal(&rt, STEPS, lines) == None, "{lines}");
+    for (head, lines) in TAKEN.iter() {
+        assert!(rt; refusal(&rt, head, lines) == None, "{lines}");
     }
-    assert!(rt; refusal(&rt, EIGHT, "") == None);
 }
+
+/// Texts, and whether they are of version 2.
+const VERSIONS: [(&str, bool); 4] = [
+    (TWO, true),
+    ("\n # 2\nhx 1\n", false),
+    ("hx 3", false),
+    ("", false),
+];
 
 #[test]
 fn tells_the_version(rt: HostRuntime) {
-    let alloc = rt.alloc();
-    assert!(rt; is_of_version_2(alloc, TWO.as_bytes()).ok() == Some(true));
-    assert!(rt; is_of_version_2(alloc, b"\n # 2\nhx 1\n").ok() == Some(false));
-    assert!(rt; is_of_version_2(alloc, b"hx 3").ok() == Some(false));
-    assert!(rt; is_of_version_2(alloc, b"").ok() == Some(false));
+    for (text, wanted) in VERSIONS.iter() {
+        let told = is_of_version_2(rt.alloc(), text.as_bytes()).ok();
+        assert!(rt; told == Some(*wanted), "{text}");
+    }
 }
 
 /// Two spaces, with calls and steps of each, in no plain layout.
@@ -249,18 +257,23 @@ fn bundle_of(alloc: Global, text: &str) -> Result<Bundle, ScriptError>
     Ok(bundle)
 }
 
+/// Whether the steps of the bundle stand on these lines.
+fn has_steps_on(bundle: &Bundle, lines: &[u64]) -> bool {
+    let mut steps = bundle.steps.as_slice().iter().zip(lines);
+    let are_there = steps.all(|(step, wanted)| step.line == *wanted);
+    are_there && bundle.steps.len() == lines.len()
+}
+
 /// Whether the text is read as a bundle whose steps stand on these lines, and which is printed
 /// plainly.
 fn is_read(alloc: Global, text: &str, lines: &[u64], plain: &str) -> bool {
     let Ok(bundle) = bundle_of(alloc, text) else {
         return false;
     };
-    let mut steps = bundle.steps.as_slice().iter().zip(lines);
-    let are_there = steps.all(|(step, wanted)| step.line == *wanted);
-    let are_all = bundle.steps.len() == lines.len();
+    let are_there = has_steps_on(&bundle, lines);
     let printed = print_bundle(alloc, &bundle);
     drop(bundle);
-    are_there && are_all && is_printed(printed, plain)
+    is_printed(printed, plain) && are_there
 }
 
 #[test]
@@ -272,13 +285,18 @@ fn reads_bundles_that_it_prints(rt: HostRuntime) {
 }
 
 /// Whether the calls of a session, numbered from 0, are to these spaces in order.
-fn has_turns(alloc: Global, text: &str, session: usize, wanted: &[u32]) -> bool {
-    let Ok(bundle) = bundle_of(alloc, text) else {
-        return false;
-    };
+fn are_turns(bundle: &Bundle, session: usize, wanted: &[u32]) -> bool {
     match bundle.turns.get(session) {
         Some(turns) => turns.as_slice() == wanted,
         None => false,
+    }
+}
+
+/// Whether the text is read as a bundle with these turns of a session.
+fn has_turns(alloc: Global, text: &str, session: usize, wanted: &[u32]) -> bool {
+    match read_bundle(alloc, text.as_bytes()) {
+        Ok(bundle) => are_turns(&bundle, session, wanted),
+        Err(_) => false,
     }
 }
 

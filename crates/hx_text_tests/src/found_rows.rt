@@ -71,13 +71,12 @@ fn push<R: Abort + AllocGlobal>(rt: &R, trace: &mut Trace, note: Note) {
 /// The trace of a session in which each search begins and ends with what it found.
 fn trace<R: Abort + AllocGlobal>(rt: &R) -> Trace {
     let mut trace = Trace::new(rt.alloc());
-    for (number, found) in FOUND {
-        let (version, answer) = (Version(0), Answer::Rows(rows(rt, found)));
-        push(rt, &mut trace, Note::Began { number });
+    for (number, found) in FOUND.iter() {
+        push(rt, &mut trace, Note::Began { number: *number });
         let ended = Note::Ended {
-            number,
-            version,
-            answer,
+            number: *number,
+            version: Version(0),
+            answer: Answer::Rows(rows(rt, found)),
         };
         push(rt, &mut trace, ended);
     }

@@ -1,4 +1,5 @@
 use hx_lex::*;
+use std::alloc::Global;
 
 /// Whether the token stands from the one place to the other.
 fn stands(token: &Token, start: usize, end: usize) -> bool {
@@ -29,11 +30,16 @@ fn reads_a_call(rt: HostRuntime) {
     assert!(rt; is_put);
 }
 
+/// Why a line has no tokens.
+fn fault(alloc: Global, line: &[u8]) -> Option<LexError> {
+    tokens(alloc, line).err()
+}
+
 #[test]
 fn refuses_each_fault(rt: HostRuntime) {
-    let escape = tokens(rt.alloc(), b"get \"\\x\"").err();
-    let open = tokens(rt.alloc(), b"get \"open").err();
-    let number = tokens(rt.alloc(), b"stop 9223372036854775808").err();
+    let escape = fault(rt.alloc(), b"get \"\\x\"");
+    let open = fault(rt.alloc(), b"get \"open");
+    let number = fault(rt.alloc(), b"stop 9223372036854775808");
     assert!(rt; matches!(escape, Some(LexError::BadChar { place: 5 })));
     assert!(rt; matches!(open, Some(LexError::OpenText { place: 4 })));
     assert!(rt; matches!(number, Some(LexError::BadNumber { place: 5 })));

@@ -85,6 +85,12 @@ fn edit_book<R: Abort + AllocGlobal>(rt: &R) -> Op {
     }
 }
 
+fn search_books<R: Abort + AllocGlobal>(rt: &R) -> Op {
+    let (attribute, lo, hi) = (2, 1990, 2010);
+    let terms = shared_list(rt, [Term::Range { attribute, lo, hi }]);
+    Op::Search { terms }
+}
+
 const EDITS: &str = "atomic \"a\" add year=-1 append genre=\"b\\n\" min year=5 max year=3";
 
 const SCRIPT: &str = "hx 1\n\
@@ -102,16 +108,21 @@ const SCRIPT: &str = "hx 1\n\
     tick u1\n\
     deliver 1.0\n";
 
-#[test]
-fn prints_a_script(rt: HostRuntime) {
+/// A script of books with one call and two steps.
+fn script<R: Abort + AllocGlobal>(rt: &R) -> Script {
     let tick = Step::Tick(Actor::Session(SessionId(1)));
     let deliver = Step::Deliver(PostId { entry: 1, place: 0 });
-    let calls = list(&rt, [put_book(&rt)]);
-    let script = Script {
-        space: books(&rt),
-        sessions: list(&rt, [calls]),
-        steps: list(&rt, [(13, tick), (14, deliver)]),
-    };
+    let calls = list(rt, [put_book(rt)]);
+    Script {
+        space: books(rt),
+        sessions: list(rt, [calls]),
+        steps: list(rt, [(13, tick), (14, deliver)]),
+    }
+}
+
+#[test]
+fn prints_a_script(rt: HostRuntime) {
+    let script = script(&rt);
     let printed = print(rt.alloc(), &script);
     drop(script);
     assert!(rt; is_printed(printed, SCRIPT));
@@ -127,30 +138,33 @@ const SPACE: &str = "space books\n\
     tolerate 1\n";
 
 #[test]
-fn prints_parts(rt: HostRuntime) {
+fn prints_a_space(rt: HostRuntime) {
     let space = books(&rt);
-    let put = put_book(&rt);
-    let edit = edit_book(&rt);
-    let (attribute, lo, hi) = (2, 1990, 2010);
-    let terms = shared_list(&rt, [Term::Range { attribute, lo, hi }]);
-    let search = Op::Search { terms };
-    let word = text(&rt, "a\"b\\c\nd\te ß");
-    let printed = [
-        print_space(rt.alloc(), &space),
-        print_op(rt.alloc(), &space, &put),
-        print_op(rt.alloc(), &space, &edit),
-        print_op(rt.alloc(), &space, &search),
-        print_text(rt.alloc(), &word),
-    ];
-    drop(word);
-    drop(search);
-    drop(edit);
-    drop(put);
+    let printed = print_space(rt.alloc(), &space);
     drop(space);
-    let [space, put, edit, search, word] = printed;
-    assert!(rt; is_printed(space, SPACE));
-    assert!(rt; is_printed(put, "put \"a\" genre=\"b\" year=1999"));
-    assert!(rt; is_printed(edit, EDITS));
-    assert!(rt; is_printed(search, "search year=1990..2010"));
-    assert!(rt; is_printed(word, "\"a\\\"b\\\\c\\nd\\te ß\""));
+    assert!(rt; is_printed(printed, SPACE));
+}
+
+/// Asserts that a call of books is printed so.
+fn assert_printed<R: Abort + AllocGlobal>(rt: &R, op: Op, line: &str) {
+    let space = books(rt);
+    let printed = print_op(rt.alloc(), &space, &op);
+    drop(op);
+    drop(space);
+    assert!(rt; is_printed(printed, line));
+}
+
+#[test]
+fn prints_calls(rt: HostRuntime) {
+    assert_printed(&rt, put_book(&rt), "put \"a\" genre=\"b\" year=1999");
+    assert_printed(&rt, edit_book(&rt), EDITS);
+    assert_printed(&rt, search_books(&rt), "search year=1990..2010");
+}
+
+#[test]
+fn prints_a_text(rt: HostRuntime) {
+    let word = text(&rt, "a\"b\\c\nd\te ß");
+    let printed = print_text(rt.alloc(), &word);
+    drop(word);
+    assert!(rt; is_printed(printed, "\"a\\\"b\\\\c\\nd\\te ß\""));
 }

@@ -3,8 +3,9 @@ ghost use Rattle.hx_types.specs.Spaces.{IsSpace};
 use crate::parts::{is_printed, script_of};
 use hx_print::{print, print_op};
 use hx_script::{read, read_op};
-use hx_types::Space;
+use hx_types::{Script, Space};
 use std::alloc::Global;
+use std::process::Abort;
 
 /// A script with each kind of line, in no plain layout.
 const WRITTEN: &str = "# each kind of line\n\
@@ -91,18 +92,23 @@ const SESSIONS: &str = "hx 1\n\
     deliver 1.0\n\
     halt s4\n";
 
+/// Whether the steps of the script stand on these lines.
+fn has_steps_on(script: &Script, lines: &[u64]) -> bool {
+    let mut steps = script.steps.as_slice().iter().zip(lines);
+    let are_there = steps.all(|((line, _), wanted)| line == wanted);
+    are_there && script.steps.len() == lines.len()
+}
+
 /// Whether the text is read as a script whose steps stand on these lines, and which is printed
 /// plainly.
 fn is_read(alloc: Global, text: &str, lines: &[u64], plain: &str) -> bool {
     let Ok(script) = read(alloc, text.as_bytes()) else {
         return false;
     };
-    let mut steps = script.steps.as_slice().iter().zip(lines);
-    let are_there = steps.all(|((line, _), wanted)| line == wanted);
-    let are_all = script.steps.len() == lines.len();
+    let are_there = has_steps_on(&script, lines);
     let printed = print(alloc, &script);
     drop(script);
-    are_there && are_all && is_printed(printed, plain)
+    is_printed(printed, plain) && are_there
 }
 
 #[test]
@@ -149,17 +155,18 @@ fn is_read_alone(alloc: Global, space: &Space, line: &str, plain: &str) -> bool
     is_printed(printed, plain)
 }
 
+/// Asserts that each call is read of both its lines.
+fn assert_read_alone<R: Abort + AllocGlobal>(rt: &R, space: &Space)
+    requires { IsSpace space.now }
+{
+    for (line, plain) in ALONE.iter() {
+        assert!(rt; is_read_alone(rt.alloc(), space, line, plain), "{line}");
+        assert!(rt; is_read_alone(rt.alloc(), space, plain, plain), "{plain}");
+    }
+}
+
 #[test]
 fn reads_the_calls_that_it_prints(rt: HostRuntime) {
     let script = script_of(&rt, SESSIONS);
-    for (line, plain) in ALONE {
-        assert!(rt;
-            is_read_alone(rt.alloc(), &script.space, line, plain),
-            "{line}"
-        );
-        assert!(rt;
-            is_read_alone(rt.alloc(), &script.space, plain, plain),
-            "{plain}"
-        );
-    }
+    assert_read_alone(&rt, &script.space);
 }

@@ -7,8 +7,9 @@ use hx_report::*;
 use hx_script::{bundles_are_valid, read_bundle};
 use hx_trace::Trace;
 use hx_types::{
-    Actor, Answer, Assign, Caller, Edit, EditKind, Entry, Epoch, Input, Message, Note, Op, Places,
-    Post, PostId, Posts, Sequence, ServerId, SessionId, Shared, Totals, Update, Value, Version,
+    Actor, Answer, Assign, Caller, Edit, EditKind, Entry, Epoch, Input, Memory, Message, Note, Op,
+    Places, Post, PostId, Posts, Sequence, ServerId, SessionId, Shared, Totals, Update, Value,
+    Version,
 };
 use std::process::Abort;
 
@@ -101,55 +102,59 @@ fn assigned<R: Abort + AllocGlobal>(rt: &R, call: Call) -> Note {
     Note::Assigned { update }
 }
 
-/// The session begins its call, the server assigns the update and replies, and the call ends.
-fn entries<R: Abort + AllocGlobal>(rt: &R, call: Call) -> [Entry; 3] {
+/// The session begins its call.
+fn begins<R: Abort + AllocGlobal>(rt: &R, call: Call) -> Entry {
     let asking = Post {
         from: SESSION,
         to: SERVER,
         message: asked(rt, call),
     };
+    Entry {
+        actor: SESSION,
+        input: Input::Tick,
+        outputs: list(rt, [asking]),
+        notes: list(rt, [Note::Began { number: 1 }]),
+    }
+}
+
+/// The server assigns the update of the call and replies.
+fn replies<R: Abort + AllocGlobal>(rt: &R, call: Call) -> Entry {
     let replying = Post {
         from: SERVER,
         to: SESSION,
         message: replied(call),
     };
-    let begins = Entry {
-        actor: SESSION,
-        input: Input::Tick,
-        outputs: list(rt, [asking]),
-        notes: list(rt, [Note::Began { number: 1 }]),
+    let input = Input::Deliver {
+        id: PostId { entry: 1, place: 0 },
+        from: SESSION,
+        message: asked(rt, call),
     };
-    let id = PostId { entry: 1, place: 0 };
-    let replies = Entry {
+    Entry {
         actor: SERVER,
-        input: Input::Deliver {
-            id,
-            from: SESSION,
-            message: asked(rt, call),
-        },
+        input,
         outputs: list(rt, [replying]),
         notes: list(rt, [assigned(rt, call)]),
+    }
+}
+
+/// The call ends.
+fn ends<R: Abort + AllocGlobal>(rt: &R, call: Call) -> Entry {
+    let input = Input::Deliver {
+        id: PostId { entry: 2, place: 0 },
+        from: SERVER,
+        message: replied(call),
     };
-    let id = PostId { entry: 2, place: 0 };
-    let (number, version, answer) = (1, Version(1), call.answer());
-    let ends = Entry {
+    let ended = Note::Ended {
+        number: 1,
+        version: Version(1),
+        answer: call.answer(),
+    };
+    Entry {
         actor: SESSION,
-        input: Input::Deliver {
-            id,
-            from: SERVER,
-            message: replied(call),
-        },
+        input,
         outputs: Posts::new(rt.alloc()),
-        notes: list(
-            rt,
-            [Note::Ended {
-                number,
-                version,
-                answer,
-            }],
-        ),
-    };
-    [begins, replies, ends]
+        notes: list(rt, [ended]),
+    }
 }
 
 const PUT_LINES: &str = "report 1\n\
@@ -191,23 +196,27 @@ const ATOMIC_LINES: &str = "report 1\n\
 /// The trace of the call.
 fn trace_of<R: Abort + AllocGlobal>(rt: &R, call: Call) -> Trace {
     let mut trace = Trace::new(rt.alloc());
-    for entry in list(rt, entries(rt, call)).into_vec() {
-        trace.push(entry).expect(rt, "memory");
-    }
+    trace.push(begins(rt, call)).expect(rt, "memory");
+    trace.push(replies(rt, call)).expect(rt, "memory");
+    trace.push(ends(rt, call)).expect(rt, "memory");
     trace
+}
+
+/// So many posts were sent, and so many of them delivered.
+fn totals(posts: u64, deliver: u64) -> Totals {
+    Totals {
+        posts,
+        deliver,
+        lose: 0,
+        twice: 0,
+    }
 }
 
 /// Whether the report of the script with the trace of the call has these lines.
 fn is_reported<R: Abort + AllocGlobal>(rt: &R, call: Call, script: &str, lines: &str) -> bool {
     let script = script_of(rt, script);
     let trace = trace_of(rt, call);
-    let totals = Totals {
-        posts: 2,
-        deliver: 2,
-        lose: 0,
-        twice: 0,
-    };
-    let reported = report(rt.alloc(), &script, &trace, &[totals], true);
+    let reported = report(rt.alloc(), &script, &trace, &[totals(2, 2)], true);
     drop(trace);
     drop(script);
     is_printed(reported, lines)
@@ -285,20 +294,23 @@ fn bundle_of_two<R: Abort + AllocGlobal>(rt: &R, text: &str) -> Bundle
     bundle
 }
 
+/// The report of two spaces with the traces of two calls, of which two drivers drove the first.
+fn reported<R: Abort + AllocGlobal>(rt: &R, bundle: &Bundle) -> Result<Vec<u8>, Memory>
+    requires valid { IsBundle bundle.now }
+    requires two { length bundle.now.spaces ≡ 2 }
+{
+    let traces = [trace_of(rt, Call::Put), trace_of(rt, Call::Append)];
+    let drivers = [
+        list(rt, [totals(2, 1), totals(0, 1)]),
+        Sequence::new(rt.alloc()),
+    ];
+    report_bundle(rt.alloc(), bundle, &traces, &drivers, true)
+}
+
 #[test]
 fn reports_two_spaces(rt: HostRuntime) {
     let bundle = bundle_of_two(&rt, TWO);
-    let traces = [trace_of(&rt, Call::Put), trace_of(&rt, Call::Append)];
-    let totals = |posts, deliver| Totals {
-        posts,
-        deliver,
-        lose: 0,
-        twice: 0,
-    };
-    let drivers = [
-        list(&rt, [totals(2, 1), totals(0, 1)]),
-        Sequence::new(rt.alloc()),
-    ];
-    let reported = report_bundle(rt.alloc(), &bundle, &traces, &drivers, true);
+    let reported = reported(&rt, &bundle);
+    drop(bundle);
     assert!(rt; is_printed(reported, TWO_LINES));
 }

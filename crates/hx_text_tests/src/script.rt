@@ -232,7 +232,7 @@ fn refuses_calls_and_steps(rt: HostRuntime) {
     assert_refused(&rt, CALLS, &NO_EDITS);
     assert_refused(&rt, CALLS, &NO_TOKENS);
     assert_refused(&rt, STEPS, &NO_STEPS);
-    for (head, line) in TAKEN {
+    for (head, line) in TAKEN.iter() {
         assert!(rt; refusal(&rt, head, line) == None, "{line}");
     }
 }
@@ -276,15 +276,22 @@ fn lone_refusal<R: Abort + AllocGlobal>(rt: &R, space: &Space, line: &str) -> Op
     }
 }
 
-#[test]
-fn refuses_lines_that_are_no_call(rt: HostRuntime) {
-    let script = script_of(&rt, CALLS);
-    for (line, reason) in NO_LONE_CALLS {
+/// Asserts that none of the lines is a call of the space.
+fn assert_no_calls<R: Abort + AllocGlobal>(rt: &R, space: &Space)
+    requires { IsSpace space.now }
+{
+    for (line, reason) in NO_LONE_CALLS.iter() {
         assert!(rt;
-            lone_refusal(&rt, &script.space, line) == Some((1, reason)),
+            lone_refusal(rt, space, line) == Some((1, *reason)),
             "{line}"
         );
     }
+}
+
+#[test]
+fn refuses_lines_that_are_no_call(rt: HostRuntime) {
+    let script = script_of(&rt, CALLS);
+    assert_no_calls(&rt, &script.space);
 }
 
 /// A head, a text, what is repeated behind it and how often, what stands behind that, and what is
@@ -346,18 +353,29 @@ const LONG: [Long; 10] = [
     ),
 ];
 
+/// A text, another one so often behind it, and one behind that.
+fn long<R: Abort + AllocGlobal>(
+    rt: &R,
+    before: &str,
+    repeated: &str,
+    count: u32,
+    after: &str,
+) -> String {
+    let mut lines = String::from_str(rt.alloc(), before).expect(rt, "memory");
+    for _ in 0..count {
+        lines.push_str(repeated).expect(rt, "memory");
+    }
+    lines.push_str(after).expect(rt, "memory");
+    lines
+}
+
 #[test]
 fn refuses_texts_calls_and_steps_past_their_limits(rt: HostRuntime) {
-    for (head, before, repeated, count, after, refused) in LONG {
-        let mut lines = String::from_str(rt.alloc(), before).expect(&rt, "memory");
-        for _ in 0..count {
-            lines.push_str(repeated).expect(&rt, "memory");
-        }
-        lines.push_str(after).expect(&rt, "memory");
-        assert!(rt;
-            refusal(&rt, head, lines.as_str()) == refused,
-            "{count} of {repeated}"
-        );
+    for (head, before, repeated, count, after, refused) in LONG.iter() {
+        let lines = long(&rt, before, repeated, *count, after);
+        let found = refusal(&rt, head, lines.as_str());
+        drop(lines);
+        assert!(rt; found == *refused, "{count} of {repeated}");
     }
 }
 
@@ -395,14 +413,22 @@ const NUMBERED: [Numbered; 4] = [
     ),
 ];
 
+/// The numbers from 1 to 16, with what stands before and behind each and behind them all.
+fn numbered<R: Abort + AllocGlobal>(rt: &R, before: &str, behind: &str, after: &str) -> String {
+    let mut lines = String::new(rt.alloc());
+    for number in 1..17 {
+        write!(lines, "{before}{number}{behind}").expect(rt, "memory");
+    }
+    lines.push_str(after).expect(rt, "memory");
+    lines
+}
+
 #[test]
 fn refuses_one_too_many(rt: HostRuntime) {
-    for (head, before, behind, after, refused) in NUMBERED {
-        let mut lines = String::new(rt.alloc());
-        for number in 1..17 {
-            write!(lines, "{before}{number}{behind}").expect(&rt, "memory");
-        }
-        lines.push_str(after).expect(&rt, "memory");
-        assert!(rt; refusal(&rt, head, lines.as_str()) == refused, "{after}");
+    for (head, before, behind, after, refused) in NUMBERED.iter() {
+        let lines = numbered(&rt, before, behind, after);
+        let found = refusal(&rt, head, lines.as_str());
+        drop(lines);
+        assert!(rt; found == *refused, "{after}");
     }
 }

@@ -3,7 +3,7 @@ use hx_soak::summary;
 use hx_trace::Trace;
 use hx_types::{
     Actor, Answer, Caller, Entry, Epoch, Input, Note, Object, Places, Posts, RegionId, Rows,
-    ServerId, SessionId, Shared, Update, Value, Version,
+    Script, ServerId, SessionId, Shared, Update, Value, Version,
 };
 use std::process::Abort;
 
@@ -52,32 +52,32 @@ fn assigned<R: Abort + AllocGlobal>(
     Note::Assigned { update }
 }
 
-fn note<R: Abort + AllocGlobal>(rt: &R, line: Line) -> Note {
-    let version = Version(1);
-    let (region, epoch) = (RegionId(0), Epoch(1));
-    let (number, answer) = match line {
-        Line::Begin(number) => return Note::Began { number },
-        Line::Put(number, key, version, color, size) => {
-            let object = object(rt, color, size);
-            return assigned(rt, number, key, version, Answer::Done, Some(object));
-        }
-        Line::Del(number, key, version) => {
-            return assigned(rt, number, key, version, Answer::Done, None);
-        }
-        Line::Nothing(number, key) => {
-            return assigned(rt, number, key, 1, Answer::NotFound, None);
-        }
-        Line::Done(number) => (number, Answer::Done),
-        Line::NotFound(number) => (number, Answer::NotFound),
-        Line::Found(number, color, size) => (number, Answer::Found(object(rt, color, size))),
-        Line::Rows(number) => (number, Answer::Rows(Rows::new(rt.alloc()))),
-        Line::Refused(number) => (number, Answer::Refused { region, epoch }),
-        Line::Doubt(number) => (number, Answer::Doubt { region, epoch }),
-    };
+fn ended(number: u32, answer: Answer) -> Note {
     Note::Ended {
         number,
-        version,
+        version: Version(1),
         answer,
+    }
+}
+
+fn note<R: Abort + AllocGlobal>(rt: &R, line: Line) -> Note {
+    let (region, epoch) = (RegionId(0), Epoch(1));
+    match line {
+        Line::Begin(number) => Note::Began { number },
+        Line::Put(number, key, version, color, size) => {
+            let object = object(rt, color, size);
+            assigned(rt, number, key, version, Answer::Done, Some(object))
+        }
+        Line::Del(number, key, version) => {
+            assigned(rt, number, key, version, Answer::Done, None)
+        }
+        Line::Nothing(number, key) => assigned(rt, number, key, 1, Answer::NotFound, None),
+        Line::Done(number) => ended(number, Answer::Done),
+        Line::NotFound(number) => ended(number, Answer::NotFound),
+        Line::Found(number, color, size) => ended(number, Answer::Found(object(rt, color, size))),
+        Line::Rows(number) => ended(number, Answer::Rows(Rows::new(rt.alloc()))),
+        Line::Refused(number) => ended(number, Answer::Refused { region, epoch }),
+        Line::Doubt(number) => ended(number, Answer::Doubt { region, epoch }),
     }
 }
 
@@ -99,14 +99,18 @@ fn trace<R: Abort + AllocGlobal>(rt: &R, lines: &[Line]) -> Trace {
     trace
 }
 
-/// Whether the trace of these lines, of a session with these calls, is summed up so.
-fn is_summed_up<R: Abort + AllocGlobal>(rt: &R, calls: &str, lines: &[Line], wanted: &str) -> bool {
+/// The script of a session with these calls.
+fn soak<R: Abort + AllocGlobal>(rt: &R, calls: &str) -> Script {
     let text = format!(in rt.alloc();
         "hx 1\nspace soak\nkey k 4\nstring color\nint size 0 999\nservers 4\ntolerate 1\nsession 1\n{calls}"
     );
     let text = text.expect(rt, "memory");
-    let script = script_of(rt, text.as_str());
-    drop(text);
+    script_of(rt, text.as_str())
+}
+
+/// Whether the trace of these lines, of a session with these calls, is summed up so.
+fn is_summed_up<R: Abort + AllocGlobal>(rt: &R, calls: &str, lines: &[Line], wanted: &str) -> bool {
+    let script = soak(rt, calls);
     let trace = trace(rt, lines);
     let bytes = summary(rt.alloc(), &script, &trace);
     drop(trace);

@@ -101,9 +101,7 @@ fn words<R: Abort + AllocGlobal>(rt: &R, line: &str) -> Vec<String> {
     let mut words = Vec::new(rt.alloc());
     for word in line.split_whitespace() {
         let word = String::from_str(rt.alloc(), word).expect(rt, "memory");
-        let Ok(()) = words.push(word) else {
-            panic!(rt; "memory");
-        };
+        words.push(word).expect(rt, "memory");
     }
     words
 }
@@ -149,24 +147,31 @@ fn differ(places: [usize; 5]) -> bool {
     (0..5).all(|place| places.contains(&place))
 }
 
+/// Words, and what they ask for.
+const NAMES: [(&str, Option<Request>); 11] = [
+    (
+        "replay",
+        Some(Request::Command(Command::Replay { with_trace: false })),
+    ),
+    (
+        "replay --trace",
+        Some(Request::Command(Command::Replay { with_trace: true })),
+    ),
+    ("plan", Some(Request::Command(Command::Plan))),
+    ("audit", Some(Request::Audit)),
+    ("--help", Some(Request::Question(Question::Help))),
+    ("--version", Some(Request::Question(Question::Version))),
+    ("", None),
+    ("plan plan", None),
+    ("audit --trace", None),
+    ("--help --version", None),
+    ("replay replay", None),
+];
+
 #[test]
 fn a_name_alone_is_a_request(rt: HostRuntime) {
-    let replay = Command::Replay { with_trace: false };
-    let traced = Command::Replay { with_trace: true };
-    assert!(rt; request(&rt, "replay") == Some(Request::Command(replay)));
-    assert!(rt; request(&rt, "replay --trace") == Some(Request::Command(traced)));
-    assert!(rt; request(&rt, "plan") == Some(Request::Command(Command::Plan)));
-    assert!(rt; request(&rt, "audit") == Some(Request::Audit));
-    assert!(rt; request(&rt, "--help") == Some(Request::Question(Question::Help)));
-    assert!(rt; request(&rt, "--version") == Some(Request::Question(Question::Version)));
-    for line in [
-        "",
-        "plan plan",
-        "audit --trace",
-        "--help --version",
-        "replay replay",
-    ] {
-        assert!(rt; request(&rt, line) == None, "{line}");
+    for (line, wanted) in NAMES.iter() {
+        assert!(rt; request(&rt, line) == *wanted, "{line}");
     }
 }
 
@@ -185,75 +190,109 @@ fn options_stand_in_any_order_and_each_once(rt: HostRuntime) {
     }
 }
 
+const DEFAULT: Run = Run {
+    workers: 2,
+    lose: 0,
+    repeat: 0,
+    seed: None,
+    with_trace: false,
+};
+
+/// Words, and the run that they ask for.
+const RUNS: [(&str, Run); 4] = [
+    ("run", DEFAULT),
+    (
+        "run --workers 16",
+        Run {
+            workers: 16,
+            ..DEFAULT
+        },
+    ),
+    (
+        "run --lose 1000000 --trace --repeat 0",
+        Run {
+            lose: 1_000_000,
+            with_trace: true,
+            ..DEFAULT
+        },
+    ),
+    (
+        "run --seed 0",
+        Run {
+            seed: Some(0),
+            ..DEFAULT
+        },
+    ),
+];
+
 #[test]
 fn what_is_left_out_has_its_default(rt: HostRuntime) {
-    let default = Run {
-        workers: 2,
-        lose: 0,
-        repeat: 0,
-        seed: None,
-        with_trace: false,
-    };
-    assert!(rt; run(&rt, "run") == Some(default));
-    let workers = Run {
-        workers: 16,
-        ..default
-    };
-    assert!(rt; run(&rt, "run --workers 16") == Some(workers));
-    let traced = Run {
-        lose: 1_000_000,
-        with_trace: true,
-        ..default
-    };
-    assert!(rt; run(&rt, "run --lose 1000000 --trace --repeat 0") == Some(traced));
-    let drawn = Run {
-        seed: Some(0),
-        ..default
-    };
-    assert!(rt; run(&rt, "run --seed 0") == Some(drawn));
+    for (line, wanted) in RUNS.iter() {
+        assert!(rt; run(&rt, line) == Some(*wanted), "{line}");
+    }
 }
 
 #[test]
 fn other_words_are_no_run(rt: HostRuntime) {
-    for line in NO_RUNS {
+    for line in NO_RUNS.iter() {
         assert!(rt; run(&rt, line) == None, "{line}");
     }
 }
 
-#[test]
-fn a_soak_has_a_seed_and_calls(rt: HostRuntime) {
-    let least = Soak {
-        seed: 0,
-        calls: 1,
-        workers: 2,
-    };
-    assert!(rt; soak(&rt, "soak 0 1") == Some(least));
-    let most = Soak {
-        seed: u64::MAX,
-        calls: 16_384,
-        workers: 1,
-    };
-    let line = "soak 18446744073709551615 16384 --workers 1";
-    assert!(rt; soak(&rt, line) == Some(most));
-}
+/// Words, and the soak that they ask for.
+const SOAKS: [(&str, Soak); 2] = [
+    (
+        "soak 0 1",
+        Soak {
+            seed: 0,
+            calls: 1,
+            workers: 2,
+        },
+    ),
+    (
+        "soak 18446744073709551615 16384 --workers 1",
+        Soak {
+            seed: u64::MAX,
+            calls: 16_384,
+            workers: 1,
+        },
+    ),
+];
 
 #[test]
-fn other_words_are_no_soak(rt: HostRuntime) {
-    for line in NO_SOAKS {
-        assert!(rt; soak(&rt, line) == None, "{line}");
+fn a_soak_has_a_seed_and_calls(rt: HostRuntime) {
+    for (line, wanted) in SOAKS.iter() {
+        assert!(rt; soak(&rt, line) == Some(*wanted), "{line}");
     }
 }
 
 #[test]
+fn other_words_are_no_soak(rt: HostRuntime) {
+    for line in NO_SOAKS.iter() {
+        assert!(rt; soak(&rt, line) == None, "{line}");
+    }
+}
+
+/// Words, and how many workers share.
+const SHARES: [(&str, u32); 3] = [
+    ("share", 2),
+    ("share --workers 1", 1),
+    ("share --workers 16", 16),
+];
+
+#[test]
 fn a_share_has_workers(rt: HostRuntime) {
-    assert!(rt; share(&rt, "share") == Some(Share { workers: 2 }));
-    assert!(rt; share(&rt, "share --workers 1") == Some(Share { workers: 1 }));
-    assert!(rt; share(&rt, "share --workers 16") == Some(Share { workers: 16 }));
+    for (line, workers) in SHARES.iter() {
+        assert!(rt;
+            share(&rt, line) == Some(Share { workers: *workers }),
+            "{line}"
+        );
+    }
 }
 
 #[test]
 fn other_words_are_no_share(rt: HostRuntime) {
-    for line in NO_SHARES {
+    for line in NO_SHARES.iter() {
         assert!(rt; share(&rt, line) == None, "{line}");
     }
 }
