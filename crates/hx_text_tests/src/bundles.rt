@@ -1,7 +1,7 @@
 ghost use Rattle.std.specs.Prelude.{IfOk};
 ghost use Rattle.hx_bundle.specs.Bundles.{IsBundle};
 
-use crate::parts::is_printed;
+use crate::parts::{fault, is_printed};
 use hx_bundle::Bundle;
 use hx_print::print_bundle;
 use hx_script::{Reason, ScriptError, bundles_are_valid, is_of_version_2, read_bundle};
@@ -125,11 +125,7 @@ fn refusal<R: Abort + AllocGlobal>(rt: &R, head: &str, lines: &str) -> Option<(u
     let text = format!(in rt.alloc(); "{head}{lines}").expect(rt, "memory");
     let refused = read_bundle(rt.alloc(), text.as_bytes()).err();
     drop(text);
-    match refused {
-        None => None,
-        Some(ScriptError::Refused { line, reason }) => Some((line, reason)),
-        Some(_) => panic!(rt; "memory"),
-    }
+    fault(rt, refused)
 }
 
 /// Asserts that the lines of each row are refused so behind a head.
@@ -142,12 +138,23 @@ fn assert_refused<R: Abort + AllocGlobal>(rt: &R, head: &str, rows: &[Row]) {
     }
 }
 
+/// Each head, and the lines that are refused behind it.
+const REFUSED: [(&str, &[Row]); 4] = [
+    ("", &HEADS),
+    (EIGHT, &NINTH),
+    (TWO, &SECTIONS),
+    (STEPS, &NO_STEPS),
+];
+
 #[test]
 fn refuses_lines_of_several_spaces(rt: HostRuntime) {
-    assert_refused(&rt, "", &HEADS);
-    assert_refused(&rt, EIGHT, &NINTH);
-    assert_refused(&rt, TWO, &SECTIONS);
-    assert_refused(&rt, STEPS, &NO_STEPS);
+    for (head, rows) in REFUSED.iter() {
+        assert_refused(&rt, head, rows);
+    }
+}
+
+#[test]
+fn takes_lines_of_several_spaces(rt: HostRuntime) {
     for (head, lines) in TAKEN.iter() {
         assert!(rt; refusal(&rt, head, lines) == None, "{lines}");
     }
@@ -276,12 +283,19 @@ fn is_read(alloc: Global, text: &str, lines: &[u64], plain: &str) -> bool {
     is_printed(printed, plain) && are_there
 }
 
+/// Texts, the lines that their steps stand on, and how they are printed.
+const READ: [(&str, &[u64], &str); 4] = [
+    (WRITTEN, &[25, 27, 28], PLAIN),
+    (PLAIN, &[23, 24, 25], PLAIN),
+    (ONE, &[9], ONE_OF_SEVERAL),
+    (ONE_OF_SEVERAL, &[9], ONE_OF_SEVERAL),
+];
+
 #[test]
 fn reads_bundles_that_it_prints(rt: HostRuntime) {
-    assert!(rt; is_read(rt.alloc(), WRITTEN, &[25, 27, 28], PLAIN));
-    assert!(rt; is_read(rt.alloc(), PLAIN, &[23, 24, 25], PLAIN));
-    assert!(rt; is_read(rt.alloc(), ONE, &[9], ONE_OF_SEVERAL));
-    assert!(rt; is_read(rt.alloc(), ONE_OF_SEVERAL, &[9], ONE_OF_SEVERAL));
+    for (text, lines, plain) in READ.iter() {
+        assert!(rt; is_read(rt.alloc(), text, lines, plain), "{text}");
+    }
 }
 
 /// Whether the calls of a session, numbered from 0, are to these spaces in order.
@@ -300,9 +314,16 @@ fn has_turns(alloc: Global, text: &str, session: usize, wanted: &[u32]) -> bool 
     }
 }
 
+/// Texts, a session of each, and the spaces of its calls.
+const TURNS: [(&str, usize, &[u32]); 3] = [
+    (WRITTEN, 0, &[1, 0, 1, 0]),
+    (WRITTEN, 1, &[0, 0, 1, 1, 0]),
+    (ONE, 0, &[0]),
+];
+
 #[test]
 fn keeps_the_order_of_calls(rt: HostRuntime) {
-    assert!(rt; has_turns(rt.alloc(), WRITTEN, 0, &[1, 0, 1, 0]));
-    assert!(rt; has_turns(rt.alloc(), WRITTEN, 1, &[0, 0, 1, 1, 0]));
-    assert!(rt; has_turns(rt.alloc(), ONE, 0, &[0]));
+    for (text, session, turns) in TURNS.iter() {
+        assert!(rt; has_turns(rt.alloc(), text, *session, turns), "{text}");
+    }
 }

@@ -20,7 +20,9 @@ fn read_up_to<R: Abort + AllocGlobal>(
 fn reads_up_to_the_limit(rt: HostRuntime) {
     let text = b"fourteen bytes".as_slice();
     let read = read_up_to(&rt, text, 14);
-    assert!(rt; matches!(&read, Ok(bytes) if bytes.as_slice() == text));
+    let is_read = matches!(&read, Ok(bytes) if bytes.as_slice() == text);
+    drop(read);
+    assert!(rt; is_read);
     let longer = read_up_to(&rt, text, 13).err();
     assert!(rt; matches!(longer, Some(ReadError::TooLarge)));
 }

@@ -2,7 +2,7 @@
 ghost use Rattle.std.specs.Prelude.{◌≡◌, IfOk};
 ghost use Rattle.hx_types.specs.Spaces.{IsSpace};
 
-use hx_script::{ScriptError, read, scripts_are_valid};
+use hx_script::{Reason, ScriptError, read, scripts_are_valid};
 use hx_types::{Memory, Script, Sequence, SharedList, Text};
 use std::alloc::Global;
 use std::process::Abort;
@@ -48,6 +48,15 @@ pub fn script_of<R: Abort + AllocGlobal>(rt: &R, text: &str) -> Script
     ensures { IsSpace result.space }
 {
     read_script(rt.alloc(), text).expect(rt, "a script")
+}
+
+/// The line and the reason of a refusal. A want of memory ends the test.
+pub fn fault<R: Abort>(rt: &R, refused: Option<ScriptError>) -> Option<(u64, Reason)> {
+    match refused {
+        None => None,
+        Some(ScriptError::Refused { line, reason }) => Some((line, reason)),
+        Some(ScriptError::Memory) => panic!(rt; "memory"),
+    }
 }
 
 /// Whether the lines were printed, byte for byte.

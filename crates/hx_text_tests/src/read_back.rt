@@ -111,11 +111,18 @@ fn is_read(alloc: Global, text: &str, lines: &[u64], plain: &str) -> bool {
     is_printed(printed, plain) && are_there
 }
 
+/// Texts, the lines that their steps stand on, and how they are printed.
+const READ: [(&str, &[u64], &str); 3] = [
+    (WRITTEN, &[26, 28, 29, 30], PLAIN),
+    (PLAIN, &[24, 25, 26, 27], PLAIN),
+    (SESSIONS, &[20, 21, 22], SESSIONS),
+];
+
 #[test]
 fn reads_what_it_prints(rt: HostRuntime) {
-    assert!(rt; is_read(rt.alloc(), WRITTEN, &[26, 28, 29, 30], PLAIN));
-    assert!(rt; is_read(rt.alloc(), PLAIN, &[24, 25, 26, 27], PLAIN));
-    assert!(rt; is_read(rt.alloc(), SESSIONS, &[20, 21, 22], SESSIONS));
+    for (text, lines, plain) in READ.iter() {
+        assert!(rt; is_read(rt.alloc(), text, lines, plain), "{text}");
+    }
 }
 
 /// Calls of books, in no plain layout, and as they are printed.

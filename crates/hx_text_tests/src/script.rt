@@ -1,6 +1,6 @@
 ghost use Rattle.hx_types.specs.Spaces.{IsSpace};
 
-use crate::parts::script_of;
+use crate::parts::{fault, script_of};
 use hx_script::*;
 use hx_types::Space;
 use std::process::Abort;
@@ -201,11 +201,7 @@ fn refusal<R: Abort + AllocGlobal>(rt: &R, head: &str, lines: &str) -> Option<(u
     let text = format!(in rt.alloc(); "{head}{lines}").expect(rt, "memory");
     let refused = read(rt.alloc(), text.as_bytes()).err();
     drop(text);
-    match refused {
-        None => None,
-        Some(ScriptError::Refused { line, reason }) => Some((line, reason)),
-        Some(_) => panic!(rt; "memory"),
-    }
+    fault(rt, refused)
 }
 
 /// Asserts that the lines of each row are refused so behind a head.
@@ -218,20 +214,27 @@ fn assert_refused<R: Abort + AllocGlobal>(rt: &R, head: &str, rows: &[Row]) {
     }
 }
 
+/// Each head, and the lines that are refused behind it.
+const REFUSED: [(&str, &[Row]); 8] = [
+    ("", &HEADS),
+    (BOOKS, &ENDS),
+    (FIVE_NUMBERS, &SUBSPACES),
+    (ONE_TEXT, &DECLARED),
+    (CALLS, &NO_CALLS),
+    (CALLS, &NO_EDITS),
+    (CALLS, &NO_TOKENS),
+    (STEPS, &NO_STEPS),
+];
+
 #[test]
-fn refuses_lines_of_the_head(rt: HostRuntime) {
-    assert_refused(&rt, "", &HEADS);
-    assert_refused(&rt, BOOKS, &ENDS);
-    assert_refused(&rt, FIVE_NUMBERS, &SUBSPACES);
-    assert_refused(&rt, ONE_TEXT, &DECLARED);
+fn refuses_lines(rt: HostRuntime) {
+    for (head, rows) in REFUSED.iter() {
+        assert_refused(&rt, head, rows);
+    }
 }
 
 #[test]
-fn refuses_calls_and_steps(rt: HostRuntime) {
-    assert_refused(&rt, CALLS, &NO_CALLS);
-    assert_refused(&rt, CALLS, &NO_EDITS);
-    assert_refused(&rt, CALLS, &NO_TOKENS);
-    assert_refused(&rt, STEPS, &NO_STEPS);
+fn takes_lines(rt: HostRuntime) {
     for (head, line) in TAKEN.iter() {
         assert!(rt; refusal(&rt, head, line) == None, "{line}");
     }
@@ -269,11 +272,7 @@ const NO_LONE_CALLS: [(&str, Reason); 15] = [
 fn lone_refusal<R: Abort + AllocGlobal>(rt: &R, space: &Space, line: &str) -> Option<(u64, Reason)>
     requires { IsSpace space.now }
 {
-    match read_op(rt.alloc(), space, line.as_bytes()).err() {
-        None => None,
-        Some(ScriptError::Refused { line, reason }) => Some((line, reason)),
-        Some(_) => panic!(rt; "memory"),
-    }
+    fault(rt, read_op(rt.alloc(), space, line.as_bytes()).err())
 }
 
 /// Asserts that none of the lines is a call of the space.
