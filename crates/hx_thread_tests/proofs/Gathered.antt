@@ -17,7 +17,7 @@ use Rattle.hx_gather.specs.declared.gathering.SeatedPart.{SeatedPart}
 use Rattle.hx_gather.specs.Gathered.{parts_by}
 use Rattle.hx_types.specs.declared.ids.Actor.{Actor}
 use Rattle.hx_law_threads.specs.Merged.{ActorPart, AreOwnParts}
-use Rattle.hx_thread_tests.specs.Gathered.{answering, asking, ended, first_server, first_session, halting, one_get, turns, HasMade}
+use Rattle.hx_thread_tests.specs.Gathered.{answering, asking, ended, first_server, first_session, one_get, turns, HasMade}
 
 two_rise : (a b : ℕ) → a < b → IsStrictlyIncreasing (a ∷ b ∷ [])
 two_rise a b lt zero k = lt
@@ -31,11 +31,6 @@ turns_causal = record {
   differ = ((refl, (refl, (refl, tt))), ((refl, (refl, tt)), ((refl, tt), (tt, tt))));
   caused = (tt, (tt, (tt, (tt, tt))));
 }
-
--- the only entry of a seat is carried
-pub asked : (v : View) (k : ℕ) (x : Stamped) (id : PostId) → Owns v k (x ∷ []) → Posted x id halting → (x : Stamped) × Carries v x × Posted x id halting
-asked v k x id own made =
-    (x, (numbered k (x ∷ []), subst (IsIn (numbered k (x ∷ []))) (sym own) (inl refl), inl refl), made)
 
 abbrev actor_part : Actor → List Stamped → ActorPart
 actor_part actor part = record { actor = actor; part = part }

@@ -1,13 +1,10 @@
--- What the tests send: the coordinator asks server 1 of a small space to halt.
+-- What the tests send is for server 1 of a small space.
 use Rattle.std.specs.Prelude.{[], ◌∷◌}
 use Rattle.atomic_table.specs.Seated.{TableId}
 use Rattle.hx_types.specs.declared.ids.Actor.{Actor}
-use Rattle.hx_types.specs.declared.ids.Actor.TheVariants.{Coordinator, Server}
-use Rattle.hx_types.specs.declared.messages.Message.TheVariants as a_message
-use Rattle.hx_types.specs.declared.messages.Post.{Post}
+use Rattle.hx_types.specs.declared.ids.Actor.TheVariants.{Server}
 use Rattle.hx_types.specs.declared.spaces.Space.{Space}
 use Rattle.hx_types.specs.declared.traces.Script.{Script}
-use Rattle.hx_types.specs.Words.{post}
 use Rattle.hx_mail.specs.declared.views.BoxNames.{BoxNames}
 
 -- a space of two regions on one server
@@ -20,9 +17,6 @@ no_calls = record { space = small; sessions = []; steps = [] }
 
 abbrev pub first_server : Actor
 first_server = Server (record { 0 = 1 })
-
-abbrev pub halting : Post
-halting = post Coordinator first_server a_message.Die
 
 -- the box of server 1
 abbrev pub of_first_server : TableId → BoxNames

@@ -1,6 +1,5 @@
 use hx_fate::*;
 use hx_types::{Actor, ServerId};
-use std::test::Fail;
 
 const SERVER: Actor = Actor::Server(ServerId(1));
 
@@ -36,32 +35,54 @@ fn tuning(lose_every: u32, repeat_every: u32) -> Tuning {
     }
 }
 
-#[test]
-fn the_third_is_lost_and_other_even_ones_repeated(rt: HostRuntime) -> Result<(), Fail> {
-    let mut fate = EveryNth::new();
-    fate.tune(tuning(3, 2));
-    assert!(rt; chooses(&mut fate, "DTLTDL"));
-    assert_eq!(rt; fate.state().chosen, 6);
-    assert_eq!(rt; fate.state().lost, 2);
-    assert_eq!(rt; fate.state().doubled, 2);
-    Ok(())
+/// Whether a fate chooses so from now on, where one of so many is lost and one of so many repeated.
+fn chooses_tuned<F: Fate>(
+    fate: &mut F,
+    lose_every: u32,
+    repeat_every: u32,
+    expected: &str,
+) -> bool {
+    fate.tune(tuning(lose_every, repeat_every));
+    chooses(fate, expected)
 }
 
 #[test]
-fn nothing_is_lost_before_a_fate_is_tuned(rt: HostRuntime) -> Result<(), Fail> {
+fn the_third_is_lost_and_other_even_ones_repeated(rt: HostRuntime) {
+    let mut fate = EveryNth::new();
+    assert!(rt; chooses_tuned(&mut fate, 3, 2, "DTLTDL"));
+    let state = FateState {
+        tuning: tuning(3, 2),
+        chosen: 6,
+        lost: 2,
+        doubled: 2,
+    };
+    assert!(rt; fate.state() == state);
+}
+
+#[test]
+fn nothing_is_lost_before_a_fate_is_tuned(rt: HostRuntime) {
     assert!(rt; chooses(&mut EveryNth::new(), "DDD"));
     assert!(rt; chooses(&mut Drawn::new(7, 1), "DDD"));
-    let mut faithful = Faithful::new();
-    faithful.tune(tuning(1, 1));
-    assert!(rt; chooses(&mut faithful, "D"));
-    assert_eq!(rt; faithful.state().chosen, 1);
-    assert_eq!(rt; faithful.state().lost, 0);
-    assert!(rt; faithful.state().tuning == tuning(1, 1));
-    Ok(())
 }
 
-/// The seed, the driver, the tuning, and the first choices, as a program in Python drew them.
-const DRAWS: [(u64, u32, u32, u32, &str); 5] = [
+#[test]
+fn a_faithful_fate_loses_nothing(rt: HostRuntime) {
+    let mut fate = Faithful::new();
+    assert!(rt; chooses_tuned(&mut fate, 1, 1, "D"));
+    let state = FateState {
+        tuning: tuning(1, 1),
+        chosen: 1,
+        lost: 0,
+        doubled: 0,
+    };
+    assert!(rt; fate.state() == state);
+}
+
+/// The seed, the driver, the tuning, and the first choices.
+type Row = (u64, u32, u32, u32, &'static str);
+
+/// As a program in Python drew them.
+const DRAWS: [Row; 5] = [
     (7, 0, 3, 2, "LDTTDDDDDDDTDDDDTLTTTLTD"),
     (7, 1, 3, 2, "LLDLDLLDDDDDLLLDDTTTTDLD"),
     (7, 0, 3, 3, "LTDDDTDDDDDDDTTTDLDDDLTD"),
@@ -69,27 +90,21 @@ const DRAWS: [(u64, u32, u32, u32, &str); 5] = [
     (u64::MAX, 15, 3, 2, "DDDDDTDDDDDLTLLTDLDTTDLL"),
 ];
 
-#[test]
-fn draws_choose_what_is_lost_and_repeated(rt: HostRuntime) -> Result<(), Fail> {
-    for (seed, driver, lose, repeat, expected) in DRAWS.iter() {
-        let mut fate = Drawn::new(*seed, *driver);
-        fate.tune(tuning(*lose, *repeat));
-        assert!(rt;
-            chooses(&mut fate, expected),
-            "seed {seed}, driver {driver}"
-        );
-        assert_eq!(rt; fate.state().chosen, 24);
-    }
-    Ok(())
+/// Whether a fate draws the 24 choices of a row.
+fn draws((seed, driver, lose_every, repeat_every, expected): Row) -> bool {
+    let mut fate = Drawn::new(seed, driver);
+    chooses_tuned(&mut fate, lose_every, repeat_every, expected) && fate.state().chosen == 24
 }
 
 #[test]
-fn a_fate_draws_where_there_is_a_seed(rt: HostRuntime) -> Result<(), Fail> {
-    let mut counting = Losing::new(None, 1);
-    counting.tune(tuning(3, 2));
-    assert!(rt; chooses(&mut counting, "DTLTDL"));
-    let mut drawing = Losing::new(Some(7), 1);
-    drawing.tune(tuning(3, 2));
-    assert!(rt; chooses(&mut drawing, "LLDLDL"));
-    Ok(())
+fn draws_choose_what_is_lost_and_repeated(rt: HostRuntime) {
+    for (place, row) in DRAWS.iter().enumerate() {
+        assert!(rt; draws(*row), "at {place}");
+    }
+}
+
+#[test]
+fn a_fate_draws_where_there_is_a_seed(rt: HostRuntime) {
+    assert!(rt; chooses_tuned(&mut Losing::new(None, 1), 3, 2, "DTLTDL"));
+    assert!(rt; chooses_tuned(&mut Losing::new(Some(7), 1), 3, 2, "LLDLDL"));
 }

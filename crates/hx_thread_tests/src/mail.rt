@@ -1,76 +1,48 @@
-ghost use Rattle.std.specs.Prelude.{ℕ, ◌≡◌, ◌<◌, ◌++◌, ◌∷◌, [], IfOk, List, length};
+ghost use Rattle.std.specs.Prelude.{ℕ, ◌≡◌, ◌<◌, ◌++◌, ◌∷◌, [], List, length};
 ghost use Rattle.hx_clock.specs.declared.parts.Stamped.{Stamped};
 ghost use Rattle.hx_clock.specs.Views.{Owns};
 ghost use Rattle.hx_mail.specs.Boxes.{IsAddressed, IsPortOf};
 ghost use Rattle.hx_mail.specs.Ports.{CarriesName};
-ghost use Rattle.hx_thread_tests.specs.Mailed.{halting, of_first_server, small};
+ghost use Rattle.hx_thread_tests.specs.Mailed.{of_first_server, small};
 
-use crate::clocks::begun;
+use crate::clocks::{SERVER, ask, begun, halting};
 use hx_clock::{Clock, Seat};
 use hx_mail::{Envelope, Mailbox, Port};
-use hx_types::{
-    Actor, Attributes, Entry, Input, Memory, Message, Notes, Post, PostId, Posts, ServerId, Space,
-    Subspaces, Text,
-};
+use hx_types::{Attributes, Space, Subspaces, Text};
 use std::alloc::Global;
 use std::process::Abort;
 use std::sync::Wait;
-use std::test::Fail;
-
-pub const SERVER: Actor = Actor::Server(ServerId(1));
 
 /// A space of two regions on one server.
-pub fn space(alloc: Global) -> Result<Space, Memory>
-    ensures { IfOk result (λ space. space ≡ small) }
+pub fn space(rt: &impl Abort, alloc: Global) -> Space
+    ensures { result ≡ small }
 {
-    Ok(Space {
-        name: Text::from_str(alloc, "s")?,
-        key_name: Text::from_str(alloc, "k")?,
+    Space {
+        name: Text::from_str(alloc, "s").expect(rt, "memory"),
+        key_name: Text::from_str(alloc, "k").expect(rt, "memory"),
         key_parts: 2,
         attributes: Attributes::new(alloc),
         subspaces: Subspaces::new(alloc),
         servers: 1,
         tolerate: 0,
-    })
-}
-
-pub fn halting() -> Post
-    ensures { result ≡ halting }
-{
-    Post {
-        from: Actor::Coordinator,
-        to: SERVER,
-        message: Message::Die,
     }
 }
 
-/// The coordinator asks server 1 to halt.
-pub fn ask(alloc: Global, clock: &Clock, seat: &mut Seat) -> Result<Envelope, Memory>
+/// The coordinator's order to server 1 to halt, on its way.
+pub fn order(rt: &impl Abort, alloc: Global, clock: &Clock, seat: &mut Seat) -> Envelope
     requires clock { seat.old.clock ≡ clock.now }
     requires own { (k : ℕ) × (part : List Stamped) × Owns seat.old.view k part × (length part < 2) }
     ensures clock { seat.new.clock ≡ clock.now }
-    ensures own { IfOk result (λ _. (k : ℕ) (part : List Stamped) → Owns seat.old.view k part → (x : Stamped) × Owns seat.new.view k (part ++ x ∷ [])) }
-    ensures addressed { IfOk result (λ envelope. IsAddressed (of_first_server clock.now) envelope) }
+    ensures own { (k : ℕ) (part : List Stamped) → Owns seat.old.view k part → (x : Stamped) × Owns seat.new.view k (part ++ x ∷ []) }
+    ensures addressed { IsAddressed (of_first_server clock.now) result }
 {
-    let mut outputs = Posts::new(alloc);
-    outputs.push(halting())?;
-    let entry = Entry {
-        actor: Actor::Coordinator,
-        input: Input::Tick,
-        outputs,
-        notes: Notes::new(alloc),
-    };
-    let stamp = clock.act(seat, &entry);
-    let id = PostId {
-        entry: stamp.0 + 1,
-        place: 0,
-    };
+    let id = ask(rt, alloc, clock, seat);
     let pass = clock.tell(seat, id);
-    Ok(Envelope {
+    Envelope {
         id,
         post: halting(),
         pass,
-    })
+    }
 }
 
 /// Puts an envelope. The number of its entry comes back where the box is full.
@@ -114,12 +86,8 @@ fn put_two<R: Wait + Abort>(
     ensures port { IsPortOf mailbox.now port.new }
     ensures later { ¬ (CarriesName 0 port.old.view) → ¬ (CarriesName 0 port.new.view) }
 {
-    let Ok(first) = ask(alloc, clock, seat) else {
-        panic!(rt; "no memory");
-    };
-    let Ok(second) = ask(alloc, clock, seat) else {
-        panic!(rt; "no memory");
-    };
+    let first = order(rt, alloc, clock, seat);
+    let second = order(rt, alloc, clock, seat);
     let first = put(rt, mailbox, first, port);
     (first, put(rt, mailbox, second, port))
 }
@@ -151,15 +119,19 @@ fn used<R: Wait + Abort>(
     (before, back, (first, second))
 }
 
-#[test]
-fn a_box_of_one_place_is_empty_then_full(rt: HostRuntime) -> Result<(), Fail> {
-    let alloc: Global = rt.alloc();
-    let space = space(alloc)?;
-    let (mut clock, mut counting) = begun(&rt, alloc);
+/// The same of a box of its own clock.
+fn used_anew<R: Wait + Abort>(
+    rt: &R,
+    alloc: Global,
+) -> (Taken, (Option<u64>, Option<u64>), (Taken, Taken)) {
+    let space = space(rt, alloc);
+    let (mut clock, mut counting) = begun(rt, alloc);
     let (_, mut seat) = clock.enrol(&mut counting);
-    let (before, back, after) = used(&rt, alloc, &clock, &mut seat, &space);
-    assert!(rt; before.is_none());
-    assert_eq!(rt; back, (None, Some(2)));
-    assert_eq!(rt; after, (Some((1, 1)), None));
-    Ok(())
+    used(rt, alloc, &clock, &mut seat, &space)
+}
+
+#[test]
+fn a_box_of_one_place_is_empty_then_full(rt: HostRuntime) {
+    let told = used_anew(&rt, rt.alloc());
+    assert!(rt; told == (None, (None, Some(2)), (Some((1, 1)), None)));
 }

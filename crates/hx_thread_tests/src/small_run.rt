@@ -9,20 +9,17 @@ ghost use Rattle.hx_clock.specs.Views.{Knows, Owns};
 ghost use Rattle.hx_thread_tests.specs.Gathered.{answering, asking, call_of_get, ended, first_server, first_session, no_object, one_get, HasMade};
 ghost use Rattle.hx_gather.specs.Gathered.{IsDrawn, IsSeated};
 
-use crate::clocks::begun;
-use crate::gather::is_of;
+use crate::clocks::{SERVER, begun, pair, single};
+use crate::gather::are_of;
 use hx_clock::{Clock, Part, Seat, Stamped};
 use hx_gather::{Gathered, SeatedPart, gather};
 use hx_trace::{InputRef, Trace};
 use hx_types::{
     Actor, Answer, Entry, Epoch, Input, Memory, Message, Note, Notes, Op, Post, PostId, Posts,
-    ServerId, SessionId, Shared, Text, Version,
+    SessionId, Shared, Text, Version,
 };
 use std::alloc::Global;
 use std::process::Abort;
-use std::test::Fail;
-
-const SERVER: Actor = Actor::Server(ServerId(1));
 
 const SESSION: Actor = Actor::Session(SessionId(1));
 
@@ -30,12 +27,8 @@ const SESSION: Actor = Actor::Session(SessionId(1));
 fn call(rt: &impl Abort, alloc: Global) -> Message
     ensures { result ≡ call_of_get }
 {
-    let Ok(key) = Text::from_str(alloc, "a") else {
-        panic!(rt; "no memory");
-    };
-    let Ok(op) = Shared::new(alloc, Op::Get { key }) else {
-        panic!(rt; "no memory");
-    };
+    let key = Text::from_str(alloc, "a").expect(rt, "memory");
+    let op = Shared::new(alloc, Op::Get { key }).expect(rt, "memory");
     Message::Call {
         epoch: Epoch(1),
         number: 1,
@@ -54,37 +47,20 @@ fn reply() -> Message
     }
 }
 
-/// The one post of an entry.
-fn post(rt: &impl Abort, alloc: Global, from: Actor, to: Actor, message: Message) -> Posts
-    ensures { result ≡ record { from = from; to = to; message = message } ∷ [] }
-{
-    let mut posts = Posts::new(alloc);
-    let Ok(()) = posts.push(Post { from, to, message }) else {
-        panic!(rt; "no memory");
-    };
-    posts
-}
-
-/// The one note of an entry.
-fn note(rt: &impl Abort, alloc: Global, note: Note) -> Notes
-    ensures { result ≡ note ∷ [] }
-{
-    let mut notes = Notes::new(alloc);
-    let Ok(()) = notes.push(note) else {
-        panic!(rt; "no memory");
-    };
-    notes
-}
-
 /// The session begins its call.
 fn asking(rt: &impl Abort, alloc: Global) -> Entry
     ensures { result ≡ asking }
 {
+    let call = Post {
+        from: SESSION,
+        to: SERVER,
+        message: call(rt, alloc),
+    };
     Entry {
         actor: SESSION,
         input: Input::Tick,
-        outputs: post(rt, alloc, SESSION, SERVER, call(rt, alloc)),
-        notes: note(rt, alloc, Note::Began { number: 1 }),
+        outputs: single(rt, alloc, call),
+        notes: single(rt, alloc, Note::Began { number: 1 }),
     }
 }
 
@@ -92,6 +68,11 @@ fn asking(rt: &impl Abort, alloc: Global) -> Entry
 fn answering(rt: &impl Abort, alloc: Global, id: PostId) -> Entry
     ensures { result ≡ answering id }
 {
+    let reply = Post {
+        from: SERVER,
+        to: SESSION,
+        message: reply(),
+    };
     Entry {
         actor: SERVER,
         input: Input::Deliver {
@@ -99,7 +80,7 @@ fn answering(rt: &impl Abort, alloc: Global, id: PostId) -> Entry
             from: SESSION,
             message: call(rt, alloc),
         },
-        outputs: post(rt, alloc, SERVER, SESSION, reply()),
+        outputs: single(rt, alloc, reply),
         notes: Notes::new(alloc),
     }
 }
@@ -121,7 +102,7 @@ fn ended(rt: &impl Abort, alloc: Global, id: PostId) -> Entry
             message: reply(),
         },
         outputs: Posts::new(alloc),
-        notes: note(rt, alloc, end),
+        notes: single(rt, alloc, end),
     }
 }
 
@@ -159,9 +140,8 @@ fn step(
     ensures made { HasMade entry actor.old actor.new result }
 {
     let stamp = clock.act(&mut actor.seat, &entry);
-    let Ok(()) = actor.part.push(alloc, Stamped { stamp, entry }) else {
-        panic!(rt; "no memory");
-    };
+    let pushed = actor.part.push(alloc, Stamped { stamp, entry });
+    pushed.expect(rt, "memory");
     PostId {
         entry: stamp.0 + 1,
         place: 0,
@@ -181,20 +161,6 @@ fn pass(clock: &Clock, from: &mut SeatedPart, to: &mut SeatedPart, id: PostId)
     clock.learn(&mut to.seat, told);
 }
 
-/// Both actors, the server first.
-fn both(rt: &impl Abort, alloc: Global, server: SeatedPart, session: SeatedPart) -> Vec<SeatedPart>
-    ensures { result.items ≡ server ∷ session ∷ [] }
-{
-    let mut actors = Vec::new(alloc);
-    let Ok(()) = actors.push(server) else {
-        panic!(rt; "no memory");
-    };
-    let Ok(()) = actors.push(session) else {
-        panic!(rt; "no memory");
-    };
-    actors
-}
-
 /// What a session and a server made on their own.
 fn small_run(rt: &impl Abort, alloc: Global) -> Result<Gathered, Memory>
     ensures run { IfOk result (λ made. IsRun one_get (reverse made.trace)) }
@@ -208,7 +174,7 @@ fn small_run(rt: &impl Abort, alloc: Global) -> Result<Gathered, Memory>
     let answered = step(rt, alloc, &clock, &mut server, answering(rt, alloc, sent));
     pass(&clock, &mut server, &mut session, answered);
     step(rt, alloc, &clock, &mut session, ended(rt, alloc, answered));
-    let actors = both(rt, alloc, server, session);
+    let actors = pair(rt, alloc, server, session);
     gather(alloc, clock, counting, actors)
 }
 
@@ -221,14 +187,11 @@ fn is_delivery(trace: &Trace, place: usize, name: PostId) -> bool {
 }
 
 #[test]
-fn two_actors_are_gathered_into_a_run(rt: HostRuntime) -> Result<(), Fail> {
-    let alloc: Global = rt.alloc();
-    let Gathered { trace, seat: _ } = small_run(&rt, alloc)?;
-    assert_eq!(rt; trace.len(), 3);
-    for place in 0..trace.len() {
-        assert!(rt; is_of(&trace, place, SERVER) == (place == 1), "at {place}");
-    }
-    assert!(rt; is_delivery(&trace, 1, PostId { entry: 1, place: 0 }));
-    assert!(rt; is_delivery(&trace, 2, PostId { entry: 2, place: 0 }));
-    Ok(())
+fn two_actors_are_gathered_into_a_run(rt: HostRuntime) {
+    let made = small_run(&rt, rt.alloc()).expect(&rt, "memory");
+    let trace = &made.trace;
+    assert!(rt; are_of(trace, &[SESSION, SERVER, SESSION]));
+    let first = is_delivery(trace, 1, PostId { entry: 1, place: 0 });
+    let second = is_delivery(trace, 2, PostId { entry: 2, place: 0 });
+    assert!(rt; first && second);
 }

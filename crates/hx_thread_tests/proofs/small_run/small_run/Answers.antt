@@ -40,9 +40,9 @@ gather-requires-clause-all g c =
     ((c.pass-2.ensures.numbers first.0).1 ((c.pass.ensures.numbers first.0).0
     (c.step-sent.ensures.seat.1 first.0 first.3))) in
     let own_server = (c.pass-2.ensures.numbers second.0).0 (c.step-answered.ensures.seat.1 second.0 ((c.pass.ensures.numbers second.0).1 second.3)) in
-    both_here c.both-actors.result.items server session c.enrolled-server.new.counting.view.count
+    both_here c.pair-actors.result.items server session c.enrolled-server.new.counting.view.count
     c.begun-clock.result.1.view.count c.enrolled-session.new.counting.view.count first.0 second.0
-    c.both-actors.ensures (ap (λ (v : View). v.count) c.begun-clock.ensures.seat) first.1 first.2 second.1 second.2 own_session own_server
+    c.pair-actors.ensures (ap (λ (v : View). v.count) c.begun-clock.ensures.seat) first.1 first.2 second.1 second.2 own_session own_server
 
 pub returns : goal.returns
 returns g c =
@@ -61,6 +61,6 @@ returns g c =
     ∙ ap (λ (e : Entry). stamped sent.0 _ ∷ stamped end.0 e ∷ []) c.ended.ensures in
     let server_actor = c.pass-2.ensures.from.0 ∙ c.step-answered.ensures.actor ∙ c.pass.ensures.to.0 ∙ c.enrolled-server.ensures.part.1 in
     let session_actor = c.step.ensures.actor ∙ c.pass-2.ensures.to.0 ∙ c.pass.ensures.from.0 ∙ c.step-sent.ensures.actor ∙ c.enrolled-session.ensures.part.1 in
-    let own = both_own c.both-actors.result.items server session sent.0 answered.0 end.0 c.step-sent.result
-    c.step-answered.result c.both-actors.ensures server_actor server_part session_actor session_part in
+    let own = both_own c.pair-actors.result.items server session sent.0 answered.0 end.0 c.step-sent.result
+    c.step-answered.result c.pair-actors.ensures server_actor server_part session_actor session_part in
     record { run = part_of_it c.gather.result _ _ (λ made h. h one_get own) c.gather.ensures.run; drawn = c.gather.ensures.drawn }
