@@ -6,10 +6,11 @@ ghost use Rattle.hx_model.specs.Slots.{latest_of, top_of};
 use crate::places;
 use crate::stuck_updates::{first_lost, stuck};
 use hx_region::RegionMap;
+use hx_rules::effect;
 use hx_slot::Slot;
 use hx_types::{
     Answer, Caller, Config, Decision, Effect, Exact, Memory, Op, Places, RegionId, Shared, Space,
-    Update, Version, effect,
+    Update, Version,
 };
 use std::alloc::Global;
 

@@ -11,7 +11,8 @@ use crate::hearing::hear;
 use crate::outputs::StepOutput;
 use crate::prepared::{Plan, put_config};
 use crate::turns::tick;
-use hx_types::{Actor, Config, Entry, Exact, Input, Memory, Shared, Space, first_shared_config};
+use hx_rules::first_shared_config;
+use hx_types::{Actor, Config, Entry, Exact, Input, Memory, Shared, Space};
 use std::alloc::Global;
 use std::marker::Model;
 

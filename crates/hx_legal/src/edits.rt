@@ -59,7 +59,7 @@ fn value_refusal(what: EditKind, old: &Value, by: &Value) -> Option<Refusal>
     }
 }
 
-#[tactic(auto, using(hx_types::proofs::Sums::added_fits, hx_types::proofs::Sums::added_overflows))]
+#[tactic(auto, using(hx_rules::proofs::Sums::added_fits, hx_rules::proofs::Sums::added_overflows))]
 fn sum_refusal(old: i64, by: i64) -> Option<Refusal>
     ensures { option_map answer_of result ≡ refused (added old by) }
 {

@@ -6,7 +6,8 @@ ghost use Rattle.hx_types.specs.Effects.{changed_to, defaults, deleted, edited, 
 
 use crate::edits::{first_refusal, is_edited, is_refusal};
 use crate::writes::{is_written, same_object};
-use hx_types::{Answer, Assign, Edit, Item, Object, Op, Same, Space, tests_hold};
+use hx_rules::tests_hold;
+use hx_types::{Answer, Assign, Edit, Item, Object, Op, Same, Space};
 
 /// Whether the item has the answer and the object of its operation's effect on the object before
 /// it.

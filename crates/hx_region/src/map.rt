@@ -7,7 +7,8 @@ ghost use Rattle.hx_types.specs.Subspaces.{axes_of, first_region, region_count, 
 
 use crate::meeting::{count_meeting, regions_from, rows_meeting};
 use crate::rows::{row, row_meets};
-use hx_types::{Axes, Axis, Exact, Memory, Object, RegionId, RegionList, Space, Terms, Text, size};
+use hx_rules::size;
+use hx_types::{Axes, Axis, Exact, Memory, Object, RegionId, RegionList, Space, Terms, Text};
 use std::alloc::Global;
 use std::marker::Model;
 

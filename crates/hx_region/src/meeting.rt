@@ -11,7 +11,8 @@ ghost use Rattle.hx_model.specs.Types.{Axis};
 use crate::cell;
 use crate::cells::CellRange;
 use crate::rows::{kind, number_cell};
-use hx_types::{Axis, Memory, RegionId, RegionList, Space, Term, size};
+use hx_rules::size;
+use hx_types::{Axis, Memory, RegionId, RegionList, Space, Term};
 use std::alloc::Global;
 
 /// How many rows of cells of these axes meet the terms: one step for each axis and term.

@@ -7,7 +7,8 @@ ghost use Rattle.hx_replay.specs.Plans.{bundle_plans_text, call_lines, plan_line
 use hx_bundle::Bundle;
 use hx_print::{put_bytes, put_call_name, put_number, put_numbers};
 use hx_region::RegionMap;
-use hx_types::{Calls, Config, Memory, Op, Planned, Script, first_config};
+use hx_rules::first_config;
+use hx_types::{Calls, Config, Memory, Op, Planned, Script};
 use std::alloc::Global;
 
 /// Appends the plan of each search of a script, in order. Each line begins with the label.

@@ -38,11 +38,11 @@ use crate::slot_steps::{call, offer, settle};
 use crate::ticking::{post_ready, post_tick};
 use hx_chain::{hears_snap, hears_update};
 use hx_region::RegionMap;
+use hx_rules::first_shared_config;
 use hx_slot::Slot;
 use hx_types::{
     Actor, Caller, Config, Entry, Epoch, Exact, Input, Memory, Message, Notes, Op, Post, Posts,
     RegionId, Rows, ServerId, Shared, Snapshot, Space, Terms, Text, Update, Updates, Version,
-    first_shared_config,
 };
 use std::alloc::Global;
 use std::marker::Model;

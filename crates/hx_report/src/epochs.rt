@@ -9,8 +9,9 @@ ghost use Rattle.hx_report.specs.Reporting.{entry_lines, epoch_line, epochs_text
 
 use crate::labels::put_labeled;
 use hx_print::{put_bytes, put_numbers};
+use hx_rules::first_config;
 use hx_trace::Trace;
-use hx_types::{Config, Memory, Note, Script, any_ready, first_config};
+use hx_types::{Config, Memory, Note, Script, any_ready};
 use std::alloc::Global;
 
 /// Whether the region has no ready member.

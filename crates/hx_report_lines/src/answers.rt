@@ -8,7 +8,8 @@ ghost use Rattle.hx_report_lines.specs.Readers.{Gives, Reads};
 use crate::cursor::Cursor;
 use crate::errors::Stop;
 use crate::values::{is, object};
-use hx_types::{Answer, Epoch, Object, RegionId, Rows, Space, Version, count_regions};
+use hx_rules::count_regions;
+use hx_types::{Answer, Epoch, Object, RegionId, Rows, Space, Version};
 use std::alloc::Global;
 
 /// The first word of an answer.

@@ -13,10 +13,10 @@ use crate::items::is_line;
 use crate::printing::{put_driver_line, put_epoch};
 use crate::values::is;
 use hx_print::{print_space, put_bytes};
+use hx_rules::count_regions;
 use hx_script::{ScriptError, read};
 use hx_types::{
-    Epoch, Exact, Memory, RegionId, RegionList, Sequence, ServerId, ServerList, Space, Text,
-    Totals, count_regions,
+    Epoch, Exact, Memory, RegionId, RegionList, Sequence, ServerId, ServerList, Space, Text, Totals,
 };
 use std::alloc::Global;
 use std::str;

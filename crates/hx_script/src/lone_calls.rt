@@ -9,7 +9,8 @@ use crate::keyword::{Keyword, keyword_of};
 use crate::line::{Line, tokens_in};
 use crate::ops::call;
 use crate::reading::at;
-use hx_types::{Op, Space, count_regions};
+use hx_rules::count_regions;
+use hx_types::{Op, Space};
 use std::alloc::Global;
 
 #[tactic(auto, unfolding(crate::specs::LoneCalls::lone_call))]

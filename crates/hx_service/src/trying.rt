@@ -6,8 +6,9 @@ ghost use Rattle.hx_service.specs.Trying.{Asks, Tries};
 use crate::errors::ServiceError;
 use crate::receipts::Receipt;
 use crate::services::Service;
+use hx_rules::fits;
 use hx_script::{Reason, ScriptError, read_op};
-use hx_types::{Actor, Op, Script, SessionId, fits};
+use hx_types::{Actor, Op, Script, SessionId};
 use std::alloc::Global;
 
 /// Why a call has no receipt, where the caller needs to know nothing: the first reason that holds.

@@ -23,9 +23,10 @@ use crate::prepared::{
 };
 use crate::sending::{Sender, send};
 use hx_region::RegionMap;
+use hx_rules::first_shared_config;
 use hx_types::{
     Actor, Answer, Calls, Config, Entry, Epoch, Exact, Input, Memory, Message, Note, Notes, Op,
-    Posts, RegionId, Rows, SessionId, Shared, Space, Version, first_shared_config,
+    Posts, RegionId, Rows, SessionId, Shared, Space, Version,
 };
 use std::alloc::Global;
 use std::marker::Model;

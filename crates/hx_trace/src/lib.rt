@@ -8,8 +8,8 @@
 //! memory that is touched for the first time is the dearest part of a run.
 //!
 //! No contract says that there is memory, so a function that always answered
-//! [`Memory`](hx_types::Memory) would be proved. The tests in `hx_value_tests` make traces and read
-//! them.
+//! [`Memory`](hx_types::Memory) would be proved. Runs of the program and the crates of tests make
+//! traces and read them.
 #![tactic(auto)]
 
 mod entries;

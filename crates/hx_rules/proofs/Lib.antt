@@ -1,0 +1,4 @@
+pub mod Differing
+pub mod Writing
+pub mod Sums
+pub mod Failing

@@ -1,5 +1,0 @@
-use Rattle.std.proofs.Common.{length}
-use Rattle.hx_types.proofs.fitting.+asked_once.Given as goal
-
-abbrev pub decreases-asked_once : goal.decreases-asked_once
-decreases-asked_once l = length l.terms.now

@@ -1,5 +1,0 @@
-use Rattle.std.proofs.Common.{length}
-use Rattle.hx_types.proofs.fitting.+assigned_once.Given as goal
-
-abbrev pub decreases-assigned_once : goal.decreases-assigned_once
-decreases-assigned_once l = length l.assigns.now

@@ -1,5 +1,0 @@
-use Rattle.std.proofs.Common.{length}
-use Rattle.hx_types.proofs.starting.+size.Given as goal
-
-abbrev pub decreases-size : goal.decreases-size
-decreases-size l = length l.axes.now
