@@ -6,7 +6,6 @@ pub use Rattle.hx_types.specs.declared.calls.Op.TheVariants.{Get, Put, Cput, Add
 pub use Rattle.hx_types.specs.declared.calls.Row.{Row}
 pub use Rattle.hx_types.specs.declared.configs.Config.{Config}
 pub use Rattle.hx_types.specs.declared.configs.Member.{Member}
-pub use Rattle.hx_types.specs.declared.edits.EditError.{EditError}
 pub use Rattle.hx_types.specs.declared.errors.Memory.{Memory}
 pub use Rattle.hx_types.specs.declared.histories.Item.{Item}
 pub use Rattle.hx_types.specs.declared.histories.Record.{Record}

@@ -1,6 +1,6 @@
 -- The rest of the axes are parts too, and no larger a subspace.
 use Rattle.std.proofs.Common.{arith}
-use Rattle.hx_types.proofs.Counting.{parts_of_rest, small_rest}
+use Rattle.hx_types.proofs.Lemmas.{parts_of_rest, small_rest}
 use Rattle.hx_rules.proofs.starting.+size.Goals as goal
 
 pub size-requires : goal.size-requires
