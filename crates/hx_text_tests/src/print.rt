@@ -1,170 +1,136 @@
-use crate::parts::{is_printed, list, shared_list, text};
-use hx_print::*;
-use hx_types::{
-    Actor, Assign, Attribute, Axis, Edit, EditKind, Kind, Op, PostId, Script, SessionId, Space,
-    Step, Term, Value,
-};
-use std::process::Abort;
+//! What was read is printed again.
+ghost use Rattle.std.specs.Prelude.{IfOk};
+ghost use Rattle.hx_bundle.specs.Bundles.{IsBundle};
 
-fn books<R: Abort + AllocGlobal>(rt: &R) -> Space {
-    let genre = Attribute {
-        name: text(rt, "genre"),
-        kind: Kind::Text,
-    };
-    let year = Attribute {
-        name: text(rt, "year"),
-        kind: Kind::Int { lo: 1900, hi: 2099 },
-    };
-    let by_genre = list(
-        rt,
-        [Axis {
-            attribute: 1,
-            parts: 4,
-        }],
-    );
-    let by_year = list(
-        rt,
-        [Axis {
-            attribute: 2,
-            parts: 2,
-        }],
-    );
-    Space {
-        name: text(rt, "books"),
-        key_name: text(rt, "name"),
-        key_parts: 2,
-        attributes: list(rt, [genre, year]),
-        subspaces: list(rt, [by_genre, by_year]),
-        servers: 4,
-        tolerate: 1,
-    }
-}
+use hx_bundle::Bundle;
+use hx_print::{print, print_bundle, print_op, print_text};
+use hx_report_lines::{print_report, read_report};
+use hx_script::{ScriptError, bundles_are_valid, read, read_bundle};
+use hx_types::{Caller, Memory, Script, SessionId, Text};
+use std::alloc::Global;
 
-fn put_book<R: Abort + AllocGlobal>(rt: &R) -> Op {
-    let genre = Assign {
-        attribute: 1,
-        value: Value::Text(text(rt, "b")),
-    };
-    let year = Assign {
-        attribute: 2,
-        value: Value::Int(1999),
-    };
-    Op::Put {
-        key: text(rt, "a"),
-        sets: shared_list(rt, [genre, year]),
-    }
-}
-
-/// An edit of each kind.
-fn edit_book<R: Abort + AllocGlobal>(rt: &R) -> Op {
-    let edits = [
-        Edit {
-            what: EditKind::Add,
-            attribute: 2,
-            value: Value::Int(-1),
-        },
-        Edit {
-            what: EditKind::Append,
-            attribute: 1,
-            value: Value::Text(text(rt, "b\n")),
-        },
-        Edit {
-            what: EditKind::Min,
-            attribute: 2,
-            value: Value::Int(5),
-        },
-        Edit {
-            what: EditKind::Max,
-            attribute: 2,
-            value: Value::Int(3),
-        },
-    ];
-    Op::Atomic {
-        key: text(rt, "a"),
-        edits: shared_list(rt, edits),
-    }
-}
-
-fn search_books<R: Abort + AllocGlobal>(rt: &R) -> Op {
-    let (attribute, lo, hi) = (2, 1990, 2010);
-    let terms = shared_list(rt, [Term::Range { attribute, lo, hi }]);
-    Op::Search { terms }
-}
-
-const EDITS: &str = "atomic \"a\" add year=-1 append genre=\"b\\n\" min year=5 max year=3";
+const PUT: &str = "put \"a\" genre=\"b\\n\" year=1999";
 
 const SCRIPT: &str = "hx 1\n\
     space books\n\
     key name 2\n\
     string genre\n\
     int year 1900 2099\n\
-    subspace genre 4\n\
-    subspace year 2\n\
+    subspace genre 4, year 2\n\
     servers 4\n\
     tolerate 1\n\
     session 1\n\
-    put \"a\" genre=\"b\" year=1999\n\
+    put \"a\" genre=\"b\\n\" year=1999\n\
+    session 2\n\
+    search name=\"a\" year=1990..2010\n\
     steps\n\
-    tick u1\n\
-    deliver 1.0\n";
+    tick u2\n\
+    deliver 1.0\n\
+    halt s4\n";
 
-/// A script of books with one call and two steps.
-fn script<R: Abort + AllocGlobal>(rt: &R) -> Script {
-    let tick = Step::Tick(Actor::Session(SessionId(1)));
-    let deliver = Step::Deliver(PostId { entry: 1, place: 0 });
-    let calls = list(rt, [put_book(rt)]);
-    Script {
-        space: books(rt),
-        sessions: list(rt, [calls]),
-        steps: list(rt, [(13, tick), (14, deliver)]),
+const BUNDLE: &str = "hx 2\n\
+    servers 2\n\
+    tolerate 1\n\
+    space books\n\
+    key name 2\n\
+    string genre\n\
+    subspace genre 4\n\
+    space put\n\
+    key name 1\n\
+    int name_too 0 9\n\
+    session 1\n\
+    put put \"a\" name_too=5\n\
+    get books \"a\"\n\
+    session 2\n\
+    stop books 2\n\
+    search put name_too=1..2\n\
+    steps\n\
+    deliver put 1.0\n\
+    tick books c\n\
+    halt put s2\n";
+
+/// A report with lines of each kind.
+const REPORT: &str = "report 1\n\
+    space books\n\
+    key name 2\n\
+    string genre\n\
+    servers 4\n\
+    tolerate 1\n\
+    call u1.1 begin 1 end 13 put \"a -> b\" genre=\"\\\"\\n\" -> done version 1\n\
+    call u1.2 begin 17 end 20 search -> rows 1\n\
+    row \"a -> b\" version 18446744073709551615 genre=\"\"\n\
+    call u2.1 begin 3 end - del \"a\" -> doubt region 1 epoch 2\n\
+    call u10.1 begin 2 end 4 stop 2 -> stopped epoch 1\n\
+    history \"\"\n\
+    item 1 u2.2 notfound absent\n\
+    history \"a -> b\"\n\
+    item 1 u1.1 done present genre=\"\\\"\\n\"\n\
+    epoch 1 servers 1,2,3,4 lost -\n\
+    epoch 4 servers - lost 1,0\n\
+    entry 1 u1 tick\n\
+    driver 2 posts 5 deliver 3 lose 2 twice 0\n\
+    end\n";
+
+/// Whether the text was printed, byte for byte.
+fn is_printed(printed: Result<Vec<u8>, Memory>, text: &str) -> bool {
+    match printed {
+        Ok(bytes) => bytes.as_slice() == text.as_bytes(),
+        Err(_) => false,
+    }
+}
+
+/// Whether the script is printed so, and its first call.
+fn is_script_printed(alloc: Global, script: &Script) -> bool {
+    let caller = Caller {
+        session: SessionId(1),
+        number: 1,
+    };
+    match script.call(caller) {
+        Some(op) => {
+            is_printed(print_op(alloc, &script.space, op), PUT)
+                && is_printed(print(alloc, script), SCRIPT)
+        }
+        None => false,
     }
 }
 
 #[test]
-fn prints_a_script(rt: HostRuntime) {
-    let script = script(&rt);
-    let printed = print(rt.alloc(), &script);
+fn prints_a_script_and_its_call(rt: HostRuntime) {
+    let script = read(rt.alloc(), SCRIPT.as_bytes()).expect(&rt, "a script");
+    let is_printed = is_script_printed(rt.alloc(), &script);
     drop(script);
-    assert!(rt; is_printed(printed, SCRIPT));
+    assert!(rt; is_printed);
 }
 
-const SPACE: &str = "space books\n\
-    key name 2\n\
-    string genre\n\
-    int year 1900 2099\n\
-    subspace genre 4\n\
-    subspace year 2\n\
-    servers 4\n\
-    tolerate 1\n";
-
-#[test]
-fn prints_a_space(rt: HostRuntime) {
-    let space = books(&rt);
-    let printed = print_space(rt.alloc(), &space);
-    drop(space);
-    assert!(rt; is_printed(printed, SPACE));
-}
-
-/// Asserts that a call of books is printed so.
-fn assert_printed<R: Abort + AllocGlobal>(rt: &R, op: Op, line: &str) {
-    let space = books(rt);
-    let printed = print_op(rt.alloc(), &space, &op);
-    drop(op);
-    drop(space);
-    assert!(rt; is_printed(printed, line));
+/// The bundle of a text.
+fn bundle_of(alloc: Global, text: &str) -> Result<Bundle, ScriptError>
+    ensures { IfOk result (λ bundle. IsBundle bundle) }
+{
+    bundles_are_valid();
+    let bundle = read_bundle(alloc, text.as_bytes())?;
+    Ok(bundle)
 }
 
 #[test]
-fn prints_calls(rt: HostRuntime) {
-    assert_printed(&rt, put_book(&rt), "put \"a\" genre=\"b\" year=1999");
-    assert_printed(&rt, edit_book(&rt), EDITS);
-    assert_printed(&rt, search_books(&rt), "search year=1990..2010");
+fn prints_a_script_of_several_spaces(rt: HostRuntime) {
+    let bundle = bundle_of(rt.alloc(), BUNDLE).expect(&rt, "a bundle");
+    let printed = print_bundle(rt.alloc(), &bundle);
+    drop(bundle);
+    assert!(rt; is_printed(printed, BUNDLE));
+}
+
+#[test]
+fn prints_a_report(rt: HostRuntime) {
+    let report = read_report(rt.alloc(), REPORT.as_bytes()).expect(&rt, "a report");
+    let printed = print_report(rt.alloc(), &report);
+    drop(report);
+    assert!(rt; is_printed(printed, REPORT));
 }
 
 #[test]
 fn prints_a_text(rt: HostRuntime) {
-    let word = text(&rt, "a\"b\\c\nd\te ß");
-    let printed = print_text(rt.alloc(), &word);
-    drop(word);
+    let text = Text::from_str(rt.alloc(), "a\"b\\c\nd\te ß").expect(&rt, "memory");
+    let printed = print_text(rt.alloc(), &text);
+    drop(text);
     assert!(rt; is_printed(printed, "\"a\\\"b\\\\c\\nd\\te ß\""));
 }
