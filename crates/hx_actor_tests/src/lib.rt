@@ -1,31 +1,10 @@
-//! Tests of slots, of the places and neighbours of their updates, of indexes and stores, of
-//! servers, of the coordinator and of sessions: a module for each crate that they are of.
+//! Tests of what the program doesn't call of slots and stores, and which takes memory: that it
+//! succeeds where there is some. All else of them and of the actors is shown by `cases/`.
 //!
-//! Chains are chain replication's, and regions by values HyperDex's; which cases are tried is this
-//! project's choice.
+//! Which cases are tried is this project's choice.
 #![tactic(auto)]
 
 #[cfg(test)]
-mod chain;
-#[cfg(test)]
-mod coord;
-#[cfg(test)]
-mod hearing;
-#[cfg(test)]
-mod index;
-#[cfg(test)]
-mod leader;
-#[cfg(test)]
-mod replica;
-#[cfg(test)]
-mod rows;
-#[cfg(test)]
-mod session;
-#[cfg(test)]
 mod slot;
 #[cfg(test)]
-mod spaces;
-#[cfg(test)]
 mod store;
-#[cfg(test)]
-mod updates;

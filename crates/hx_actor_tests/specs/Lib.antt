@@ -1,3 +1,0 @@
-pub mod SmallSpace
-pub mod Books
-pub mod Chained
