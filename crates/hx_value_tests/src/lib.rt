@@ -1,23 +1,16 @@
-//! Tests of values, histories, regions, matches and plans: a module for each crate that they are
-//! of.
+//! Tests of what the program doesn't reach: sizes, lists and traces, the histories of a trace, and
+//! of services a report and a group. All else of values, regions, plans, worlds and services is
+//! seen by the cases that the gate gives to the program.
 //!
-//! The hash is tested by published vectors of FNV-1a; all other cases are this project's choice.
+//! The form of the tests is this project's choice.
 #![tactic(auto)]
 
 #[cfg(test)]
-mod hash;
-#[cfg(test)]
 mod history;
-#[cfg(test)]
-mod legal;
 #[cfg(test)]
 mod parts;
 #[cfg(test)]
-mod plan;
-#[cfg(test)]
-mod query;
-#[cfg(test)]
-mod region;
+mod services;
 #[cfg(test)]
 mod trace;
 #[cfg(test)]

@@ -1,7 +1,7 @@
 //! What the tests are made of. A want of memory ends a test.
 ghost use Rattle.std.specs.Prelude.{◌≡◌};
 
-use hx_types::{Edit, EditKind, Edits, Sequence, SharedList, Text, Value};
+use hx_types::{Sequence, SharedList, Text};
 use std::process::Abort;
 
 pub fn text<R: Abort + AllocGlobal>(rt: &R, text: &str) -> Text
@@ -29,19 +29,4 @@ pub fn shared_list<R: Abort + AllocGlobal, T: Drop, const N: usize>(
 {
     let items = list(rt, items).into_vec();
     SharedList::from_vec(rt.alloc(), items).expect(rt, "memory")
-}
-
-/// Appends `c` to attribute 1 and adds to attribute 2.
-pub fn edits<R: Abort + AllocGlobal>(rt: &R, number: i64) -> Edits {
-    let longer = Edit {
-        what: EditKind::Append,
-        attribute: 1,
-        value: Value::Text(text(rt, "c")),
-    };
-    let more = Edit {
-        what: EditKind::Add,
-        attribute: 2,
-        value: Value::Int(number),
-    };
-    shared_list(rt, [longer, more])
 }
