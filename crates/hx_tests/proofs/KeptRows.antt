@@ -12,10 +12,10 @@ use Rattle.hx_model.specs.Slots.{KeyState, has_place, top_of}
 use Rattle.hx_model.proofs.Lemmas.{first_update, key_slot, other_slot, region, replica, second_update, server, the_key}
 use Rattle.hx_law_chains.specs.Chains.{AcknowledgedStands, EarlyStands, GoesOnInstalled, IsHeld, IsUp, StandsEarlier}
 use Rattle.hx_law_chains.proofs.Lemmas.{runs_keep_what_stands}
-use Rattle.hx_value_tests.proofs.OverlapRows.{is_blue, not_in_line, unassigned}
-use Rattle.hx_value_tests.proofs.OverlapRun.{its_script, script}
-use Rattle.hx_value_tests.proofs.SnapshotRun.{call_by, deliver}
-use Rattle.hx_value_tests.proofs.Stepped.{go_on, stepped_run}
+use Rattle.hx_tests.proofs.OverlapRows.{is_blue, not_in_line, unassigned}
+use Rattle.hx_tests.proofs.OverlapRun.{its_script, script}
+use Rattle.hx_tests.proofs.SnapshotRun.{call_by, deliver}
+use Rattle.hx_tests.proofs.Stepped.{go_on, stepped_run}
 
 -- red and blue are assigned, and blue comes to server 2 before red
 abbrev early_steps : List Step

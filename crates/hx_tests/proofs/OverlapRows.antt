@@ -15,8 +15,8 @@ use Rattle.hx_model.specs.Slots.{has_place, top_of}
 use Rattle.hx_model.proofs.Lemmas.{epoch, first_update, region, replica, second_update, server, shop, the_key, version}
 use Rattle.hx_law_chains.specs.Chains.{AckStands, HearsNeighbour, IsDropped, IsHeld, MayHave, MayHearAck, MayHearUpdate, StandsEarlier, UpdateStands}
 use Rattle.hx_law_chains.proofs.Lemmas.{runs_hear_neighbours, runs_posts_stand}
-use Rattle.hx_value_tests.proofs.OverlapRun.{ack, adopting, its_ack, its_last, its_leader, its_line, its_meeting, its_run, its_script, its_update}
-use Rattle.hx_value_tests.proofs.OverlapRun.{last_slot, leader_slot, meeting, newest, old, resent, resent_name, script, trace, update}
+use Rattle.hx_tests.proofs.OverlapRun.{ack, adopting, its_ack, its_last, its_leader, its_line, its_meeting, its_run, its_script, its_update}
+use Rattle.hx_tests.proofs.OverlapRun.{last_slot, leader_slot, meeting, newest, old, resent, resent_name, script, trace, update}
 
 -- ---- what the laws ask for
 

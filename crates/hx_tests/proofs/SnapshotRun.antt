@@ -22,7 +22,7 @@ use Rattle.hx_model.proofs.Lemmas.{put_color, ready, red, region, replica, row, 
 use Rattle.hx_model.proofs.Lemmas.{server, session, shop, the_key, touch, version}
 use Rattle.hx_law_lemmas.specs.Words.{posts_of}
 use Rattle.hx_law_lemmas.proofs.Lemmas.{arrived}
-use Rattle.hx_value_tests.proofs.Stepped.{go_on, stepped_run}
+use Rattle.hx_tests.proofs.Stepped.{go_on, stepped_run}
 
 -- two sessions put one color after another, and a third adds server 3 to the key's region
 abbrev pub script : Script

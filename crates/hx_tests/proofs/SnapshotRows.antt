@@ -16,9 +16,9 @@ use Rattle.hx_model.specs.Slots.{KeyState, has_place, top_of}
 use Rattle.hx_model.proofs.Lemmas.{caller, epoch, first_update, key_slot, put_color, red, region, replica, second_update, server, shop, the_key, version}
 use Rattle.hx_law_chains.specs.Chains.{InOrder, IsComing, IsHeld, IsUp, SnapStands, StandsEarlier}
 use Rattle.hx_law_chains.proofs.Lemmas.{runs_answer_committed, runs_keep_order, runs_posts_stand, runs_send_parts}
-use Rattle.hx_value_tests.proofs.SnapshotRun.{its_empty, its_line, its_newest, its_post, its_red_replica, its_reply}
-use Rattle.hx_value_tests.proofs.SnapshotRun.{its_run, its_script, its_sender, newest, pending, red_kept, red_slot}
-use Rattle.hx_value_tests.proofs.SnapshotRun.{script, sent_slot, snapshot, trace}
+use Rattle.hx_tests.proofs.SnapshotRun.{its_empty, its_line, its_newest, its_post, its_red_replica, its_reply}
+use Rattle.hx_tests.proofs.SnapshotRun.{its_run, its_script, its_sender, newest, pending, red_kept, red_slot}
+use Rattle.hx_tests.proofs.SnapshotRun.{script, sent_slot, snapshot, trace}
 
 none_is_some : {A : Type 0} (x : A) → None ≡ Some x → ⊥
 none_is_some x e = absurd (cc)

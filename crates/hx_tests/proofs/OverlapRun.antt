@@ -17,8 +17,8 @@ use Rattle.hx_model.proofs.Lemmas.{blue, configured, epoch, first_update, key_sl
 use Rattle.hx_model.proofs.Lemmas.{second_update, server, shop, the_key, version}
 use Rattle.hx_law_lemmas.specs.Words.{posts_of}
 use Rattle.hx_law_lemmas.proofs.Lemmas.{arrived}
-use Rattle.hx_value_tests.proofs.SnapshotRun.{call_by, colors_fit, deliver, its_space}
-use Rattle.hx_value_tests.proofs.Stepped.{go_on, stepped_run}
+use Rattle.hx_tests.proofs.SnapshotRun.{call_by, colors_fit, deliver, its_space}
+use Rattle.hx_tests.proofs.Stepped.{go_on, stepped_run}
 
 -- two sessions put one color after another, and a third stops server 2
 abbrev pub script : Script
