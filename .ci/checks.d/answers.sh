@@ -29,6 +29,7 @@ answered replay report replay
 answered trace report replay --trace
 answered plan plan plan
 answered share report share --workers 1
+answered run report run --workers 1
 for script in cases/part/*.hx; do
   lines=$(cat "${script%.hx}.lines") || complain "$script has no lines"
   [[ $(hx replay <"$script") == *"$lines"* ]] || complain "hx replay <$script doesn't write ${script%.hx}.lines"

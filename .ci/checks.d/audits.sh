@@ -20,7 +20,7 @@ judged() {
 judged audit
 judged audit_spaces
 
-for report in examples/*.report cases/{replay,trace,share}/*.report; do consistent "$report" <"$report"; done
+for report in examples/*.report cases/{replay,trace,share,run}/*.report; do consistent "$report" <"$report"; done
 for script in cases/part/*.hx; do consistent "the replay of $script" < <(hx replay <"$script"); done
 
 # Histories of another store, as its report has them.

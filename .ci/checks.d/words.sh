@@ -20,10 +20,6 @@ ends 3 'line 1: order' '' share --workers 16
 ends 3 'line 1: order' '' audit
 ends 3 'line 1: order' $'hx 1\n' audit
 ends 1 'line 14: legal' "$(cat cases/audit/another_object_found.report)"$'\n' audit
-# A session whose every message is lost asks again until it is worn.
-ends 7 'worn u1' $'hx 1\nspace one\nkey k 1\nstring v\nservers 1\ntolerate 0\nsession 1\nget "a"\n' run --workers 1 --lose 1
-# Each search of 256 regions takes 257 entries of its session.
-ends 7 'worn u1' "$(printf 'hx 1\nspace w\nkey k 256\nservers 1\ntolerate 0\nsession 1\n'; yes search | head -n 4081)"$'\n' replay
 
 # What is no command is refused by the program and by ./hx alike. A copy of ./hx alone has nothing
 # that it could build: so it is seen that for such words it doesn't try to, and that for right ones
@@ -105,10 +101,4 @@ told=$(hx audit 2>&1 <.)
 [ "$? $told" = '4 read fault' ] || complain "a fault of reading a report isn't told"
 told=$(hx audit <examples/first.report 2>&1 >/dev/full)
 [ "$? $told" = '5 write fault' ] || complain "a fault of writing an audit isn't told"
-# Each read and each write of them may fail.
-if command -v cc >/dev/null; then
-  told=$(bash bench/faults.sh 2>&1) || complain "a fault of reading or writing is not told: ${told%%$'\n'*}"
-else
-  printf 'skipped: no C compiler (bench/faults.sh)\n'
-fi
 exit "$failed"

@@ -1,14 +1,13 @@
 //! A service's report and a group: what is found is changed.
-ghost use Rattle.std.specs.Prelude.{◌≡◌, IfOk};
+ghost use Rattle.std.specs.Prelude.{◌≡◌};
 ghost use Rattle.hx_types.specs.declared.ids.Actor.TheVariants as an_actor;
-ghost use Rattle.hx_types.specs.Fitting.{IsScript};
 ghost use Rattle.hx_model.specs.Runs.{is_actor};
 
 use crate::parts::{shared_list, text};
-use hx_script::{ScriptError, read, scripts_are_valid};
+use crate::scripts::script_of;
+use hx_rules::fits;
 use hx_service::{Grouped, Service};
-use hx_types::{Assign, Assigns, Exact, Op, Script, SessionId, Term, Terms, Text, Value, fits};
-use std::alloc::Global;
+use hx_types::{Assign, Assigns, Exact, Op, Script, SessionId, Term, Terms, Text, Value};
 use std::process::Abort;
 
 /// One session without calls on a space of one server.
@@ -25,18 +24,9 @@ const CALLS: [&str; 4] = [
 const REPORT: &str =
     "report 1\nspace one\nkey k 1\nstring v\nservers 1\ntolerate 0\ncall u1.1 begin 1 end 3 put \"b\" v=\"x\" -> done version 1\ncall u1.2 begin 4 end 6 put \"a\" v=\"x\" -> done version 1\ncall u1.3 begin 7 end 9 get \"a\" -> found version 1 v=\"x\"\ncall u1.4 begin 10 end 12 search v=\"x\" -> rows 2\nrow \"a\" version 1 v=\"x\"\nrow \"b\" version 1 v=\"x\"\nhistory \"a\"\nitem 1 u1.2 done present v=\"x\"\nitem 1 u1.3 found present v=\"x\"\nhistory \"b\"\nitem 1 u1.1 done present v=\"x\"\nepoch 1 servers 1 lost -\nend\n";
 
-/// The script of a text.
-fn read_script(alloc: Global, text: &str) -> Result<Script, ScriptError>
-    ensures { IfOk result (λ script. IsScript script) }
-{
-    scripts_are_valid();
-    let script = read(alloc, text.as_bytes())?;
-    Ok(script)
-}
-
 /// A service of the space, at its start.
 fn started<R: Abort + AllocGlobal>(rt: &R) -> Service {
-    let script = read_script(rt.alloc(), SPACE).expect(rt, "a script");
+    let script = script_of(rt, SPACE);
     Service::start(rt.alloc(), &script).expect(rt, "memory")
 }
 

@@ -1,4 +1,0 @@
-pub mod Boxing
-pub mod Mailed
-pub mod Gathered
-pub mod Valid

@@ -1,2 +1,0 @@
-pub mod Mailed
-pub mod Gathered
