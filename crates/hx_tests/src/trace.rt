@@ -1,7 +1,8 @@
 use crate::parts::list;
+use hx_clock::{Part, Stamped};
 use hx_trace::Trace;
 use hx_types::{
-    Actor, Entry, Epoch, Input, Message, Notes, Post, PostId, Posts, ServerId, SessionId,
+    Actor, Entry, Epoch, Input, Message, Notes, Post, PostId, Posts, ServerId, SessionId, Stamp,
 };
 use std::process::Abort;
 
@@ -36,4 +37,17 @@ fn a_trace_keeps_an_entry(rt: HostRuntime) {
     let seen = (trace.len(), polled(&trace));
     drop(trace);
     assert_eq!(&rt; seen, (1, Some(7)));
+}
+
+/// An entry is put into a part with its stamp.
+#[test]
+fn a_part_takes_an_entry(rt: HostRuntime) {
+    let mut part = Part::new(rt.alloc());
+    let stamp = Stamp(5);
+    let entry = polling(&rt);
+    part.push(rt.alloc(), Stamped { stamp, entry })
+        .expect(&rt, "memory");
+    let seen = (part.len(), part.stamp(0).0);
+    drop(part);
+    assert_eq!(&rt; seen, (1, 5));
 }
