@@ -37,13 +37,16 @@ def read(path):
 
 
 def processes():
-    """Returns each process with its parent, its name, its start and its processor seconds."""
+    """Returns each process with its parent, its name, its start and its processor seconds.
+
+    These have the seconds of those that it started, once they have ended.
+    """
     found = {}
     for pid in filter(str.isdigit, os.listdir("/proc")):
         head, _, rest = read(f"/proc/{pid}/stat").rpartition(")")
         fields = rest.split()
         if len(fields) > 19:
-            seconds = (int(fields[11]) + int(fields[12])) / TICKS
+            seconds = sum(map(int, fields[11:15])) / TICKS
             found[int(pid)] = int(fields[1]), head.partition("(")[2], fields[19], seconds
     return found
 
@@ -55,16 +58,32 @@ def is_below(found, pid, top):
     return pid == top
 
 
-def kind_of(words):
-    """Returns a check's crate, what it checks, and the number of its edit, if it tries one."""
+def folder_of(pid):
+    """Returns the folder that a process works in, or nothing of one that has ended."""
+    try:
+        return os.path.basename(os.readlink(f"/proc/{pid}/cwd"))
+    except OSError:
+        return ""
+
+
+def kind_of(pid):
+    """Returns a check's crate, what it checks, and the number of its edit, if it tries one.
+
+    Of several edits of a crate each begins with what the first check of them kept, and has its
+    number there; an only one is tried from nothing.
+    """
+    words = read(f"/proc/{pid}/cmdline").replace("\0", " ")
     crate = re.search(r"--crate-name (\w+)", words)
     if not crate:
         return None
     if "--test" in words:
         return crate[1], "tests", None
+    if not folder_of(pid).startswith("rt-edit-"):
+        return crate[1], "proof", None
     edit = re.search(r"--incremental \S*rt-edits-\S*/(\w+)(?: |$)", words)
-    number = int(edit[1]) if edit and edit[1].isdigit() else None
-    return crate[1], "edits" if edit else "proof", number
+    if not edit:
+        return crate[1], "edits", 0
+    return crate[1], "edits", int(edit[1]) if edit[1].isdigit() else None
 
 
 def check_above(found, pid):
@@ -106,11 +125,10 @@ def sample(top, known, spent):
     """Notes what each check below the command has taken by now."""
     found = processes()
     for pid, (_, name, start, seconds) in found.items():
-        if name.startswith("rattle") and is_below(found, pid, top):
+        if name.startswith("rattle") and is_below(found, pid, top) and check_above(found, pid) == pid:
             check = pid, start
             if check not in known:
-                words = read(f"/proc/{check_above(found, pid)}/cmdline")
-                known[check] = kind_of(words.replace("\0", " "))
+                known[check] = kind_of(pid)
             if known[check]:
                 spent[check] = seconds
 
